@@ -1,40 +1,39 @@
--- An index made anew: of a list that covers a table the entries that name something are kept, sorted, and parted
--- from those that tie with one before them.
-use Rattle.std.proofs.Common.{◌≡◌, ℕ, Bool, true, false, cond, List, [], ◌∷◌, ◌++◌, Option, Some, None, refl, sym, ap, ◌∙◌, subst, arith, inl, inr, ◌⊎◌, Contains}
-use Rattle.std.specs.Prelude.{filter, IsPermutation, is_some, ◌==◌, if◌then◌else◌}
+-- Indexes made anew: entries of which each slot has one, sorted.
+use Rattle.std.proofs.Common.{◌≡◌, ℕ, ◌+◌, ◌<◌, suc, Bool, true, false, cond, List, [], ◌∷◌, Option, Some, None, refl, sym, ap, ◌∙◌, subst, arith, Contains, map}
+use Rattle.std.specs.Prelude.{IsPermutation, ◌==◌, if◌then◌else◌}
 use Rattle.std.specs.Option.{option_cmp, option_map}
-use Rattle.std.specs.List.{AllByRecursion, All, AllPass}
+use Rattle.std.specs.List.{AllByRecursion, AllPairs, IsDistinct}
+use Rattle.std.specs.List.Sorted.{IsSorted}
+use Rattle.std.specs.Cmp.{IsTotalOrder}
 use Rattle.std.proofs.lemmas.Bool.Decides.{nat_tests}
-use Rattle.std.proofs.lemmas.List.Elements.{All-contains, All-filter, filter_passes, All-from_recursion, recursion_from_All, Contains-append_cases}
+use Rattle.std.proofs.lemmas.List.Elements.{All-from_recursion, recursion_from_All, All-weaker, All-contains_itself}
 use Rattle.std.proofs.lemmas.List.Sorted.{Contains-permutation, All-permutation}
+use Rattle.std.proofs.lemmas.Map.Keys.{IsDistinct-IsPermutation}
 use Rattle.std.specs.declared.cmp.Ordering.{Ordering}
 use Rattle.std.specs.declared.cmp.Ordering.TheVariants.{Less, Equal, Greater}
-use Rattle.std.specs.Ordering.{nat_cmp, ordering_then}
+use Rattle.std.specs.Ordering.{is_lt, nat_cmp, ordering_reverse, ordering_then}
 use Rattle.std.specs.Cmp.Lexicographic.{slice_cmp}
 use Rattle.std.proofs.lemmas.Cmp.{ranked}
+use Rattle.slab.specs.Slab.{Slab, get, entries_from, entries as slots}
+use Rattle.slab.proofs.SlabLemmas.{Contains-entries}
 use Rattle.am_version_order.specs.Versions.{Version}
 use Rattle.am_merge.specs.Maps.{IsMap}
 use Rattle.am_merge.specs.Indexes.{filed, Names, IsIndex}
 use Rattle.am_merge.specs.Orders.{IsRisingBy, time_order, place_order}
-use Rattle.am_merge.specs.Listings.{Covers, HasOneOfEach}
+use Rattle.am_merge.specs.Listings.{AreApart}
 use Rattle.am_merge.specs.Entries.{expiry_slot, expiry_entry, with_slots, by_time, time_cmp}
 use Rattle.am_merge.specs.Buckets.{bucket_slot, number_of, bytes_cmp, bucket_cmp, by_bucket, bucket_entry}
-use Rattle.am_merge.specs.Stores.{IsExpiryIndex, IsBucketIndex}
+use Rattle.am_merge.specs.Stores.{IsKeyIndex, IsExpiryIndex, IsBucketIndex}
 use Rattle.am_merge.specs.declared.entry.ExpiryEntry.{ExpiryEntry}
 use Rattle.am_merge.specs.declared.entry.BucketEntry.{BucketEntry}
-use Rattle.am_merge.proofs.Keys.{IsKeyOrder, both_parts}
+use Rattle.am_merge.proofs.Keys.{IsKeyOrder}
 use Rattle.am_merge.proofs.Indexes as indexes
-use Rattle.am_merge.proofs.Indexes.{Contains-head, Contains-tail, Contains-cases, some_is}
-use Rattle.am_merge.proofs.Stores.{times, with_slots_is}
+use Rattle.am_merge.proofs.Indexes.{some_is}
+use Rattle.am_merge.proofs.Stores.{times, with_slots_is, some_with_slots, key_unique}
 use Rattle.am_merge.proofs.Buckets.{places, empty_number}
-
-filter_all : {T : Type 0} (p : T → Bool) (xs : List T) → AllByRecursion (λ x. p x ≡ true) xs → filter p xs ≡ xs
-filter_all p [] all = refl
-filter_all p (x ∷ xs) all = let here = all.0 in let rest = filter_all p xs all.1 in rw (here, rest) refl
-
--- what passes whole is kept whole
-pub filter_whole : {T : Type 0} (p : T → Bool) (xs : List T) → AllPass p xs → filter p xs ≡ xs
-filter_whole p xs all = filter_all p xs (recursion_from_All (λ x. p x ≡ true) xs all)
+use Rattle.am_merge.proofs.Listings.{apart-map, keys_versions, Contains-map}
+use Rattle.am_merge.proofs.Parts.{sorted_pairs}
+use Rattle.am_merge.proofs.Totals.{time_total, place_total}
 
 -- ---- the order of places
 then_apart : (a b c : Ordering) → ordering_then a (ordering_then b c) ≡ ordering_then (ordering_then a b) c
@@ -70,45 +69,19 @@ bytes_by b c false true Equal first second e =
 bytes_same : (b c : List ℕ) → ordering_then (nat_cmp (number_of b) (number_of c)) (option_cmp (slice_cmp nat_cmp) (if_some (number_of b == 0) b) (if_some (number_of c == 0) c)) ≡ bytes_cmp b c
 bytes_same b c = bytes_by b c (number_of b == 0) (number_of c == 0) (nat_cmp (number_of b) (number_of c)) refl refl refl
 
--- ---- a list that covers a table
-module _ {X : Type 0} where
-  first_kept : (b : Bool) (y x : X) (rest : List X) → b ≡ true → y ≡ x → Contains (cond b (y ∷ rest) rest) x
-  first_kept true y x rest passes is = subst (λ z. Contains (y ∷ rest) z) is (Contains-head y rest)
-  first_kept false y x rest passes is = cc
+-- the first of a list and those behind it, and these
+pairs_first : {T : Type 0} (R : T → T → Type 0) (x : T) (xs : List T) → AllPairs R (x ∷ xs) → AllByRecursion (R x) xs
+pairs_first R x xs pairs = recursion_from_All (R x) xs (λ k d within. pairs 0 (suc k) d (omega arith) (omega arith))
 
-  other_kept : (b : Bool) (y x : X) (rest : List X) → Contains rest x → Contains (cond b (y ∷ rest) rest) x
-  other_kept true y x rest inside = Contains-tail y x rest inside
-  other_kept false y x rest inside = inside
-
-  -- what passes the test is kept
-  pub Contains-filter : (test : X → Bool) (xs : List X) (x : X) → Contains xs x → test x ≡ true → Contains (filter test xs) x
-  Contains-filter test [] x inside passes = absurd (omega (arith, inside.1))
-  Contains-filter test (y ∷ ys) x inside passes = elim (Contains-cases y x ys inside) [
-    | inl is ↦ first_kept (test y) y x (filter test ys) (ap test is ∙ passes) is
-    | inr rest ↦ other_kept (test y) y x (filter test ys) (Contains-filter test ys x rest passes)
-  ]
-
--- what names something or an empty slot names something where there is something
-some_tested : {Y : Type 0} (o : Option Y) (P : Type 0) → is_some o ≡ true → (o ≡ None) ⊎ P → P
-some_tested o P there (inl none) = let test = ap is_some none in cc
-some_tested o P there (inr named) = named
+pairs_rest : {T : Type 0} (R : T → T → Type 0) (x : T) (xs : List T) → AllPairs R (x ∷ xs) → AllPairs R xs
+pairs_rest R x xs pairs i j d less within = pairs (suc i) (suc j) d (omega arith) (omega arith)
 
 module _ {E Y : Type 0} (slot_of : E → ℕ) (entry : ℕ → Y → E) (slot_entry : (s : ℕ) (y : Y) → slot_of (entry s y) ≡ s) (table : ℕ → Option Y) where
   abbrev Named : E → Type 0
   Named = Names slot_of entry table
 
-  abbrev there_at : E → Bool
-  there_at e = is_some (table (slot_of e))
-
-  -- the entries that name something are an index
-  index_kept : (es : List E) → Covers slot_of entry table es → IsIndex slot_of entry table (filter there_at es)
-  index_kept es covers =
-      let passed = filter_passes there_at es in
-      let sound = All-filter there_at (λ e. (table (slot_of e) ≡ None) ⊎ Named e) es covers.sound in
-      record {
-        sound = recursion_from_All Named (filter there_at es) (λ k d within. some_tested _ _ (passed k d within) (sound k d within));
-        complete = λ s y there. Contains-filter there_at es (entry s y) (covers.complete s y there) (ap (λ t. is_some (table t)) (slot_entry s y) ∙ ap is_some there);
-      }
+  flips : (e f : E) → (slot_of e == slot_of f) ≡ (slot_of f == slot_of e)
+  flips e f = grind (arith, nat_tests)
 
   -- an index is one in any order of its entries
   index_permuted : (es fs : List E) → IsPermutation es fs → IsIndex slot_of entry table es → IsIndex slot_of entry table fs
@@ -118,21 +91,11 @@ module _ {E Y : Type 0} (slot_of : E → ℕ) (entry : ℕ → Y → E) (slot_en
         complete = λ s y there. Contains-permutation es fs (entry s y) moved (index.complete s y there);
       }
 
-  -- an index without entries that it has twice
-  index_once : (firsts ties : List E) → All (Contains firsts) ties → IsIndex slot_of entry table (firsts ++ ties) → IsIndex slot_of entry table firsts
-  index_once firsts ties twice index =
-      record {
-        sound = (both_parts Named firsts ties index.sound).0;
-        complete = λ s y there. elim (Contains-append_cases firsts ties (entry s y) (index.complete s y there)) [
-          | inl first ↦ first
-          | inr tie ↦ All-contains (Contains firsts) ties (entry s y) twice tie
-        ];
-      }
-
   -- an order of the entries is that of the keys of what they name
   module _ {R : Type 0} (seen : Y → Version R) (cmp : R → R → Ordering) (keys : IsKeyOrder cmp) (order : E → E → Ordering)
       (agrees : (e f : E) (y z : Y) → table (slot_of e) ≡ Some y → table (slot_of f) ≡ Some z → e ≡ entry (slot_of e) y → f ≡ entry (slot_of f) z → order e f ≡ cmp (seen y).key (seen z).key)
-      (apart : (s t : ℕ) (y z : Y) → table s ≡ Some y → table t ≡ Some z → (seen y).key ≡ (seen z).key → s ≡ t) where
+      (apart : (s t : ℕ) (y z : Y) → table s ≡ Some y → table t ≡ Some z → (seen y).key ≡ (seen z).key → s ≡ t)
+      (total : IsTotalOrder order) where
     agrees_at : (e f : E) (one : Named e) (other : Named f) → order e f ≡ cmp (seen one.value).key (seen other.value).key
     agrees_at e f one other = agrees e f one.value other.value one.there other.there one.is other.is
 
@@ -157,21 +120,32 @@ module _ {E Y : Type 0} (slot_of : E → ℕ) (entry : ℕ → Y → E) (slot_en
         subst (IsMap seen cmp) (sym (indexes.listed-more slot_of entry slot_entry table e es sound.0.value sound.0.there))
         (above e sound.0 es sound.1 rising.0, map_rising es sound.1 rising.1)
 
-    -- of a list that covers the table: what is there, sorted, and parted from what ties
-    pub filed_anew : (list kept sorted firsts ties : List E) → Covers slot_of entry table list → kept ≡ filter there_at list → IsPermutation kept sorted
-        → IsPermutation sorted (firsts ++ ties) → IsRisingBy order firsts
-        → All (λ tie. (first : E) × Contains firsts first × (true ≡ true) × (order first tie ≡ Equal)) ties
-        → IsIndex slot_of entry table firsts × IsMap seen cmp (filed slot_of table firsts)
-    filed_anew list kept sorted firsts ties covers is moved parted rising tied =
-        let all : IsIndex slot_of entry table (firsts ++ ties) =
-        index_permuted sorted (firsts ++ ties) parted (index_permuted kept sorted moved (subst (IsIndex slot_of entry table) (sym is) (index_kept list covers))) in
-        let named = both_parts Named firsts ties all.sound in
-        let low = All-from_recursion Named firsts named.0 in
-        let high = All-from_recursion Named ties named.1 in
-        let index = index_once firsts ties (λ k d within.
-        let tie = tied k d within in
-        subst (Contains firsts) (tied_same tie.0 _ (All-contains Named firsts tie.0 low tie.1) (high k d within) tie.3) tie.1) all in
-        (index, map_rising firsts index.sound rising)
+    -- what doesn't come before another, and doesn't tie with it, is behind it
+    behind : (x y : E) (o : Ordering) → order x y ≡ o → is_lt (order y x) ≡ false → (order x y ≡ Equal → ⊥) → o ≡ Less
+    behind x y Less is not_before apart_here = refl
+    behind x y Equal is not_before apart_here = absurd (apart_here is)
+    behind x y Greater is not_before apart_here = let turned : order y x ≡ Less = total.antisymm y x ∙ ap ordering_reverse is in let test = ap is_lt (sym turned) ∙ not_before in cc
+
+    all_behind : (e : E) → Named e → (fs : List E) → AllByRecursion Named fs → AllByRecursion (λ f. (slot_of e == slot_of f) ≡ false) fs → AllByRecursion (λ f. is_lt (order f e) ≡ false) fs → AllByRecursion (λ f. order e f ≡ Less) fs
+    all_behind e named [] sound differ sorted = tt
+    all_behind e named (f ∷ fs) sound differ sorted =
+        let never : order e f ≡ Equal → ⊥ = λ tie. let same = ap slot_of (tied_same e f named sound.0 tie) in let test = differ.0 in grind (arith, nat_tests) in
+        (behind e f (order e f) refl sorted.0 never, all_behind e named fs sound.1 differ.1 sorted.1)
+
+    -- sorted entries of slots that are apart rise
+    rising_apart : (es : List E) → AllByRecursion Named es → AreApart slot_of es → AllPairs (λ one other. is_lt (order other one) ≡ false) es → IsRisingBy order es
+    unfolding IsDistinct
+    rising_apart [] sound differ pairs = tt
+    rising_apart (e ∷ es) sound differ pairs =
+        (all_behind e sound.0 es sound.1 differ.0 (pairs_first (λ one other. is_lt (order other one) ≡ false) e es pairs), rising_apart es sound.1 differ.1 (pairs_rest (λ one other. is_lt (order other one) ≡ false) e es pairs))
+
+    -- an index, sorted
+    pub filed_anew : (list sorted : List E) → IsIndex slot_of entry table list → AreApart slot_of list → IsPermutation list sorted → IsSorted order sorted
+        → IsIndex slot_of entry table sorted × IsMap seen cmp (filed slot_of table sorted)
+    filed_anew list sorted index differ moved in_order =
+        let anew = index_permuted list sorted moved index in
+        let rising = rising_apart sorted anew.sound (IsDistinct-IsPermutation _ flips list sorted moved differ) (sorted_pairs order total sorted in_order) in
+        (anew, map_rising sorted anew.sound rising)
 
 module _ {K X : Type 0} (seen : X → Version K) where
   -- ---- the index by expiry: its order is that of the moments, and those say the slots
@@ -186,13 +160,40 @@ module _ {K X : Type 0} (seen : X → Version K) where
   time_apart : (table : ℕ → Option X) (s t : ℕ) (y z : ℕ × X) → with_slots table s ≡ Some y → with_slots table t ≡ Some z → (by_time seen y).key ≡ (by_time seen z).key → s ≡ t
   time_apart table s t y z here there key = sym (with_slots_is table s y here).0 ∙ ap (λ (p : ℕ × ℕ). p.1) key ∙ (with_slots_is table t z there).0
 
-  pub expiries_filed : (table : ℕ → Option X) (list kept sorted firsts ties : List ExpiryEntry) → Covers expiry_slot (expiry_entry seen) (with_slots table) list
-      → kept ≡ filter (λ e. is_some (with_slots table (expiry_slot e))) list → IsPermutation kept sorted
-      → IsPermutation sorted (firsts ++ ties) → IsRisingBy time_order firsts
-      → All (λ tie. (first : ExpiryEntry) × Contains firsts first × (true ≡ true) × (time_order first tie ≡ Equal)) ties
-      → IsExpiryIndex seen table firsts
-  expiries_filed table list kept sorted firsts ties covers is moved parted rising tied =
-      let both = filed_anew expiry_slot (expiry_entry seen) (λ s y. refl) (with_slots table) (by_time seen) time_cmp times time_order (time_agrees table) (time_apart table) list kept sorted firsts ties covers is moved parted rising tied in
+  -- the entries of a table, slot by slot
+  abbrev timed : List (ℕ × X) → List ExpiryEntry
+  timed all = map (λ there. expiry_entry seen there.0 there) all
+
+  timed_sound : (table : ℕ → Option X) (all : List (ℕ × X)) → AllByRecursion (λ there. table there.0 ≡ Some there.1) all → AllByRecursion (Names expiry_slot (expiry_entry seen) (with_slots table)) (timed all)
+  timed_sound table [] sound = tt
+  timed_sound table (there ∷ all) sound = (record { value = there; there = some_with_slots table there.0 there.1 sound.0; is = refl }, timed_sound table all sound.1)
+
+  timed_above : (low s : ℕ) → s < low → (slots : List (Option X)) → AllByRecursion (λ e. (s == expiry_slot e) ≡ false) (timed (entries_from low slots))
+  timed_above low s below [] = tt
+  timed_above low s below (None ∷ rest) = timed_above (low + 1) s (omega arith) rest
+  timed_above low s below (Some v ∷ rest) = (grind (arith, nat_tests), timed_above (low + 1) s (omega arith) rest)
+
+  timed_apart : (low : ℕ) (slots : List (Option X)) → AreApart expiry_slot (timed (entries_from low slots))
+  unfolding IsDistinct
+  timed_apart low [] = tt
+  timed_apart low (None ∷ rest) = timed_apart (low + 1) rest
+  timed_apart low (Some v ∷ rest) = (timed_above (low + 1) low (omega arith) rest, timed_apart (low + 1) rest)
+
+  timed_index : (table : Slab X) → IsIndex expiry_slot (expiry_entry seen) (with_slots (get table)) (timed (slots table))
+  timed_index table =
+      record {
+        sound = timed_sound (get table) (slots table)
+            (recursion_from_All (λ there. get table there.0 ≡ Some there.1) (slots table)
+            (All-weaker (Contains (slots table)) (λ there. get table there.0 ≡ Some there.1) (λ there inside. (Contains-entries table there.0 there.1).0 inside) (slots table) (All-contains_itself (slots table))));
+        complete = λ s y found.
+            let (own, there) = with_slots_is (get table) s y found in
+            Contains-map (λ there. expiry_entry seen there.0 there) (slots table) (s, y.1) ((Contains-entries table s y.1).1 there);
+      }
+
+  pub expiries_filed : (table : Slab X) (list sorted : List ExpiryEntry) → list ≡ timed (slots table) → IsPermutation list sorted → IsSorted time_order sorted → IsExpiryIndex seen (get table) sorted
+  expiries_filed table list sorted made moved in_order =
+      let both = filed_anew expiry_slot (expiry_entry seen) (λ s y. refl) (with_slots (get table)) (by_time seen) time_cmp times time_order (time_agrees (get table)) (time_apart (get table)) time_total (timed (slots table)) sorted
+      (timed_index table) (timed_apart 0 table.slots) (subst (λ es. IsPermutation es sorted) made moved) in_order in
       record { index = both.0; order = both.1 }
 
   -- ---- the index by bucket
@@ -224,13 +225,10 @@ module _ {K X : Type 0} (seen : X → Version K) where
         (ordering_then (nat_cmp (head i) (top i)) (option_cmp cmp (option_map (λ x. (seen x).key) (here i)) (option_map (λ x. (seen x).key) (there i))))) in
         known ∙ then_apart numbers bytes ends ∙ (λ i. ordering_then (bytes_same (bucket_of v) (bucket_of w) i) (heads (seen v).key (seen w).key i))
 
-    pub buckets_filed : (list kept sorted firsts ties : List BucketEntry) → Covers bucket_slot own table list → HasOneOfEach seen table
-        → kept ≡ filter (λ e. is_some (table (bucket_slot e))) list → IsPermutation kept sorted
-        → IsPermutation sorted (firsts ++ ties) → IsRisingBy order firsts
-        → All (λ tie. (first : BucketEntry) × Contains firsts first × (true ≡ true) × (order first tie ≡ Equal)) ties
-        → IsBucketIndex seen head_of cmp bucket_of table firsts
-    buckets_filed list kept sorted firsts ties covers each is moved parted rising tied =
+    pub buckets_filed : (list sorted : List BucketEntry) → IsIndex bucket_slot own table list → IsKeyIndex seen head_of cmp table (map (λ e. e.key) list) → IsPermutation list sorted → IsSorted order sorted → IsBucketIndex seen head_of cmp bucket_of table sorted
+    buckets_filed list sorted index is moved in_order =
         let apart : (s t : ℕ) (v w : X) → table s ≡ Some v → table t ≡ Some w → (under v).key ≡ (under w).key → s ≡ t =
-        λ s t v w here there key. each s t v w here there (some_is (ap (λ (p : List ℕ × Option K). p.1) key)) in
-        let both = filed_anew bucket_slot own (λ s v. refl) table under (bucket_cmp cmp) (places cmp keys) order place_agrees apart list kept sorted firsts ties covers is moved parted rising tied in
+        λ s t v w here there key. key_unique seen head_of cmp keys table (map (λ e. e.key) list) s t v w is here there (some_is (ap (λ (p : List ℕ × Option K). p.1) key)) in
+        let differ = apart-map bucket_slot own (λ s v. refl) seen cmp keys table list index.sound (subst (IsMap seen cmp) (keys_versions table list) is.order) in
+        let both = filed_anew bucket_slot own (λ s v. refl) table under (bucket_cmp cmp) (places cmp keys) order place_agrees apart (place_total seen keys.total table bucket_of) list sorted index differ moved in_order in
         record { index = both.0; order = both.1 }

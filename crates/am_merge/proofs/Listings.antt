@@ -1,10 +1,11 @@
--- Listings when a version comes behind the others or goes.
-use Rattle.std.proofs.Common.{◌≡◌, ◌≢◌, ℕ, ◌+◌, false, List, [], ◌∷◌, ◌++◌, length, Option, Some, None, refl, sym, ap, ◌∙◌, subst, arith, inl, inr}
+-- Listings when a version comes behind the others or goes, and what they are made of.
+use Rattle.std.proofs.Common.{◌≡◌, ◌≢◌, ℕ, ◌+◌, false, List, [], ◌∷◌, ◌++◌, length, Option, Some, None, refl, sym, ap, ◌∙◌, subst, arith, inl, inr, map, filter_map}
 use Rattle.std.specs.Prelude.{slice_index_or, count_by, is_some, All, Contains}
-use Rattle.std.specs.List.{IsDistinct, AllByRecursion}
+use Rattle.std.specs.List.{IsDistinct, AllByRecursion, cons_option}
+use Rattle.std.specs.Option.{option_map}
 use Rattle.std.proofs.Math.Dec.{eqb}
 use Rattle.std.proofs.lemmas.Bool.{ne_eqb, eqb-false, cases_eq}
-use Rattle.std.proofs.lemmas.List.{length-append}
+use Rattle.std.proofs.lemmas.List.{length-append, length-map, get_or-map}
 use Rattle.std.proofs.lemmas.List.Elements.{All-contains, Contains-append_right}
 use Rattle.std.proofs.lemmas.Map.Keys.{IsDistinct-head, IsDistinct-tail}
 use Rattle.std.specs.declared.cmp.Ordering.{Ordering}
@@ -12,19 +13,19 @@ use Rattle.std.specs.declared.cmp.Ordering.TheVariants.{Less}
 use Rattle.std.proofs.lemmas.Cmp.{tied_itself}
 use Rattle.slab.specs.Slab.{Slab, get, slab_len, Updates}
 use Rattle.am_version_order.specs.Versions.{Version}
-use Rattle.am_merge.specs.Indexes.{Changes, IsIndex}
+use Rattle.am_merge.specs.Indexes.{Changes, Names, IsIndex, filed}
 use Rattle.am_merge.specs.Maps.{IsMap}
-use Rattle.am_merge.specs.Entries.{versions_of, key_slot, expiry_slot, key_entry, expiry_entry, with_slots}
-use Rattle.am_merge.specs.Buckets.{bucket_slot, bucket_entry}
+use Rattle.am_merge.specs.Entries.{versions_of, key_slot, key_entry}
+use Rattle.am_merge.specs.Buckets.{bucket_slot, bucket_entry, number_of}
 use Rattle.am_merge.specs.Rows.{entries}
-use Rattle.am_merge.specs.Stores.{HasSlot, IsStore}
-use Rattle.am_merge.specs.Listings.{AreApart, IsListing, versions_in}
+use Rattle.am_merge.specs.Stores.{HasSlot, IsStore, IsKeyIndex, versions}
+use Rattle.am_merge.specs.Listings.{AreApart, IsListing, versions_in, bucket_at}
 use Rattle.am_merge.specs.declared.entry.KeyEntry.{KeyEntry}
+use Rattle.am_merge.specs.declared.entry.BucketEntry.{BucketEntry}
 use Rattle.am_merge.specs.declared.bulk.Listing.{Listing}
 use Rattle.am_merge.specs.declared.store.Store.{Store}
 use Rattle.am_merge.proofs.Keys.{IsKeyOrder, all_joined, all_weaker}
-use Rattle.am_merge.proofs.Indexes.{Contains-head, Sound, listed, listed-more, listed-length, listed-put, index-put, vacant-apart, differs-apart}
-use Rattle.am_merge.proofs.Stores.{expiry_slot_entry, with_slots_changes, none_with_slots}
+use Rattle.am_merge.proofs.Indexes.{Contains-head, Contains-tail, Contains-cases, Sound, listed, listed-more, listed-length, listed-put, index-put, vacant-apart, differs-apart}
 use Rattle.am_merge.proofs.Steps.{end_insert}
 
 -- the table of the one slab is that of the other
@@ -77,95 +78,153 @@ module _ {E Y : Type 0} (slot_of : E → ℕ) (entry : ℕ → Y → E) (slot_en
         (all_weaker (λ x. slot_of x ≢ slot_of e) (λ x. eqb (slot_of e) (slot_of x) ≡ false) (λ x differs. ne_eqb (slot_of e) (slot_of x) (λ same. differs (sym same))) es others, apart-map es sound.1 parts.1)
 
 -- what an entry names goes, of entries that are apart
-module _ {X : Type 0} (old new : Slab X) (e : KeyEntry) (updates : Updates old new e.slot None) where
-  pub gone-more : (done : List KeyEntry) → AllByRecursion (λ d. get old d.slot ≡ None) done → AllByRecursion (λ d. get new d.slot ≡ None) (done ++ e ∷ [])
+module _ {X : Type 0} (old new : Slab X) (e : BucketEntry) (updates : Updates old new e.key.slot None) where
+  pub gone-more : (done : List BucketEntry) → AllByRecursion (λ d. get old d.key.slot ≡ None) done → AllByRecursion (λ d. get new d.key.slot ≡ None) (done ++ e ∷ [])
   gone-more done gone =
-      all_joined (λ d. get new d.slot ≡ None) done (e ∷ [])
-      (all_weaker (λ d. get old d.slot ≡ None) (λ d. get new d.slot ≡ None) (λ d none. elim (cases_eq d.slot e.slot) [
+      all_joined (λ d. get new d.key.slot ≡ None) done (e ∷ [])
+      (all_weaker (λ d. get old d.key.slot ≡ None) (λ d. get new d.key.slot ≡ None) (λ d none. elim (cases_eq d.key.slot e.key.slot) [
         | inl same ↦ ap (get new) same ∙ updates.changed
-        | inr differs ↦ updates.others d.slot differs ∙ none
+        | inr differs ↦ updates.others d.key.slot differs ∙ none
       ]) done gone)
       (updates.changed, tt)
 
-  there-apart : (rest : List KeyEntry) → AllByRecursion (λ f. eqb e.slot f.slot ≡ false) rest → AllByRecursion (λ f. HasSlot old f.slot) rest → AllByRecursion (λ f. HasSlot new f.slot) rest
+  there-apart : (rest : List BucketEntry) → AllByRecursion (λ f. eqb e.key.slot f.key.slot ≡ false) rest → AllByRecursion (λ f. HasSlot old f.key.slot) rest → AllByRecursion (λ f. HasSlot new f.key.slot) rest
   there-apart [] apart there = tt
   there-apart (f ∷ fs) apart there =
-      ((there.0.0, updates.others f.slot (λ same. eqb-false e.slot f.slot apart.0 (sym same)) ∙ there.0.1), there-apart fs apart.1 there.1)
+      ((there.0.0, updates.others f.key.slot (λ same. eqb-false e.key.slot f.key.slot apart.0 (sym same)) ∙ there.0.1), there-apart fs apart.1 there.1)
 
-  pub there-rest : (rest : List KeyEntry) → AreApart key_slot (e ∷ rest) → AllByRecursion (λ f. HasSlot old f.slot) rest → AllByRecursion (λ f. HasSlot new f.slot) rest
-  there-rest rest apart there = there-apart rest (IsDistinct-head (λ x y. eqb (key_slot x) (key_slot y)) e rest apart) there
+  pub there-rest : (rest : List BucketEntry) → AreApart bucket_slot (e ∷ rest) → AllByRecursion (λ f. HasSlot old f.key.slot) rest → AllByRecursion (λ f. HasSlot new f.key.slot) rest
+  there-rest rest apart there = there-apart rest (IsDistinct-head (λ x y. eqb (bucket_slot x) (bucket_slot y)) e rest apart) there
 
-  pub others-more : (done rest whole : List KeyEntry) → done ++ e ∷ rest ≡ whole → (slot : ℕ) → All (λ x. key_slot x ≢ slot) whole → get new slot ≡ get old slot
+  pub others-more : (done rest whole : List BucketEntry) → done ++ e ∷ rest ≡ whole → (slot : ℕ) → All (λ x. bucket_slot x ≢ slot) whole → get new slot ≡ get old slot
   others-more done rest whole is slot none =
       let inside : Contains whole e = subst (λ xs. Contains xs e) is (Contains-append_right done (e ∷ rest) e (Contains-head e rest)) in
-      updates.others slot (λ same. All-contains (λ x. key_slot x ≢ slot) whole e none inside (sym same))
+      updates.others slot (λ same. All-contains (λ x. bucket_slot x ≢ slot) whole e none inside (sym same))
 
-pub apart-rest : (e : KeyEntry) (rest : List KeyEntry) → AreApart key_slot (e ∷ rest) → AreApart key_slot rest
-apart-rest e rest apart = IsDistinct-tail (λ x y. eqb (key_slot x) (key_slot y)) e rest apart
+pub apart-rest : (e : BucketEntry) (rest : List BucketEntry) → AreApart bucket_slot (e ∷ rest) → AreApart bucket_slot rest
+apart-rest e rest apart = IsDistinct-tail (λ x y. eqb (bucket_slot x) (bucket_slot y)) e rest apart
 
-module _ {K X : Type 0} (seen : X → Version K) (head_of : K → ℕ) (bucket_of : X → List ℕ) where
-  abbrev Listed : Listing X → Type 0
-  Listed listing = IsListing seen head_of bucket_of listing
+-- ---- what a function gives of each item
+module _ {A B : Type 0} (f : A → Option B) where
+  also_there : (o : Option B) (y : B) (ys : List B) → Contains ys y → Contains (cons_option o ys) y
+  also_there None y ys inside = inside
+  also_there (Some z) y ys inside = Contains-tail z y ys inside
 
-  -- a listing with the same slots and the same lists
-  pub listing_moved : (old new : Listing X) → new.table.slots ≡ old.table.slots → new.keys.items ≡ old.keys.items → new.expiries.items ≡ old.expiries.items → new.buckets.items ≡ old.buckets.items → Listed old → Listed new
-  listing_moved old new slots keys expiries buckets is =
-      let table = table_is old.table new.table slots in
+  Contains-filter_map : (xs : List A) (x : A) (y : B) → Contains xs x → f x ≡ Some y → Contains (filter_map f xs) y
+  Contains-filter_map [] x y inside gives = absurd (omega (arith, inside.1))
+  Contains-filter_map (z ∷ zs) x y inside gives = elim (Contains-cases z x zs inside) [
+    | inl is ↦ subst (λ o. Contains (cons_option o (filter_map f zs)) y) (sym (ap f is ∙ gives)) (Contains-head y (filter_map f zs))
+    | inr rest ↦ also_there (f z) y (filter_map f zs) (Contains-filter_map zs x y rest gives)
+  ]
+
+pub Contains-map : {A B : Type 0} (f : A → B) (xs : List A) (x : A) → Contains xs x → Contains (map f xs) (f x)
+Contains-map f xs x inside = (inside.0, omega (arith, length-map xs f, inside.1), get_or-map f xs inside.0 x (f x) inside.1 ∙ ap f inside.2)
+
+-- ---- the keys of entries
+-- they name the same versions
+pub keys_versions : {X : Type 0} (table : ℕ → Option X) (es : List BucketEntry) → versions_of table (map (λ e. e.key) es) ≡ filed bucket_slot table es
+keys_versions table [] = refl
+keys_versions table (e ∷ es) = ap (cons_option (table e.key.slot)) (keys_versions table es)
+
+module _ {K X : Type 0} (seen : X → Version K) (head_of : K → ℕ) (bucket_of : X → List ℕ) (table : ℕ → Option X) where
+  abbrev OfKey : KeyEntry → Type 0
+  OfKey = Names key_slot (key_entry seen head_of) table
+
+  abbrev OfBucket : BucketEntry → Type 0
+  OfBucket = Names bucket_slot (bucket_entry seen bucket_of head_of) table
+
+  keys_sound : (es : List BucketEntry) → AllByRecursion OfBucket es → AllByRecursion OfKey (map (λ e. e.key) es)
+  keys_sound [] sound = tt
+  keys_sound (e ∷ es) sound = (record { value = sound.0.value; there = sound.0.there; is = ap (λ (x : BucketEntry). x.key) sound.0.is }, keys_sound es sound.1)
+
+  -- and are the index by key where their order is that of the keys
+  pub keys_index : (cmp : K → K → Ordering) (es : List BucketEntry) → IsIndex bucket_slot (bucket_entry seen bucket_of head_of) table es → IsMap seen cmp (filed bucket_slot table es) → IsKeyIndex seen head_of cmp table (map (λ e. e.key) es)
+  keys_index cmp es index order =
       record {
-        keys = subst (λ t. IsIndex key_slot (key_entry seen head_of) t new.keys.items) table (subst (IsIndex key_slot (key_entry seen head_of) (get old.table)) (sym keys) is.keys);
-        expiries = subst (λ t. IsIndex expiry_slot (expiry_entry seen) (with_slots t) new.expiries.items) table (subst (IsIndex expiry_slot (expiry_entry seen) (with_slots (get old.table))) (sym expiries) is.expiries);
-        buckets = subst (λ t. IsIndex bucket_slot (bucket_entry seen bucket_of head_of) t new.buckets.items) table (subst (IsIndex bucket_slot (bucket_entry seen bucket_of head_of) (get old.table)) (sym buckets) is.buckets);
-        apart = subst (AreApart key_slot) (sym keys) is.apart;
-        count = ap (count_by is_some) slots ∙ is.count ∙ ap length (sym keys);
+        index = record { sound = keys_sound es index.sound; complete = λ s v there. Contains-map (λ e. e.key) es (bucket_entry seen bucket_of head_of s v) (index.complete s v there) };
+        order = subst (IsMap seen cmp) (sym (keys_versions table es)) order;
       }
 
-  pub listing_count : (listing : Listing X) → Listed listing → slab_len listing.table ≡ length (versions_in listing)
-  listing_count listing is = is.count ∙ sym (listed-length key_slot (key_entry seen head_of) (λ s v. refl) (get listing.table) listing.keys.items is.keys.sound)
+  -- ---- entries that are made of those by key
+  made_more : (e : KeyEntry) (es : List KeyEntry) (own : OfKey e) → filter_map (bucket_at bucket_of table) (e ∷ es) ≡ bucket_entry seen bucket_of head_of e.slot own.value ∷ filter_map (bucket_at bucket_of table) es
+  made_more e es own =
+      ap (λ o. cons_option (option_map (λ v. record { number = number_of (bucket_of v); key = e }) o) (filter_map (bucket_at bucket_of table) es)) own.there
+      ∙ ap (λ k. record { number = number_of (bucket_of own.value); key = k } ∷ filter_map (bucket_at bucket_of table) es) own.is
 
-  pub versions_moved : (old new : Listing X) → new.table.slots ≡ old.table.slots → new.keys.items ≡ old.keys.items → versions_in new ≡ versions_in old
-  versions_moved old new slots keys =
+  made_sound : (es : List KeyEntry) → AllByRecursion OfKey es → AllByRecursion OfBucket (filter_map (bucket_at bucket_of table) es)
+  made_sound [] sound = tt
+  made_sound (e ∷ es) sound = subst (AllByRecursion OfBucket) (sym (made_more e es sound.0)) (record { value = sound.0.value; there = sound.0.there; is = refl }, made_sound es sound.1)
+
+  pub made_index : (es : List KeyEntry) → IsIndex key_slot (key_entry seen head_of) table es → IsIndex bucket_slot (bucket_entry seen bucket_of head_of) table (filter_map (bucket_at bucket_of table) es)
+  made_index es index =
+      record {
+        sound = made_sound es index.sound;
+        complete = λ s v there.
+            Contains-filter_map (bucket_at bucket_of table) es (key_entry seen head_of s v) (bucket_entry seen bucket_of head_of s v) (index.complete s v there)
+            (ap (option_map (λ w. record { number = number_of (bucket_of w); key = key_entry seen head_of s v })) there);
+      }
+
+  made_versions : (es : List KeyEntry) → AllByRecursion OfKey es → filed bucket_slot table (filter_map (bucket_at bucket_of table) es) ≡ versions_of table es
+  made_versions [] sound = refl
+  made_versions (e ∷ es) sound =
+      ap (filed bucket_slot table) (made_more e es sound.0)
+      ∙ ap (cons_option (table e.slot)) (made_versions es sound.1)
+
+module _ {K X : Type 0} (seen : X → Version K) (head_of : K → ℕ) (bucket_of : X → List ℕ) where
+  abbrev own : ℕ → X → BucketEntry
+  own = bucket_entry seen bucket_of head_of
+
+  -- a listing with the same slots and the same list
+  pub listing_moved : (old new : Listing X) → new.table.slots ≡ old.table.slots → new.entries.items ≡ old.entries.items → IsListing seen head_of bucket_of old → IsListing seen head_of bucket_of new
+  listing_moved old new slots same is =
+      record {
+        index = subst (λ t. IsIndex bucket_slot own t new.entries.items) (table_is old.table new.table slots) (subst (IsIndex bucket_slot own (get old.table)) (sym same) is.index);
+        apart = subst (AreApart bucket_slot) (sym same) is.apart;
+        count = ap (count_by is_some) slots ∙ is.count ∙ ap length (sym same);
+      }
+
+  pub listing_count : (listing : Listing X) → IsListing seen head_of bucket_of listing → slab_len listing.table ≡ length (versions_in listing)
+  listing_count listing is = is.count ∙ sym (listed-length bucket_slot own (λ s v. refl) (get listing.table) listing.entries.items is.index.sound)
+
+  pub versions_moved : (old new : Listing X) → new.table.slots ≡ old.table.slots → new.entries.items ≡ old.entries.items → versions_in new ≡ versions_in old
+  versions_moved old new slots same =
       let table = sym (table_is old.table new.table slots) in
-      λ i. versions_of (table i) (keys i)
+      λ i. filed bucket_slot (table i) (same i)
 
-  -- a version came into an empty slot, and its entries behind the others
-  module _ (old new : Listing X) (slot : ℕ) (v : X) (is : Listed old) (vacant : get old.table slot ≡ None) (changes : Changes (get old.table) (get new.table) slot (Some v)) (keys : new.keys.items ≡ old.keys.items ++ key_entry seen head_of slot v ∷ []) where
-    key_slots : (s : ℕ) (w : X) → key_slot (key_entry seen head_of s w) ≡ s
-    key_slots s w = refl
-
-    bucket_slots : (s : ℕ) (w : X) → bucket_slot (bucket_entry seen bucket_of head_of s w) ≡ s
-    bucket_slots s w = refl
-
+  -- a version came into an empty slot, and its entry behind the others
+  module _ (old new : Listing X) (slot : ℕ) (v : X) (is : IsListing seen head_of bucket_of old) (vacant : get old.table slot ≡ None) (changes : Changes (get old.table) (get new.table) slot (Some v)) (more : new.entries.items ≡ old.entries.items ++ own slot v ∷ []) where
     pub listing_versions : versions_in new ≡ versions_in old ++ v ∷ []
     listing_versions =
-        ap (versions_of (get new.table)) keys
-        ∙ listed-end key_slot (key_entry seen head_of) key_slots (get old.table) (get new.table) slot v changes vacant old.keys.items is.keys
+        ap (filed bucket_slot (get new.table)) more
+        ∙ listed-end bucket_slot own (λ s w. refl) (get old.table) (get new.table) slot v changes vacant old.entries.items is.index
 
-    pub listing_put : new.expiries.items ≡ old.expiries.items ++ expiry_entry seen slot (slot, v) ∷ [] → new.buckets.items ≡ old.buckets.items ++ bucket_entry seen bucket_of head_of slot v ∷ [] → slab_len new.table ≡ slab_len old.table + 1 → Listed new
-    listing_put expiries buckets len =
-        let long = length-append old.keys.items (key_entry seen head_of slot v ∷ []) in
-        let grown = ap length keys in
+    pub listing_put : slab_len new.table ≡ slab_len old.table + 1 → IsListing seen head_of bucket_of new
+    listing_put len =
+        let long = length-append old.entries.items (own slot v ∷ []) in
+        let grown = ap length more in
         let count = is.count in
         record {
-          keys = subst (IsIndex key_slot (key_entry seen head_of) (get new.table)) (sym keys)
-              (index-end key_slot (key_entry seen head_of) key_slots (get old.table) (get new.table) slot v changes vacant old.keys.items is.keys);
-          expiries = subst (IsIndex expiry_slot (expiry_entry seen) (with_slots (get new.table))) (sym expiries)
-              (index-end expiry_slot (expiry_entry seen) (expiry_slot_entry seen) (with_slots (get old.table)) (with_slots (get new.table)) slot (slot, v)
-              (with_slots_changes (get old.table) (get new.table) slot (Some v) changes) (none_with_slots (get old.table) slot vacant) old.expiries.items is.expiries);
-          buckets = subst (IsIndex bucket_slot (bucket_entry seen bucket_of head_of) (get new.table)) (sym buckets)
-              (index-end bucket_slot (bucket_entry seen bucket_of head_of) bucket_slots (get old.table) (get new.table) slot v changes vacant old.buckets.items is.buckets);
-          apart = subst (AreApart key_slot) (sym keys) (apart-put key_slot (key_entry seen head_of) key_slots (get old.table) (get new.table) slot v changes vacant old.keys.items is.keys is.apart);
+          index = subst (IsIndex bucket_slot own (get new.table)) (sym more)
+              (index-end bucket_slot own (λ s w. refl) (get old.table) (get new.table) slot v changes vacant old.entries.items is.index);
+          apart = subst (AreApart bucket_slot) (sym more) (apart-put bucket_slot own (λ s w. refl) (get old.table) (get new.table) slot v changes vacant old.entries.items is.index is.apart);
           count = omega arith;
         }
 
-  -- the table and the items of a store
-  pub listing_from : (cmp : K → K → Ordering) (keys : IsKeyOrder cmp) (store : Store X) (listing : Listing X) → listing.table ≡ store.table → listing.keys.items ≡ entries store.keys → listing.expiries.items ≡ entries store.expiries → listing.buckets.items ≡ entries store.buckets → IsStore seen head_of cmp bucket_of store → Listed listing
-  listing_from cmp keys store listing table key_items expiry_items bucket_items is =
-      let get_is : get store.table ≡ get listing.table = λ i. get (sym table i) in
-      record {
-        keys = subst (λ t. IsIndex key_slot (key_entry seen head_of) t listing.keys.items) get_is (subst (IsIndex key_slot (key_entry seen head_of) (get store.table)) (sym key_items) is.keys.index);
-        expiries = subst (λ t. IsIndex expiry_slot (expiry_entry seen) (with_slots t) listing.expiries.items) get_is (subst (IsIndex expiry_slot (expiry_entry seen) (with_slots (get store.table))) (sym expiry_items) is.expiries.index);
-        buckets = subst (λ t. IsIndex bucket_slot (bucket_entry seen bucket_of head_of) t listing.buckets.items) get_is (subst (IsIndex bucket_slot (bucket_entry seen bucket_of head_of) (get store.table)) (sym bucket_items) is.buckets.index);
-        apart = subst (AreApart key_slot) (sym key_items)
-            (apart-map key_slot (key_entry seen head_of) (λ s w. refl) seen cmp keys (get store.table) (entries store.keys) is.keys.index.sound is.keys.order);
-        count = ap slab_len table ∙ is.count ∙ ap length (sym key_items);
-      }
+  -- the table of a store, and its entries
+  module _ (cmp : K → K → Ordering) (keys : IsKeyOrder cmp) (store : Store X) (listing : Listing X) (table : listing.table ≡ store.table) (made : listing.entries.items ≡ filter_map (bucket_at bucket_of (get store.table)) (entries store.keys)) (is : IsStore seen head_of cmp bucket_of store) where
+    pub versions_from : versions_in listing ≡ versions store
+    versions_from = (λ i. filed bucket_slot (get (table i)) (made i)) ∙ made_versions seen head_of bucket_of (get store.table) (entries store.keys) is.keys.index.sound
+
+    pub listing_from : IsListing seen head_of bucket_of listing
+    listing_from =
+        let index = subst (λ t. IsIndex bucket_slot own t listing.entries.items) (λ i. get (sym table i)) (subst (IsIndex bucket_slot own (get store.table)) (sym made) (made_index seen head_of bucket_of (get store.table) (entries store.keys) is.keys.index)) in
+        let order = subst (IsMap seen cmp) (sym versions_from) is.keys.order in
+        record {
+          index = index;
+          apart = apart-map bucket_slot own (λ s w. refl) seen cmp keys (get listing.table) listing.entries.items index.sound order;
+          count =
+              ap slab_len table ∙ is.count
+              ∙ sym (listed-length key_slot (key_entry seen head_of) (λ s v. refl) (get store.table) (entries store.keys) is.keys.index.sound)
+              ∙ ap length (sym versions_from)
+              ∙ listed-length bucket_slot own (λ s v. refl) (get listing.table) listing.entries.items index.sound;
+        }

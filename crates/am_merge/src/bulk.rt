@@ -1,35 +1,32 @@
 //! Many versions at once: all go into a table, and each index is made anew.
 
-ghost use Rattle.std.specs.Prelude.{◌≡◌, ◌≢◌, ◌+◌, ◌++◌, ◌∷◌, [], ℕ, All, None, false, IsPermutation, IfOk, OnOk, OnErr, filter, is_some, length};
-ghost use Rattle.std.specs.List.{AllPass};
-ghost use Rattle.slab.specs.Slab.{get, slab_len};
+ghost use Rattle.std.specs.Prelude.{◌≡◌, ◌≢◌, ◌+◌, ◌++◌, ◌∷◌, [], ℕ, All, None, IsPermutation, IfOk, OnOk, OnErr, filter_map, length, map};
+ghost use Rattle.slab.specs.Slab.{get, slab_len, entries as slots};
 ghost use Rattle.am_merge.specs.Rows.{entries};
-ghost use Rattle.am_merge.specs.Indexes.{Names};
-ghost use Rattle.am_merge.specs.Entries.{key_slot, expiry_slot, key_entry, expiry_entry, versions_of, with_slots};
+ghost use Rattle.am_merge.specs.Indexes.{Names, IsIndex, filed};
+ghost use Rattle.am_merge.specs.Entries.{expiry_entry};
 ghost use Rattle.am_merge.specs.Buckets.{bucket_slot, bucket_entry};
 ghost use Rattle.am_merge.specs.Maps.{IsMap};
 ghost use Rattle.am_merge.specs.Views.{HoldsBest};
-ghost use Rattle.am_merge.specs.Stores.{versions, IsStore, IsExpiryIndex, IsBucketIndex, HasSlot};
-ghost use Rattle.am_merge.specs.Listings.{IsListing, AreApart, Covers, HasOneOfEach, IsBeatenBy, versions_in};
+ghost use Rattle.am_merge.specs.Stores.{versions, IsStore, IsKeyIndex, IsExpiryIndex, IsBucketIndex, HasSlot};
+ghost use Rattle.am_merge.specs.Listings.{IsListing, AreApart, IsBeatenBy, versions_in, bucket_at};
 
 use crate::blocks::{Blocks, Cursor};
-use crate::entry::{BucketEntry, ExpiryEntry, KeyEntry};
+use crate::entry::{BucketEntry, ExpiryEntry, KeyEntry, bucket_number};
 use crate::orders::{BestFirst, ByBucket, ByExpiry, ByHead, ByKey, ByNumber, Parted, part, sort};
 use crate::store::{Store, entry_of};
 use am_version_order::Version;
 use slab::Slab;
 use std::alloc::{AllocError, Global};
 
-/// A table of versions, and the entries of its indexes in any order. A key may have several versions.
+/// A table of versions, and their entries in any order. A key may have several versions.
 #[derive(Drop)]
 pub struct Listing<V> {
     pub table: Slab<V>,
-    pub keys: Vec<KeyEntry>,
-    pub expiries: Vec<ExpiryEntry>,
-    pub buckets: Vec<BucketEntry>,
+    pub entries: Vec<BucketEntry>,
 }
 
-/// What a store has, with room in the lists for more.
+/// What a store has, with room in the list for more.
 pub fn listing_of<V: Version>(
     store: Store<V>,
     more: usize,
@@ -42,31 +39,36 @@ pub fn listing_of<V: Version>(
     let Store {
         table,
         keys,
-        expiries,
-        buckets,
+        expiries: _,
+        buckets: _,
         last: _,
     } = store;
     let size = table.len().saturating_add(more);
     Ok(Listing {
-        keys: items_of(&keys, size, alloc)?,
-        expiries: items_of(&expiries, size, alloc)?,
-        buckets: items_of(&buckets, size, alloc)?,
+        entries: entries_of(&table, &keys, size, alloc)?,
         table,
     })
 }
 
-/// The items of a list in blocks, with room for so many.
-fn items_of<T: Copy>(blocks: &Blocks<T>, size: usize, alloc: Global) -> Result<Vec<T>, AllocError>
-    ensures { IfOk result (λ items. items.items ≡ entries blocks.now) }
+/// The entries of what a table has in the slots of keys, in the order of these, with room for so many.
+fn entries_of<V: Version>(
+    table: &Slab<V>,
+    keys: &Blocks<KeyEntry>,
+    size: usize,
+    alloc: Global,
+) -> Result<Vec<BucketEntry>, AllocError>
+    requires { All (λ e. HasSlot table.now e.slot) (entries keys.now) }
+    ensures { IfOk result (λ list. list.items ≡ filter_map (bucket_at V.bucket_of (get table.now)) (entries keys.now)) }
 {
-    let mut items = Vec::with_capacity(alloc, size)?;
-    for item in blocks.walk() {
-        items.push(item)?;
+    let mut list = Vec::with_capacity(alloc, size)?;
+    for key in keys.walk() {
+        let number = bucket_number(table[key.slot].bucket());
+        list.push(BucketEntry { number, key })?;
     }
-    Ok(items)
+    Ok(list)
 }
 
-/// Puts a version into the table, and its entries behind the others.
+/// Puts a version into the table, and its entry behind the others.
 ///
 /// # Errors
 ///
@@ -78,17 +80,8 @@ pub fn lay<V: Version>(listing: &mut Listing<V>, version: V) -> Result<(), Alloc
     ensures err { OnErr result (versions_in listing.new ≡ versions_in listing.old) }
 {
     listing.table.reserve(1)?;
-    listing.keys.reserve(1)?;
-    listing.expiries.reserve(1)?;
-    listing.buckets.reserve(1)?;
-    let slot = listing.table.vacant_key();
-    let entry = entry_of(&version, slot);
-    let expires = version.expires();
-    listing.keys.push_reserved(entry.key);
-    listing
-        .expiries
-        .push_reserved(ExpiryEntry { expires, slot });
-    listing.buckets.push_reserved(entry);
+    let entry = entry_of(&version, listing.table.vacant_key());
+    listing.entries.push(entry)?;
     listing.table.insert_reserved(version);
     Ok(())
 }
@@ -99,19 +92,13 @@ pub fn file<V: Version>(listing: Listing<V>, alloc: Global) -> Result<Store<V>, 
     ensures store { IfOk result (IsStore V.seen V.head_of V.Key.cmp V.bucket_of) }
     ensures best { IfOk result (λ store. HoldsBest V.seen (versions_in listing) (versions store)) }
 {
-    let Listing {
-        mut table,
-        keys,
-        expiries,
-        buckets,
-    } = listing;
-    let parted = best_first(&table, keys, alloc)?;
-    let any_gone = !parted.ties.is_empty();
+    let Listing { mut table, entries } = listing;
+    let parted = best_first(&table, entries, alloc)?;
     remove_all(&mut table, parted.ties);
     Ok(Store {
-        keys: Blocks::from_slice(alloc, parted.firsts.as_slice())?,
-        expiries: file_expiries(&table, expiries, any_gone, alloc)?,
-        buckets: file_buckets(&table, buckets, any_gone, alloc)?,
+        keys: file_keys(parted.firsts.as_slice(), alloc)?,
+        expiries: file_expiries(&table, alloc)?,
+        buckets: file_buckets(&table, parted.firsts, alloc)?,
         table,
         last: Cursor {
             block: 0,
@@ -123,93 +110,90 @@ pub fn file<V: Version>(listing: Listing<V>, alloc: Global) -> Result<Store<V>, 
 /// The greatest version of each key in the order of the keys, and the others.
 fn best_first<V: Version>(
     table: &Slab<V>,
-    mut keys: Vec<KeyEntry>,
+    mut entries: Vec<BucketEntry>,
     alloc: Global,
-) -> Result<Parted<KeyEntry>, AllocError>
-    requires { All (Names key_slot (key_entry V.seen V.head_of) (get table.now)) keys.items }
-    ensures all { IfOk result (λ parted. IsPermutation keys.items (parted.firsts.items ++ parted.ties.items)) }
-    ensures order { IfOk result (λ parted. IsMap V.seen V.Key.cmp (versions_of (get table.now) parted.firsts.items)) }
+) -> Result<Parted<BucketEntry>, AllocError>
+    requires { All (Names bucket_slot (bucket_entry V.seen V.bucket_of V.head_of) (get table.now)) entries.items }
+    ensures all { IfOk result (λ parted. IsPermutation entries.items (parted.firsts.items ++ parted.ties.items)) }
+    ensures order { IfOk result (λ parted. IsMap V.seen V.Key.cmp (filed bucket_slot (get table.now) parted.firsts.items)) }
     ensures beaten { IfOk result (λ parted. All (IsBeatenBy V.seen (get table.now) parted.firsts.items) parted.ties.items) }
 {
     // (numbers alone are sooner compared; behind that just those that tie by them are out of order)
-    sort(&mut keys, &ByHead)?;
+    sort(&mut entries, &ByHead)?;
     sort(
-        &mut keys,
+        &mut entries,
         &BestFirst {
             keys: ByKey { table },
         },
     )?;
-    part(keys, &ByKey { table }, alloc)
+    part(entries, &ByKey { table }, alloc)
 }
 
 /// Takes what is in the slots of entries out of a table.
-fn remove_all<V: Version>(table: &mut Slab<V>, gone: Vec<KeyEntry>)
-    requires there { All (λ e. HasSlot table.old e.slot) gone.items }
-    requires apart { AreApart key_slot gone.items }
-    ensures gone { All (λ e. get table.new e.slot ≡ None) gone.items }
-    ensures others { (slot : ℕ) → All (λ e. key_slot e ≢ slot) gone.items → get table.new slot ≡ get table.old slot }
+fn remove_all<V: Version>(table: &mut Slab<V>, gone: Vec<BucketEntry>)
+    requires there { All (λ e. HasSlot table.old e.key.slot) gone.items }
+    requires apart { AreApart bucket_slot gone.items }
+    ensures gone { All (λ e. get table.new e.key.slot ≡ None) gone.items }
+    ensures others { (slot : ℕ) → All (λ e. bucket_slot e ≢ slot) gone.items → get table.new slot ≡ get table.old slot }
     ensures len { slab_len table.new + length gone.items ≡ slab_len table.old }
 {
     for entry in gone {
-        table.remove(entry.slot);
+        table.remove(entry.key.slot);
     }
 }
 
-/// Keeps the entries of slots in which something is. Where nothing is gone it looks at none.
-fn keep_expiries<V: Version>(table: &Slab<V>, list: &mut Vec<ExpiryEntry>, any_gone: bool)
-    requires { any_gone ≡ false → AllPass (λ e. is_some (with_slots (get table.now) (expiry_slot e))) list.old.items }
-    ensures { list.new.items ≡ filter (λ e. is_some (with_slots (get table.now) (expiry_slot e))) list.old.items }
+/// The index by key that entries have in their order.
+fn file_keys(list: &[BucketEntry], alloc: Global) -> Result<Blocks<KeyEntry>, AllocError>
+    ensures { IfOk result (λ keys. entries keys ≡ map (λ e. e.key) list.now) }
 {
-    if any_gone {
-        list.retain(|entry| table.contains(entry.slot));
+    let mut keys = Vec::with_capacity(alloc, list.len())?;
+    for entry in list {
+        keys.push(entry.key)?;
     }
+    Blocks::from_slice(alloc, keys.as_slice())
 }
 
-/// Keeps the entries of slots in which something is. Where nothing is gone it looks at none.
-fn keep_buckets<V: Version>(table: &Slab<V>, list: &mut Vec<BucketEntry>, any_gone: bool)
-    requires { any_gone ≡ false → AllPass (λ e. is_some (get table.now (bucket_slot e))) list.old.items }
-    ensures { list.new.items ≡ filter (λ e. is_some (get table.now (bucket_slot e))) list.old.items }
-{
-    if any_gone {
-        list.retain(|entry| table.contains(entry.key.slot));
-    }
-}
-
-/// The index by expiry of a table, of a list that has its entries among others, or just these where nothing is gone.
+/// The index by expiry of a table.
 fn file_expiries<V: Version>(
     table: &Slab<V>,
-    mut list: Vec<ExpiryEntry>,
-    any_gone: bool,
     alloc: Global,
 ) -> Result<Blocks<ExpiryEntry>, AllocError>
-    requires list { Covers expiry_slot (expiry_entry V.seen) (with_slots (get table.now)) list.items }
-    requires whole { any_gone ≡ false → AllPass (λ e. is_some (with_slots (get table.now) (expiry_slot e))) list.items }
     ensures { IfOk result (λ expiries. IsExpiryIndex V.seen (get table.now) (entries expiries)) }
 {
-    keep_expiries(table, &mut list, any_gone);
+    let mut list = expiries_of(table, alloc)?;
     sort(&mut list, &ByExpiry)?;
-    let parted = part(list, &ByExpiry, alloc)?;
-    Blocks::from_slice(alloc, parted.firsts.as_slice())
+    Blocks::from_slice(alloc, list.as_slice())
 }
 
-/// The index by bucket of a table, of a list that has its entries among others, or just these where nothing is gone.
+/// The entries by expiry of a table, in the order of the slots.
+fn expiries_of<V: Version>(table: &Slab<V>, alloc: Global) -> Result<Vec<ExpiryEntry>, AllocError>
+    ensures { IfOk result (λ list. list.items ≡ map (λ there. expiry_entry V.seen there.0 there) (slots table.now)) }
+{
+    let mut list = Vec::with_capacity(alloc, table.len())?;
+    for (slot, version) in table.iter() {
+        let expires = version.expires();
+        list.push(ExpiryEntry { expires, slot })?;
+    }
+    Ok(list)
+}
+
+/// The index by bucket of a table, of its entries in the order of the keys.
 fn file_buckets<V: Version>(
     table: &Slab<V>,
     mut list: Vec<BucketEntry>,
-    any_gone: bool,
     alloc: Global,
 ) -> Result<Blocks<BucketEntry>, AllocError>
-    requires list { Covers bucket_slot (bucket_entry V.seen V.bucket_of V.head_of) (get table.now) list.items }
-    requires keys { HasOneOfEach V.seen (get table.now) }
-    requires whole { any_gone ≡ false → AllPass (λ e. is_some (get table.now (bucket_slot e))) list.items }
+    requires index { IsIndex bucket_slot (bucket_entry V.seen V.bucket_of V.head_of) (get table.now) list.items }
+    requires keys { IsKeyIndex V.seen V.head_of V.Key.cmp (get table.now) (map (λ e. e.key) list.items) }
     ensures { IfOk result (λ buckets. IsBucketIndex V.seen V.head_of V.Key.cmp V.bucket_of (get table.now) (entries buckets)) }
 {
-    keep_buckets(table, &mut list, any_gone);
+    // (those of one number stay in the order of the keys: where no two buckets have one, all are in order then)
     sort(&mut list, &ByNumber)?;
-    let order = ByBucket {
-        keys: ByKey { table },
-    };
-    sort(&mut list, &order)?;
-    let parted = part(list, &order, alloc)?;
-    Blocks::from_slice(alloc, parted.firsts.as_slice())
+    sort(
+        &mut list,
+        &ByBucket {
+            keys: ByKey { table },
+        },
+    )?;
+    Blocks::from_slice(alloc, list.as_slice())
 }

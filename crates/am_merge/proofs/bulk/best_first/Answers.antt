@@ -16,12 +16,12 @@ part-requires-clause-total g c = entry_total g.V.Version.seen g.met.V.Key.Ord.to
 
 pub returns-clause-all : goal.returns-clause-all
 returns-clause-all g c =
-    all_of_parted g.V.Version.seen g.V.Version.head_of g.V.Key.Ord.cmp (key_order g.met.V.Key.Ord.total g.met.V.Version.exact_keys) g.met.V.Version.heads (get c.args.table.now) c.args.keys.items c.sort-2.new.items.items (IsPermutation-trans c.args.keys.items c.sort.new.items.items c.sort-2.new.items.items c.in_ok-sort.ensures.same c.in_ok-sort-2.ensures.same) c.requires c.part.result c.part.ensures.all
+    all_of_parted g.V.Version.seen g.V.Version.head_of g.V.Version.bucket_of g.V.Key.Ord.cmp (key_order g.met.V.Key.Ord.total g.met.V.Version.exact_keys) g.met.V.Version.heads (get c.args.table.now) c.args.entries.items c.sort-2.new.items.items (IsPermutation-trans c.args.entries.items c.sort.new.items.items c.sort-2.new.items.items c.in_ok-sort.ensures.same c.in_ok-sort-2.ensures.same) c.requires c.part.result c.part.ensures.all
 
 pub returns-clause-order : goal.returns-clause-order
 returns-clause-order g c =
-    map_of_parted g.V.Version.seen g.V.Version.head_of g.V.Key.Ord.cmp (key_order g.met.V.Key.Ord.total g.met.V.Version.exact_keys) g.met.V.Version.heads (get c.args.table.now) c.args.keys.items c.sort-2.new.items.items (IsPermutation-trans c.args.keys.items c.sort.new.items.items c.sort-2.new.items.items c.in_ok-sort.ensures.same c.in_ok-sort-2.ensures.same) c.requires c.part.result c.part.ensures.all c.part.ensures.rising
+    map_of_parted g.V.Version.seen g.V.Version.head_of g.V.Version.bucket_of g.V.Key.Ord.cmp (key_order g.met.V.Key.Ord.total g.met.V.Version.exact_keys) g.met.V.Version.heads (get c.args.table.now) c.args.entries.items c.sort-2.new.items.items (IsPermutation-trans c.args.entries.items c.sort.new.items.items c.sort-2.new.items.items c.in_ok-sort.ensures.same c.in_ok-sort-2.ensures.same) c.requires c.part.result c.part.ensures.all c.part.ensures.rising
 
 pub returns-clause-beaten : goal.returns-clause-beaten
 returns-clause-beaten g c =
-    beaten_of_parted g.V.Version.seen g.V.Version.head_of g.V.Key.Ord.cmp (key_order g.met.V.Key.Ord.total g.met.V.Version.exact_keys) g.met.V.Version.heads (get c.args.table.now) c.args.keys.items c.sort-2.new.items.items (IsPermutation-trans c.args.keys.items c.sort.new.items.items c.sort-2.new.items.items c.in_ok-sort.ensures.same c.in_ok-sort-2.ensures.same) c.requires c.part.result c.in_ok-sort-2.ensures.sorted c.part.ensures.all c.part.ensures.ties
+    beaten_of_parted g.V.Version.seen g.V.Version.head_of g.V.Version.bucket_of g.V.Key.Ord.cmp (key_order g.met.V.Key.Ord.total g.met.V.Version.exact_keys) g.met.V.Version.heads (get c.args.table.now) c.args.entries.items c.sort-2.new.items.items (IsPermutation-trans c.args.entries.items c.sort.new.items.items c.sort-2.new.items.items c.in_ok-sort.ensures.same c.in_ok-sort-2.ensures.same) c.requires c.part.result c.in_ok-sort-2.ensures.sorted c.part.ensures.all c.part.ensures.ties

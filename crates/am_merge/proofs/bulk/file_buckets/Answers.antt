@@ -1,4 +1,4 @@
-use Rattle.std.proofs.Common.{refl, sym, ◌∙◌, subst, true}
+use Rattle.std.proofs.Common.{sym, ◌∙◌, subst}
 use Rattle.std.proofs.lemmas.Result.{IfOk-weaker}
 use Rattle.std.proofs.lemmas.List.Sorted.{IsPermutation-trans}
 use Rattle.slab.specs.Slab.{get}
@@ -14,12 +14,9 @@ sort-requires g c = number_total
 pub sort-requires-2 : goal.sort-requires-2
 sort-requires-2 g c = place_total g.V.Version.seen g.met.V.Key.Ord.total (get c.args.table.now) g.V.Version.bucket_of
 
-pub part-requires-clause-total : goal.part-requires-clause-total
-part-requires-clause-total g c = place_total g.V.Version.seen g.met.V.Key.Ord.total (get c.args.table.now) g.V.Version.bucket_of
-
 pub returns : goal.returns
 returns g c =
     let index = buckets_filed g.V.Version.seen g.V.Version.head_of g.V.Key.Ord.cmp (order_of_keys g.met.V.Key.Ord.total g.met.V.Version.exact_keys) g.V.Version.bucket_of g.met.V.Version.heads
-    (get c.args.table.now) c.args.list.items c.keep_buckets.new.list.items c.sort-2.new.items.items c.in_ok-parted.parted.firsts.items c.in_ok-parted.parted.ties.items
-    c.requires.list c.requires.keys c.keep_buckets.ensures (IsPermutation-trans c.keep_buckets.new.list.items c.sort.new.items.items c.sort-2.new.items.items c.in_ok-sort.ensures.same c.in_ok-sort-2.ensures.same) c.in_ok-parted.ensures.all c.in_ok-parted.ensures.rising (c.in_ok-parted.ensures.ties (λ _ _. true) (λ i j d less within. refl)) in
+    (get c.args.table.now) c.args.list.items c.sort-2.new.items.items c.requires.index c.requires.keys
+    (IsPermutation-trans c.args.list.items c.sort.new.items.items c.sort-2.new.items.items c.in_ok-sort.ensures.same c.in_ok-sort-2.ensures.same) c.in_ok-sort-2.ensures.sorted in
     IfOk-weaker c.from_slice.result _ _ (λ blocks same. subst (IsBucketIndex g.V.Version.seen g.V.Version.head_of g.V.Key.Ord.cmp g.V.Version.bucket_of (get c.args.table.now)) (sym (same ∙ c.as_slice.ensures.value)) index) c.from_slice.ensures

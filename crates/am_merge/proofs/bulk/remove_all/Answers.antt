@@ -3,7 +3,7 @@ use Rattle.std.specs.List.{AllByRecursion}
 use Rattle.std.specs.Vec.Iter.{into_iter_items}
 use Rattle.std.proofs.lemmas.List.{length-append}
 use Rattle.std.proofs.lemmas.List.Elements.{recursion_from_All}
-use Rattle.am_merge.specs.Entries.{key_slot}
+use Rattle.am_merge.specs.Buckets.{bucket_slot}
 use Rattle.am_merge.specs.Stores.{HasSlot}
 use Rattle.am_merge.specs.Listings.{AreApart}
 use Rattle.am_merge.proofs.Listings.{gone-more, there-rest, others-more, apart-rest}
@@ -16,8 +16,8 @@ loop-entry-init g c =
       done = [];
       all = gives;
       gone = tt;
-      there = subst (AllByRecursion (λ e. HasSlot c.args.table.now e.slot)) (sym gives) (recursion_from_All (λ e. HasSlot c.args.table.now e.slot) c.args.gone.items c.requires.there);
-      apart = subst (AreApart key_slot) (sym gives) c.requires.apart;
+      there = subst (AllByRecursion (λ e. HasSlot c.args.table.now e.key.slot)) (sym gives) (recursion_from_All (λ e. HasSlot c.args.table.now e.key.slot) c.args.gone.items c.requires.there);
+      apart = subst (AreApart bucket_slot) (sym gives) c.requires.apart;
       others = λ slot none. refl;
       len = omega arith;
     }
@@ -29,8 +29,8 @@ loop-entry-preserved g c =
     let rest = into_iter_items c.next.new.self in
     let steps : into_iter_items c.loop-entry.entry-iterator ≡ e ∷ rest = c.in-Some.ensures.steps.0 in
     let parts : had.done ++ e ∷ rest ≡ c.args.gone.items = ap (λ xs. had.done ++ xs) (sym steps) ∙ had.all in
-    let apart : AreApart key_slot (e ∷ rest) = subst (AreApart key_slot) steps had.apart in
-    let there = subst (AllByRecursion (λ f. HasSlot c.loop-entry.table f.slot)) steps had.there in
+    let apart : AreApart bucket_slot (e ∷ rest) = subst (AreApart bucket_slot) steps had.apart in
+    let there = subst (AllByRecursion (λ f. HasSlot c.loop-entry.table f.key.slot)) steps had.there in
     let updates = c.remove.ensures.updates in
     let long = length-append had.done (e ∷ []) in
     let so_far = had.len in
