@@ -1,5 +1,5 @@
 -- The order of lists that are equal in front.
-use Rattle.std.specs.Prelude.{◌≡◌, ◌≢◌, ℕ, ◌+◌, ◌*◌, ◌<◌, ◌≤◌, List, [], ◌∷◌, length, take, drop, get_or}
+use Rattle.std.specs.Prelude.{◌≡◌, ◌≢◌, ℕ, ◌+◌, ◌*◌, ◌<◌, ◌≤◌, List, [], ◌∷◌, length, take, drop, get_or, min}
 use Rattle.std.specs.declared.cmp.Ordering.{Ordering}
 use Rattle.std.specs.declared.cmp.Ordering.TheVariants.{Less, Equal, Greater}
 use Rattle.std.specs.Ordering.{nat_cmp, ordering_then, MatchOrdering}
@@ -18,6 +18,34 @@ Bytes xs = (i : ℕ) → get_or xs i 0 < 256
 -- where the first elements are equal the others decide
 passed : (x y : ℕ) (r : Ordering) → x ≡ y → r ≡ ordering_then (nat_cmp x y) r
 passed x y r e = ap (λ o. ordering_then o r) (nat_cmp_is x y Equal e)
+
+decides : (o r : Ordering) → (o ≢ Equal) → o ≡ ordering_then o r
+decides Less r n = refl
+decides Equal r n = absurd (n refl)
+decides Greater r n = refl
+
+-- the first elements that differ decide
+pub first_decides : (n : ℕ) (xs ys : List ℕ) → take n xs ≡ take n ys → n < length xs → n < length ys → (get_or xs n 0 ≢ get_or ys n 0) → nat_cmp (get_or xs n 0) (get_or ys n 0) ≡ slice_cmp nat_cmp xs ys
+first_decides n [] ys e a b d = absurd (omega arith)
+first_decides n (x ∷ xs) [] e a b d = absurd (omega arith)
+first_decides zero (x ∷ xs) (y ∷ ys) e a b d = decides (nat_cmp x y) (slice_cmp nat_cmp xs ys) (λ o. d (ranked x y Equal (sym o)))
+first_decides (suc n) (x ∷ xs) (y ∷ ys) e a b d =
+    first_decides n xs ys (ap (drop 1) e) (omega arith) (omega arith) d ∙ passed x y (slice_cmp nat_cmp xs ys) (ap (λ l. get_or l 0 0) e)
+
+shifted : (a b : ℕ) (r : Ordering) → MatchOrdering r (a < b) (a ≡ b) (b < a) → MatchOrdering r (suc a < suc b) (suc a ≡ suc b) (suc b < suc a)
+shifted a b Less h = let l : a < b = h in omega arith
+shifted a b Equal h = let l : a ≡ b = h in omega arith
+shifted a b Greater h = let l : b < a = h in omega arith
+
+-- where none differ the lengths decide
+pub lengths_decide : (n : ℕ) (xs ys : List ℕ) → take n xs ≡ take n ys → n ≡ min (length xs) (length ys) → nat_cmp (length xs) (length ys) ≡ slice_cmp nat_cmp xs ys
+lengths_decide n [] [] e m = sym (nat_cmp_is 0 0 Equal refl)
+lengths_decide n [] (y ∷ ys) e m = sym (nat_cmp_is 0 (suc (length ys)) Less (omega arith))
+lengths_decide n (x ∷ xs) [] e m = sym (nat_cmp_is (suc (length xs)) 0 Greater (omega arith))
+lengths_decide zero (x ∷ xs) (y ∷ ys) e m = absurd (omega arith)
+lengths_decide (suc n) (x ∷ xs) (y ∷ ys) e m =
+    sym (nat_cmp_is (suc (length xs)) (suc (length ys)) (nat_cmp (length xs) (length ys)) (shifted (length xs) (length ys) _ (ranked (length xs) (length ys) _ refl)))
+    ∙ lengths_decide n xs ys (ap (drop 1) e) (omega arith) ∙ passed x y (slice_cmp nat_cmp xs ys) (ap (λ l. get_or l 0 0) e)
 
 -- what is equal in front doesn't decide
 pub alike : (n : ℕ) (xs ys : List ℕ) → take n xs ≡ take n ys → n ≤ length xs → n ≤ length ys → slice_cmp nat_cmp (drop n xs) (drop n ys) ≡ slice_cmp nat_cmp xs ys

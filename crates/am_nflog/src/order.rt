@@ -23,10 +23,11 @@ pub(crate) fn compare_bytes(a: &[u8], b: &[u8]) -> Ordering
         left = rest;
         right = others;
     }
-    left.cmp(right)
+    compare_short(left, right)
 }
 
 /// The first word, as a number that goes by the order of its bytes, and what stands behind it.
+#[inline(always)]
 fn split_word(bytes: &[u8]) -> Option<(u64, &[u8])>
     ensures within { IfSome result (λ parts. 8 ≤ length bytes.now) }
     ensures word { IfSome result (λ parts. parts.0 ≡ from_be_bytes w64 (take 8 bytes.now)) }
@@ -34,4 +35,16 @@ fn split_word(bytes: &[u8]) -> Option<(u64, &[u8])>
 {
     let (word, rest) = bytes.split_first_chunk::<WORD>()?;
     Some((u64::from_be_bytes(*word), rest))
+}
+
+/// The order of bytes, one by one.
+fn compare_short(a: &[u8], b: &[u8]) -> Ordering
+    ensures { result ≡ slice_cmp nat_cmp a.now b.now }
+{
+    for at in 0..a.len().min(b.len()) {
+        if a[at] != b[at] {
+            return a[at].cmp(&b[at]);
+        }
+    }
+    a.len().cmp(&b.len())
 }
