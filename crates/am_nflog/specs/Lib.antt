@@ -11,3 +11,4 @@ pub mod Packed
 pub mod Drafts
 pub mod RoundTrip
 pub mod Made
+pub mod Canonical

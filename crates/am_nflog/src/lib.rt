@@ -1,6 +1,7 @@
 //! The notification log: what was notified, of which groups, and when.
 #![tactic(auto)]
 
+mod canonical;
 mod entry;
 mod fields;
 mod hash_iter;

@@ -1,15 +1,18 @@
 //! Entries as instances pass them on.
 
-ghost use Rattle.std.specs.Prelude.{◌≡◌, ℕ, ◌<◌, ◌≤◌, List, [], ◌∷◌, ◌++◌, length, Err, OnOk, IfOk, IfErr, ◌⊎◌, ◌↔◌};
+ghost use Rattle.std.specs.Prelude.{◌≡◌, ℕ, ◌+◌, ◌^◌, ◌<◌, ◌≤◌, List, [], ◌∷◌, ◌++◌, length, Ok, Err, OnOk, IfOk, IfErr, IfSome, ◌⊎◌, ◌↔◌};
 ghost use Rattle.am_version_order.specs.Moments.{greatest};
 ghost use Rattle.am_wire.specs.Limits.{most};
 ghost use Rattle.am_wire.specs.declared.error.WireError.TheVariants as errors;
+ghost use Rattle.am_wire.specs.Reading.{GivesUnlessMemory};
 ghost use Rattle.am_wire.specs.Sizes.{counted};
 ghost use Rattle.am_nflog.specs.Entries.{writes_entry, IsEntry};
 ghost use Rattle.am_nflog.specs.Fields.{entry_in};
 ghost use Rattle.am_nflog.specs.Mesh.{Mesh, writes_mesh_entry};
+ghost use Rattle.am_nflog.specs.MeshTable.{reads_mesh_entry};
 ghost use Rattle.am_nflog.specs.Offsets.{StandAt};
 
+use crate::canonical::read_version;
 use crate::entry::{Entry, EntryDraft};
 use crate::fields::EntryFields;
 use crate::hash_iter::HashIter;
@@ -134,6 +137,43 @@ impl MeshEntry {
         })
     }
 
+    // The version that a text is the canonical one of; none where it is not canonical, or has a part behind 2^32 bytes or
+    // more.
+    fn of_canonical(alloc: Global, text: &[u8]) -> Result<Option<MeshEntry>, AllocError>
+        ensures { IfOk result (λ found. IfSome found (λ m. (at : ℕ) → reads_mesh_entry at text.now ≡ Ok m)) }
+    {
+        let Some((entry, expires_at)) = read_version(text) else {
+            return Ok(None);
+        };
+        let key = entry.key(alloc)?;
+        let canonical = text.to_vec(alloc)?;
+        let version = MeshEntry {
+            key,
+            timestamp: entry.timestamp,
+            expires_at,
+            places: entry.places,
+            resolved: entry.resolved,
+            canonical,
+        };
+        Ok(Some(version))
+    }
+
+    // The version that a text spells in one way or another.
+    #[tactic(auto, unfolding(crate::specs::MeshTable::reads_mesh_entry))]
+    fn of_any(alloc: Global, text: &[u8], at: usize) -> Result<MeshEntry, WireError>
+        requires { at + length text.now < 2 ^ 64 }
+        ensures { GivesUnlessMemory result (reads_mesh_entry at text.now) }
+    {
+        let Expiring {
+            message: entry,
+            expires_at,
+        } = read_message::<ExpiringDraft<EntryDraft>>(alloc, text, at, at)?;
+        let fields = entry.fields();
+        let size = fields.size();
+        let version = MeshEntry::of_sized(alloc, &fields, size, expires_at)?;
+        Ok(version)
+    }
+
     /// The moment of the notification, by which versions replace each other.
     pub fn timestamp(&self) -> Moment
         ensures { result ≡ self.now.entry.timestamp }
@@ -205,7 +245,6 @@ fn write_version(
 
 impl Message for MeshEntry {
     ghost use Rattle.am_nflog.specs.Mesh.{IsMesh};
-    ghost use Rattle.am_nflog.specs.MeshTable.{reads_mesh_entry};
     ghost use Rattle.am_nflog.specs.RoundTrip.{mesh_again};
 
     ghost is_value = { IsMesh };
@@ -228,16 +267,11 @@ impl Message for MeshEntry {
         append_text(out, self.canonical())
     }
 
-    #[tactic(auto, unfolding(crate::specs::MeshTable::reads_mesh_entry))]
     fn decode_at(alloc: Global, bytes: &[u8], at: usize) -> Result<MeshEntry, WireError> {
-        let Expiring {
-            message: entry,
-            expires_at,
-        } = read_message::<ExpiringDraft<EntryDraft>>(alloc, bytes, at, at)?;
-        let fields = entry.fields();
-        let size = fields.size();
-        let version = MeshEntry::of_sized(alloc, &fields, size, expires_at)?;
-        Ok(version)
+        if let Some(version) = MeshEntry::of_canonical(alloc, bytes)? {
+            return Ok(version);
+        }
+        MeshEntry::of_any(alloc, bytes, at)
     }
 }
 

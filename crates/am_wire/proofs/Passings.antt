@@ -1,8 +1,9 @@
 -- Parts that are passed one after the other.
-use Rattle.std.proofs.Common.{◌≡◌, ℕ, ◌+◌, ◌-◌, ◌*◌, ◌<◌, ◌^◌, cond, eqb, List, [], ◌∷◌, ◌++◌, length, append-nil, length-append, refl, sym, ap, ◌∙◌, arith}
-use Rattle.std.proofs.lemmas.List.{append_assoc}
-use Rattle.am_wire.specs.Passing.{Passing, Passes}
-use Rattle.am_wire.specs.Varint.{groups}
+use Rattle.std.proofs.Common.{◌≡◌, ℕ, ◌+◌, ◌-◌, ◌*◌, ◌<◌, ◌^◌, cond, eqb, List, [], ◌∷◌, ◌++◌, length, append-nil, length-append, refl, sym, ap, subst, ◌∙◌, arith}
+use Rattle.std.proofs.lemmas.List.{append_assoc, flat_map_more}
+use Rattle.std.proofs.lemmas.List.Elements.{All-nil, All-push}
+use Rattle.am_wire.specs.Passing.{Passing, Passes, ArePacked, PassesNumbers}
+use Rattle.am_wire.specs.Varint.{groups, shortest}
 use Rattle.am_wire.specs.Offsets.{StandsAt}
 use Rattle.am_wire.specs.declared.offset.Offset.{Offset}
 use Rattle.am_wire.proofs.Offsets.{stands_written}
@@ -38,3 +39,37 @@ whole n size part old mid new front inner counts =
 pub stands : (n : ℕ) (part : List ℕ) (offset : Offset) (old new : Passing) → n < 16 → length new.passed < 2 ^ 64
     → Passes (writes_text n part) old new → offset.start ≡ cond (eqb (length part) 0) 0 (length old.passed + 1) → StandsAt part offset new.passed
 stands n part offset old new low small h at = stands_written old.passed part new.passed n offset low small h.passed at
+
+-- ---- packed numbers
+-- what is passed of the part is numbers
+pub record HasPassed (part : List ℕ) (reader : Passing) : Type 0 where
+  pub text : reader.text ≡ part
+  pub packed : ArePacked reader.passed
+
+pub none_passed : (part : List ℕ) → HasPassed part (record { text = part; passed = [] })
+none_passed part = record { text = refl; packed = record { numbers = []; short = All-nil (λ n. n < 2 ^ 64); is = refl } }
+
+-- and one more
+pub one_more : (part : List ℕ) (value : ℕ) (old new : Passing) → HasPassed part old → value < 2 ^ 64 → Passes (shortest value) old new → HasPassed part new
+one_more part value old new h low is = record {
+  text = is.text ∙ h.text;
+  packed = record {
+    numbers = h.packed.numbers ++ value ∷ [];
+    short = All-push (λ n. n < 2 ^ 64) h.packed.numbers value h.packed.short low;
+    is = is.passed ∙ ap (λ (x : List ℕ). x ++ shortest value) h.packed.is ∙ flat_map_more shortest [] h.packed.numbers value;
+  };
+}
+
+-- all of the part
+pub all_passed : (part : List ℕ) (reader : Passing) → HasPassed part reader → reader.passed ≡ reader.text → ArePacked part
+all_passed part reader h over = record { numbers = h.packed.numbers; short = h.packed.short; is = sym h.text ∙ sym over ∙ h.packed.is }
+
+-- the field of a part that is packed numbers
+pub numbers_passed : (n : ℕ) (place : Offset) (part : List ℕ) (old new : Passing) → Passes (writes_text n part) old new → StandsAt part place new.passed
+    → ArePacked part → PassesNumbers n place old new
+numbers_passed n place part old new is at h = record {
+  numbers = h.numbers;
+  short = h.short;
+  passes = subst (λ (x : List ℕ). Passes (writes_text n x) old new) h.is is;
+  stands = subst (λ (x : List ℕ). StandsAt x place new.passed) h.is at;
+}

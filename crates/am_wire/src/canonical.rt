@@ -1,9 +1,10 @@
 //! Canonical texts, read from the front: what is passed is what a writer of the same values writes.
 
 ghost use Rattle.std.specs.Prelude.{◌≡◌, ◌<◌, ◌≤◌, ◌-◌, ◌%◌, ◌∷◌, ◌++◌, [], true, false, drop, length, IfSome};
+ghost use Rattle.std.specs.Str.{IsUtf8};
 ghost use Rattle.am_version_order.specs.Moments.{greatest};
 ghost use Rattle.am_wire.specs.Offsets.{StandsAt};
-ghost use Rattle.am_wire.specs.Passing.{Passes};
+ghost use Rattle.am_wire.specs.Passing.{Passes, PassesNumbers, ArePacked};
 ghost use Rattle.am_wire.specs.Timestamps.{writes_moment, seconds_number};
 ghost use Rattle.am_wire.specs.Varint.{shortest};
 ghost use Rattle.am_wire.specs.Writing.{tag, writes_delimited, writes_number, writes_text};
@@ -179,10 +180,42 @@ impl<'a> CanonicalReader<'a> {
         self.text.get(self.at) == Some(&((number * 8 + 2) as u8))
     }
 
+    /// Passes bytes as [`CanonicalReader::part`] does, and says where they stand; none also where they end behind 2^32
+    /// bytes or more.
+    pub fn placed_part(&mut self, number: u32) -> Option<(&'a [u8], Offset)>
+        requires { number < 16 }
+        ensures passed { IfSome result (λ it. Passes (writes_text number it.0.now) self.old self.new) }
+        ensures place { IfSome result (λ it. StandsAt it.0.now it.1 self.new.passed) }
+    {
+        let begun = self.at();
+        let part = self.part(number)?;
+        if self.at() > u32::MAX as usize {
+            return None;
+        }
+        let Ok(place) = Offset::behind_tag(begun, part.is_empty()) else {
+            return None;
+        };
+        Some((part, place))
+    }
+
+    /// Passes numbers that are packed in one field, which is left out where there are none, and says where they stand; none
+    /// also where they end behind 2^32 bytes or more.
+    pub fn numbers(&mut self, number: u32) -> Option<Offset>
+        requires { number < 16 }
+        ensures { IfSome result (λ place. PassesNumbers number place self.old self.new) }
+    {
+        let (part, place) = self.placed_part(number)?;
+        if !are_packed(part) {
+            return None;
+        }
+        Some(place)
+    }
+
     /// Passes a text, which is left out where it is empty.
     pub fn text(&mut self, number: u32) -> Option<&'a str>
         requires { number < 16 }
-        ensures { IfSome result (λ text. Passes (writes_text number text.now) self.old self.new) }
+        ensures passed { IfSome result (λ text. Passes (writes_text number text.now) self.old self.new) }
+        ensures utf8 { IfSome result (λ text. IsUtf8 text.now) }
     {
         text_of(self.part(number)?).ok()
     }
@@ -193,15 +226,10 @@ impl<'a> CanonicalReader<'a> {
         requires { number < 16 }
         ensures passed { IfSome result (λ it. Passes (writes_text number it.0.now) self.old self.new) }
         ensures place { IfSome result (λ it. StandsAt it.0.now it.1 self.new.passed) }
+        ensures utf8 { IfSome result (λ it. IsUtf8 it.0.now) }
     {
-        let begun = self.at();
-        let text = self.text(number)?;
-        if self.at() > u32::MAX as usize {
-            return None;
-        }
-        let Ok(place) = Offset::behind_tag(begun, text.is_empty()) else {
-            return None;
-        };
+        let (part, place) = self.placed_part(number)?;
+        let text = text_of(part).ok()?;
         Some((text, place))
     }
 
@@ -247,6 +275,22 @@ impl<'a> CanonicalReader<'a> {
         let moment = moment_of(seconds, nanos)?;
         Some(moment)
     }
+}
+
+/// Whether bytes are numbers, each in its shortest spelling.
+fn are_packed(part: &[u8]) -> bool
+    ensures { result ≡ true → ArePacked part.now }
+{
+    let mut reader = CanonicalReader::new(part);
+    for _ in 0..part.len() {
+        if reader.is_over() {
+            break;
+        }
+        let Some(_value) = reader.varint() else {
+            return false;
+        };
+    }
+    reader.is_over()
 }
 
 /// The moment that is written by these numbers: its seconds in two's complement, and its nanoseconds.

@@ -1,9 +1,0 @@
-use Rattle.std.proofs.Common.{rules, ◌≡◌, ◌+◌, ◌<◌, ◌^◌, ℕ, Bool, cond, eqb, length, ap, ◌∙◌}
-use Rattle.am_wire.proofs.Passings.{stands}
-use Rattle.am_wire.proofs.canonical.CanonicalReader.placed_text.Goals as goal
-
-pub returns-clause-place : goal.returns-clause-place
-returns-clause-place c =
-    let small : length c.text.new.self.passed < 2 ^ 64 = search rules in
-    let start : c.in-Ok.place.start ≡ cond (eqb (length c.in_ok-text.text.now) 0) 0 (length c.args.self.now.passed + 1) = c.in-Ok.ensures ∙ ap (λ (b : Bool). cond b 0 (c.at-begun.result + 1)) c.is_empty.ensures ∙ ap (λ (n : ℕ). cond (eqb (length c.in_ok-text.text.now) 0) 0 (n + 1)) c.at-begun.ensures.at in
-    stands c.args.number c.in_ok-text.text.now c.in-Ok.place c.args.self.now c.text.new.self c.requires small c.in_ok-text.ensures start
