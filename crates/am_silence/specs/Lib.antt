@@ -6,7 +6,7 @@ pub mod Silences
 pub mod Mesh
 pub mod Offsets
 pub mod Spelled
-pub mod Spellings
+pub mod Canonical
 pub mod MeshTable
 pub mod Drafts
 pub mod RoundTrip

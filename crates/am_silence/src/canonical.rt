@@ -10,7 +10,7 @@ ghost use Rattle.am_silence.specs.Matchers.{writes_matcher, IsMatcher};
 ghost use Rattle.am_silence.specs.Mesh.{bucket_of};
 ghost use Rattle.am_silence.specs.Offsets.{StandsBetween, StandIn};
 ghost use Rattle.am_silence.specs.Silences.{writes_silence, IsSilence};
-ghost use Rattle.am_silence.specs.Spellings.{IsSpelled};
+ghost use Rattle.am_silence.specs.Canonical.{IsCanonical};
 
 use crate::iter::{HasMatchers, MatcherIter};
 use crate::matcher::{MatcherKind, MatcherRef};
@@ -21,15 +21,15 @@ use am_wire::reading::{CanonicalReader, Offset};
 
 /// The parts of a version, and where they stand in its canonical text.
 #[derive(Drop)]
-pub(crate) struct SpelledVersion<'a> {
+pub(crate) struct CanonicalSilence<'a> {
     pub fields: SilenceFields<'a, MatcherIter<'a>>,
     pub expires_at: Moment,
     pub places: Offsets,
 }
 
 /// The version that a canonical text spells; none where a text isn't canonical, or has 2^32 bytes or more.
-pub(crate) fn spelled_in(text: &[u8]) -> Option<SpelledVersion<'_>>
-    ensures { IfSome result (IsSpelled text.now) }
+pub(crate) fn read_version(text: &[u8]) -> Option<CanonicalSilence<'_>>
+    ensures { IfSome result (IsCanonical text.now) }
 {
     let mut reader = CanonicalReader::new(text);
     let size = reader.prefix(1)?;
@@ -42,7 +42,7 @@ pub(crate) fn spelled_in(text: &[u8]) -> Option<SpelledVersion<'_>>
     if !reader.is_over() || text.len() > u32::MAX as usize {
         return None;
     }
-    Some(SpelledVersion {
+    Some(CanonicalSilence {
         fields,
         expires_at,
         places,

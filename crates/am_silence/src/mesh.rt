@@ -11,7 +11,7 @@ ghost use Rattle.am_silence.specs.MeshTable.{reads_mesh_silence};
 ghost use Rattle.am_silence.specs.Mesh.{IsMesh, writes_mesh_silence, bucket_of};
 ghost use Rattle.am_silence.specs.States.{state_of, is_expired};
 
-use crate::canonical::{SpelledVersion, spelled_in};
+use crate::canonical::{CanonicalSilence, read_version};
 use crate::iter::{HasMatchers, MatcherIter};
 use crate::offsets::{Offsets, write_silence};
 use crate::silence::{Silence, SilenceDraft};
@@ -151,10 +151,10 @@ impl MeshSilence {
         ensures text { IfOk result (λ found. IfSome found (λ m. text.now ≡ writes_mesh_silence m)) }
         ensures value { IfOk result (λ found. IfSome found IsMesh) }
     {
-        let Some(version) = spelled_in(text) else {
+        let Some(version) = read_version(text) else {
             return Ok(None);
         };
-        let SpelledVersion {
+        let CanonicalSilence {
             fields,
             expires_at,
             places,

@@ -3,7 +3,7 @@ use Rattle.am_silence.specs.declared.silence.Silence.{Silence}
 use Rattle.am_silence.specs.Mesh.{Mesh, IsMesh, writes_mesh_silence}
 use Rattle.am_silence.specs.Offsets.{StandIn}
 use Rattle.am_silence.specs.Spelled.{version_in, version_spelled}
-use Rattle.am_silence.specs.Spellings.{version_of}
+use Rattle.am_silence.specs.Canonical.{version_of}
 use Rattle.am_silence.proofs.mesh.MeshSilence.of_canonical.Goals as goal
 
 module _ (c : goal.In_ok-from_slice) where

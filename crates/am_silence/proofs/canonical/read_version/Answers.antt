@@ -7,7 +7,7 @@ use Rattle.am_silence.specs.Mesh.{Mesh, writes_mesh_silence}
 use Rattle.am_silence.specs.Offsets.{StandIn}
 use Rattle.am_silence.proofs.Passed.{version_passed}
 use Rattle.am_silence.proofs.Standing.{stand_before}
-use Rattle.am_silence.proofs.canonical.spelled_in.Goals as goal
+use Rattle.am_silence.proofs.canonical.read_version.Goals as goal
 
 pub returns : goal.returns
 returns c =
