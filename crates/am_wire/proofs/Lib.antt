@@ -5,6 +5,7 @@ pub mod Taking
 pub mod Picked
 pub mod Shortest
 pub mod Spelled
+pub mod LastGroups
 pub mod Faults
 pub mod Found
 pub mod Exact

@@ -1,6 +1,7 @@
 -- Parts that are passed one after the other.
-use Rattle.std.proofs.Common.{◌≡◌, ℕ, ◌+◌, ◌-◌, ◌*◌, ◌<◌, ◌^◌, cond, eqb, List, [], ◌∷◌, ◌++◌, length, append-nil, length-append, refl, sym, ap, subst, ◌∙◌, arith}
-use Rattle.std.proofs.lemmas.List.{append_assoc, flat_map_more}
+use Rattle.std.proofs.Common.{◌≡◌, ℕ, ◌+◌, ◌-◌, ◌*◌, ◌<◌, ◌^◌, cond, eqb, List, [], ◌∷◌, ◌++◌, length, take, drop, append-nil, length-append, refl, sym, ap, subst, ◌∙◌, arith}
+use Rattle.std.proofs.Math.Seq.{take-add}
+use Rattle.std.proofs.lemmas.List.{append_assoc, flat_map_more, take_rest}
 use Rattle.std.proofs.lemmas.List.Elements.{All-nil, All-push}
 use Rattle.am_wire.specs.Passing.{Passing, Passes, ArePacked, PassesNumbers}
 use Rattle.am_wire.specs.Varint.{groups, shortest}
@@ -21,6 +22,14 @@ pub both : (a b : List ℕ) (old mid new : Passing) → Passes a old mid → Pas
 both a b old mid new one two = record {
   text = two.text ∙ one.text;
   passed = two.passed ∙ ap (λ (x : List ℕ). x ++ b) one.passed ∙ append_assoc old.passed a b;
+}
+
+-- some bytes more of the text
+pub further : (text part : List ℕ) (at len : ℕ) (old : Passing) → record { text = text; passed = take at text } ≡ old
+    → part ≡ take len (take (length text - at) (drop at text)) → Passes part old (record { text = text; passed = take (at + len) text })
+further text part at len old is front = record {
+  text = ap (λ (p : Passing). p.text) is;
+  passed = let own : part ≡ take len (drop at text) = front ∙ ap (take len) (take_rest text at) in rw (← is, own) (take-add at len text);
 }
 
 -- a part behind its tag and as many bytes as it has

@@ -1,6 +1,6 @@
 //! Canonical texts, read from the front: what is passed is what a writer of the same values writes.
 
-ghost use Rattle.std.specs.Prelude.{◌≡◌, ◌<◌, ◌≤◌, ◌-◌, ◌%◌, ◌∷◌, ◌++◌, [], true, false, drop, length, IfSome};
+ghost use Rattle.std.specs.Prelude.{◌≡◌, ◌<◌, ◌≤◌, ◌-◌, ◌%◌, ◌∷◌, ◌++◌, [], true, false, take, drop, length, IfSome};
 ghost use Rattle.std.specs.Str.{IsUtf8};
 ghost use Rattle.am_version_order.specs.Moments.{greatest};
 ghost use Rattle.am_wire.specs.Offsets.{StandsAt};
@@ -11,7 +11,7 @@ ghost use Rattle.am_wire.specs.Writing.{tag, writes_delimited, writes_number, wr
 
 use crate::ascii::text_of;
 use crate::offset::Offset;
-use crate::varint::{varint_from, write_varint};
+use crate::varint::varint_from;
 use am_version_order::Moment;
 use std::marker::Model;
 
@@ -101,11 +101,9 @@ impl<'a> CanonicalReader<'a> {
     fn long_varint(&mut self) -> Option<u64>
         ensures { IfSome result (λ value. Passes (shortest value) self.old self.new) }
     {
-        let (value, len) = varint_from(&self.text[self.at..], 0).ok()?;
-        let spelling = write_varint(value);
-        if self.bytes(len)? != spelling.as_slice() {
-            return None;
-        }
+        let rest = &self.text[self.at..];
+        let (value, len) = shortest_from(rest)?;
+        self.at += len;
         Some(value)
     }
 
@@ -275,6 +273,19 @@ impl<'a> CanonicalReader<'a> {
         let moment = moment_of(seconds, nanos)?;
         Some(moment)
     }
+}
+
+/// The number at the front, and how many bytes it takes; none where it is spelled longer than it need be.
+fn shortest_from(bytes: &[u8]) -> Option<(u64, usize)>
+    ensures within { IfSome result (λ x. x.1 ≤ length bytes.now) }
+    ensures spelling { IfSome result (λ x. shortest x.0 ≡ take x.1 bytes.now) }
+{
+    let (value, len) = varint_from(bytes, 0).ok()?;
+    // (a last byte of 0 adds nothing)
+    if bytes[len - 1] == 0 {
+        return None;
+    }
+    Some((value, len))
 }
 
 /// Whether bytes are numbers, each in its shortest spelling.
