@@ -33,7 +33,7 @@ impl<V: Version> Model for HeldBuilder<V> {
 }
 
 impl<V: Version> HeldBuilder<V> {
-    /// The versions of a map, which has none then, with room in the indexes for so many more.
+    /// The versions of a map, which has none then, with room for the entries of so many more.
     ///
     /// # Errors
     ///
