@@ -1,5 +1,5 @@
 -- The order of lists that are equal in front.
-use Rattle.std.specs.Prelude.{◌≡◌, ◌≢◌, ℕ, ◌+◌, ◌*◌, ◌<◌, ◌≤◌, List, [], ◌∷◌, ◌++◌, length, take, drop, get_or, min}
+use Rattle.std.specs.Prelude.{◌≡◌, ◌≢◌, ℕ, ◌+◌, ◌*◌, ◌<◌, ◌≤◌, List, [], ◌∷◌, length, take, drop, get_or, min}
 use Rattle.std.specs.declared.cmp.Ordering.{Ordering}
 use Rattle.std.specs.declared.cmp.Ordering.TheVariants.{Less, Equal, Greater}
 use Rattle.std.specs.Ordering.{nat_cmp, ordering_then, MatchOrdering}
@@ -8,9 +8,8 @@ use Rattle.std.specs.Cmp.{nat_cmp_is}
 use Rattle.std.specs.Cmp.Lexicographic.{slice_cmp}
 use Rattle.std.proofs.Common.{refl, sym, ap, ◌∙◌, zero, suc, arith}
 use Rattle.std.proofs.lemmas.Cmp.{ranked}
-use Rattle.std.proofs.lemmas.List.{length-drop, length-take-le}
+use Rattle.std.proofs.lemmas.List.{length-take-le}
 use Rattle.std.proofs.lemmas.Nat.{be_bytes_8, mul-le}
-use Rattle.std.proofs.Math.Seq.{take-add}
 
 -- numbers below 256
 abbrev pub Bytes : List ℕ → Type 0
@@ -55,7 +54,7 @@ alike (suc n) [] ys e a b = absurd (omega arith)
 alike (suc n) (x ∷ xs) [] e a b = absurd (omega arith)
 alike (suc n) (x ∷ xs) (y ∷ ys) e a b = alike n xs ys (ap (drop 1) e) (omega arith) (omega arith) ∙ passed x y (slice_cmp nat_cmp xs ys) (ap (λ l. get_or l 0 0) e)
 
-dropped : (m : ℕ) (xs : List ℕ) → Bytes xs → Bytes (drop m xs)
+pub dropped : (m : ℕ) (xs : List ℕ) → Bytes xs → Bytes (drop m xs)
 dropped zero xs p = p
 dropped (suc m) [] p = p
 dropped (suc m) (x ∷ xs) p = dropped m xs (λ i. p (suc i))
@@ -135,27 +134,16 @@ word_worth (a ∷ b ∷ c ∷ d ∷ e ∷ []) long = absurd (omega arith)
 word_worth (a ∷ b ∷ c ∷ d ∷ e ∷ f ∷ []) long = absurd (omega arith)
 word_worth (a ∷ b ∷ c ∷ d ∷ e ∷ f ∷ g ∷ []) long = absurd (omega arith)
 
--- words that stand behind what is equal in front
-module _ (at : ℕ) (xs ys : List ℕ) (p : Bytes xs) (q : Bytes ys) (e : take at xs ≡ take at ys) (a : at + 8 ≤ length xs) (b : at + 8 ≤ length ys) where
-  rest : (zs : List ℕ) → at + 8 ≤ length zs → 8 ≤ length (drop at zs)
-  rest zs l = let d = length-drop at zs in omega arith
-
-  abbrev word : List ℕ → ℕ
-  word zs = from_be_bytes w64 (take 8 (drop at zs))
-
-  -- where they differ, they decide
-  pub words_decide : word xs ≢ word ys → nat_cmp (word xs) (word ys) ≡ slice_cmp nat_cmp xs ys
+module _ (xs ys : List ℕ) (p : Bytes xs) (q : Bytes ys) (a : 8 ≤ length xs) (b : 8 ≤ length ys) where
+  pub words_decide : from_be_bytes w64 (take 8 xs) ≢ from_be_bytes w64 (take 8 ys) → nat_cmp (from_be_bytes w64 (take 8 xs)) (from_be_bytes w64 (take 8 ys)) ≡ slice_cmp nat_cmp xs ys
   words_decide differ =
-      let one = word_worth (drop at xs) (rest xs a) in
-      let other = word_worth (drop at ys) (rest ys b) in
-      (λ i. nat_cmp (one i) (other i))
-      ∙ worths_decide weights fall (drop at xs) (drop at ys) (dropped at xs p) (dropped at ys q) (rest xs a) (rest ys b) (λ same. differ (one ∙ same ∙ sym other))
-      ∙ alike at xs ys e (omega arith) (omega arith)
+      let one = word_worth xs a in
+      let other = word_worth ys b in
+      (λ i. nat_cmp (one i) (other i)) ∙ worths_decide weights fall xs ys p q (omega arith) (omega arith) (λ same. differ (one ∙ same ∙ sym other))
 
-  -- where they are equal, more is equal
-  pub words_pass : word xs ≡ word ys → take (at + 8) xs ≡ take (at + 8) ys
+  -- where they are equal, what stands behind them does
+  pub words_pass : from_be_bytes w64 (take 8 xs) ≡ from_be_bytes w64 (take 8 ys) → slice_cmp nat_cmp (drop 8 xs) (drop 8 ys) ≡ slice_cmp nat_cmp xs ys
   words_pass same =
-      let own : (zs : List ℕ) → Bytes zs → at + 8 ≤ length zs → to_be_bytes w64 (word zs) ≡ take 8 (drop at zs)
-      = λ zs r l. be_bytes_8 (take 8 (drop at zs)) _ (length-take-le 8 (drop at zs) (rest zs l)) (taken 8 (drop at zs) (dropped at zs r)) refl in
-      let words = sym (own xs p a) ∙ ap (to_be_bytes w64) same ∙ own ys q b in
-      take-add at 8 xs ∙ (λ i. e i ++ words i) ∙ sym (take-add at 8 ys)
+      let own : (zs : List ℕ) → Bytes zs → 8 ≤ length zs → to_be_bytes w64 (from_be_bytes w64 (take 8 zs)) ≡ take 8 zs
+      = λ zs r l. be_bytes_8 (take 8 zs) _ (length-take-le 8 zs l) (taken 8 zs r) refl in
+      alike 8 xs ys (sym (own xs p a) ∙ ap (to_be_bytes w64) same ∙ own ys q b) a b

@@ -1,6 +1,6 @@
 //! The order of bytes. Keys of the log begin alike for long, so whole words are compared first.
 
-ghost use Rattle.std.specs.Prelude.{◌≡◌, ◌≤◌, ◌+◌, IfSome, length, take, drop};
+ghost use Rattle.std.specs.Prelude.{◌≡◌, ◌≤◌, IfSome, length, take, drop};
 ghost use Rattle.std.specs.Int.{w64, from_be_bytes};
 ghost use Rattle.std.specs.Ordering.{nat_cmp};
 ghost use Rattle.std.specs.Cmp.Lexicographic.{slice_cmp};
@@ -14,32 +14,34 @@ const WORD: usize = 8;
 pub(crate) fn compare_bytes(a: &[u8], b: &[u8]) -> Ordering
     ensures { result ≡ slice_cmp nat_cmp a.now b.now }
 {
-    let mut at = 0;
-    while let (Some(word), Some(other)) = (word_at(a, at), word_at(b, at)) {
+    let mut left = a;
+    let mut right = b;
+    while let (Some((word, rest)), Some((other, others))) = (split_word(left), split_word(right)) {
         if word != other {
             return word.cmp(&other);
         }
-        at += WORD;
+        left = rest;
+        right = others;
     }
-    compare_from(a, b, at)
+    compare_short(left, right)
 }
 
-/// The word that stands behind so many bytes, as a number that goes by the order of its bytes.
-fn word_at(bytes: &[u8], at: usize) -> Option<u64>
-    ensures within { IfSome result (λ word. at + 8 ≤ length bytes.now) }
-    ensures word { IfSome result (λ word. word ≡ from_be_bytes w64 (take 8 (drop at bytes.now))) }
+/// The first word, as a number that goes by the order of its bytes, and what stands behind it.
+#[inline(always)]
+fn split_word(bytes: &[u8]) -> Option<(u64, &[u8])>
+    ensures within { IfSome result (λ parts. 8 ≤ length bytes.now) }
+    ensures word { IfSome result (λ parts. parts.0 ≡ from_be_bytes w64 (take 8 bytes.now)) }
+    ensures rest { IfSome result (λ parts. parts.1.now ≡ drop 8 bytes.now) }
 {
-    let word = bytes.get(at..)?.first_chunk::<WORD>()?;
-    Some(u64::from_be_bytes(*word))
+    let (word, rest) = bytes.split_first_chunk::<WORD>()?;
+    Some((u64::from_be_bytes(*word), rest))
 }
 
-/// The order of bytes that are equal before a place.
-fn compare_from(a: &[u8], b: &[u8], from: usize) -> Ordering
-    requires within { (from ≤ length a.now) × (from ≤ length b.now) }
-    requires equal { take from a.now ≡ take from b.now }
+/// The order of bytes, one by one.
+fn compare_short(a: &[u8], b: &[u8]) -> Ordering
     ensures { result ≡ slice_cmp nat_cmp a.now b.now }
 {
-    for at in from..a.len().min(b.len()) {
+    for at in 0..a.len().min(b.len()) {
         if a[at] != b[at] {
             return a[at].cmp(&b[at]);
         }

@@ -1,6 +1,6 @@
 use Rattle.std.proofs.Common.{◌∙◌, arith}
 use Rattle.am_nflog.proofs.Orders.{first_decides, lengths_decide}
-use Rattle.am_nflog.proofs.order.compare_from.Goals as goal
+use Rattle.am_nflog.proofs.order.compare_short.Goals as goal
 
 pub returns-then-a-at : goal.returns-then-a-at
 returns-then-a-at c =
