@@ -8,7 +8,7 @@ use crate::connection::Readiness;
 use crate::exchange::Exchange;
 use crate::fault::LinkFault;
 use crate::peers::{address_of, vacant};
-use crate::queues::Queues;
+use crate::queues::PeerQueues;
 use crate::send_buffer::Progress;
 use crate::service::{PeerBytes, Service};
 use crate::source::Source;
@@ -20,15 +20,6 @@ use std::mem;
 use std::net::{Net, SocketAddr};
 use std::time::Instant;
 
-/// The queue of peers in the order in which the time of their exchanges is over.
-const BY_END: usize = 0;
-
-/// The queue of peers for whose exchanges there is more to do at once.
-const BUSY: usize = 1;
-
-/// How many queues there are.
-const QUEUES: usize = 2;
-
 /// The exchanges with the peers, one at a time with each.
 pub struct Exchanges<C> {
     alloc: Global,
@@ -38,7 +29,7 @@ pub struct Exchanges<C> {
     /// The most bytes that come back over one.
     most: usize,
     /// The peers of those that are open.
-    queues: Queues,
+    queues: PeerQueues,
 }
 
 // (so that a loop cites one drop, and doesn't prove those of all that is inside)
@@ -73,23 +64,23 @@ impl<C: Stream + Drop> Exchanges<C> {
             addresses: Vec::from_slice(alloc, addresses)?,
             open: vacant(alloc, addresses.len())?,
             most,
-            queues: Queues::new(alloc, QUEUES, count)?,
+            queues: PeerQueues::new(alloc, count)?,
         })
     }
 
     /// Whether no exchange is under way.
     pub fn is_empty(&self) -> bool {
-        self.queues.is_empty(BY_END)
+        self.queues.by_end.is_empty()
     }
 
     /// Whether there is more to do at once.
     pub fn is_busy(&self) -> bool {
-        !self.queues.is_empty(BUSY)
+        !self.queues.busy.is_empty()
     }
 
     /// When the next time of an exchange is over.
     pub fn next_end(&self) -> Option<Instant> {
-        let peer = self.queues.first(BY_END)?;
+        let peer = self.queues.by_end.first()?;
         match self.open.get(peer) {
             Some(Some(exchange)) => Some(exchange.end),
             _ => None,
@@ -99,7 +90,7 @@ impl<C: Stream + Drop> Exchanges<C> {
     /// A peer with which the time of the exchange is over by now.
     fn overdue(&self, now: Instant) -> Option<usize> {
         match self.next_end() {
-            Some(end) if end <= now => self.queues.first(BY_END),
+            Some(end) if end <= now => self.queues.by_end.first(),
             _ => None,
         }
     }
@@ -179,8 +170,8 @@ impl Exchanges<TcpStream> {
             return Err(LinkFault::NoPeer);
         };
         *open = Some(exchange);
-        self.queues.push(BY_END, peer);
-        self.queues.push(BUSY, peer);
+        self.queues.by_end.push(peer);
+        self.queues.busy.push(peer);
         Ok(())
     }
 
@@ -277,7 +268,7 @@ pub fn drive_exchange<S: Service, C: Stream + Drop>(
     }
     match exchanges.advance(peer, piece) {
         Ok(Progress::Going(Readiness::Idle)) => {}
-        Ok(Progress::Going(Readiness::Busy)) => exchanges.queues.push(BUSY, peer),
+        Ok(Progress::Going(Readiness::Busy)) => exchanges.queues.busy.push(peer),
         Ok(Progress::Done) => deliver_answer(exchanges, service, peer),
         Err(fault) => lose(exchanges, service, peer, fault),
     }
@@ -292,8 +283,8 @@ pub fn hear_all<S: Service, C: Stream + Drop>(
     ensures { (peers : List ℕ) × OneByOne (IsDriven C.coming C.gone S.answers S.loses (length piece.old)) peers
         service.old exchanges.old service.new exchanges.new }
 {
-    for _ in 0..exchanges.queues.len(BUSY) {
-        match exchanges.queues.pop(BUSY) {
+    for _ in 0..exchanges.queues.busy.len() {
+        match exchanges.queues.busy.pop() {
             Some(peer) => drive_exchange(exchanges, service, peer, piece),
             None => break,
         }
@@ -336,7 +327,7 @@ pub fn give_up_all<S: Service, C: Stream + Drop>(exchanges: &mut Exchanges<C>, s
     ensures { (peers : List ℕ) × OneByOne (IsTimedOut S.loses) peers service.old exchanges.old service.new exchanges.new }
 {
     for _ in 0..u16::MAX {
-        match exchanges.queues.first(BY_END) {
+        match exchanges.queues.by_end.first() {
             Some(peer) => time_out_exchange(exchanges, service, peer),
             None => break,
         }
