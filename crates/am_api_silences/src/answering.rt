@@ -1,9 +1,12 @@
 //! What requests are answered.
 
-ghost use Rattle.std.specs.Prelude.{◌≡◌, Ok, Err};
-ghost use Rattle.am_instance.specs.Sendings.{nothing_sent};
+ghost use Rattle.std.specs.Prelude.{◌≡◌};
+ghost use Rattle.am_instance.specs.Sendings.{nothing_sent, sent_by};
 ghost use Rattle.am_instance.specs.InstanceStates.{InstanceState};
-ghost use Rattle.am_api_silences.specs.Answers.{WhenMade, ComesOf, IsAnswered, IsTurnedAway, TellsStep};
+ghost use Rattle.am_api_silences.specs.Answers.{WhenMade, IsErrorBytes, IsRefusalAnswer, IsRequestAnswer, IsStepAnswer};
+ghost use Rattle.am_api_silences.specs.PendingReply.{Makes};
+ghost use Rattle.am_api_silences.specs.Replies.{IsReplyBytes, Says};
+ghost use Rattle.am_api_silences.specs.declared.pending_reply.PendingReply.TheVariants as makings;
 
 use crate::events::event_by;
 use crate::pending_reply::{PendingReply, make};
@@ -23,7 +26,8 @@ pub struct PendingAnswer {
 
 /// An answer whose reply is whole already, and with which nothing is sent.
 fn quiet(alloc: Global, reply: ReplyBytes) -> PendingAnswer
-    ensures { WhenMade (λ answered. answered ≡ record { reply = reply; sent = nothing_sent }) result }
+    ensures making { result.making ≡ makings.Whole reply }
+    ensures sent { result.outbox ≡ nothing_sent }
 {
     PendingAnswer {
         making: PendingReply::Whole(reply),
@@ -33,14 +37,15 @@ fn quiet(alloc: Global, reply: ReplyBytes) -> PendingAnswer
 
 /// The answer to a request that is refused before its step.
 pub fn refuse(alloc: Global, refusal: &Refusal) -> PendingAnswer
-    ensures { (stand : InstanceState) → WhenMade (λ answered. IsTurnedAway refusal.now stand answered stand) result }
+    ensures { (stand : InstanceState) → WhenMade (λ answered. IsRefusalAnswer refusal.now stand answered stand) result }
 {
     quiet(alloc, tell(alloc, Err(refusal)))
 }
 
 /// The answer to a request whose step was made.
 fn done(alloc: Global, outcome: Outcome) -> PendingAnswer
-    ensures { WhenMade (TellsStep (Ok outcome)) result }
+    ensures reply { Makes (Says (IsReplyBytes outcome.reply)) result.making }
+    ensures sent { result.outbox ≡ sent_by outcome }
 {
     let (reply, outbox) = outcome.into_parts();
     PendingAnswer {
@@ -51,7 +56,8 @@ fn done(alloc: Global, outcome: Outcome) -> PendingAnswer
 
 /// The answer to a request whose step was refused.
 fn stopped(alloc: Global, error: StepError) -> PendingAnswer
-    ensures { WhenMade (TellsStep (Err error)) result }
+    ensures reply { Makes (Says (IsErrorBytes error)) result.making }
+    ensures sent { result.outbox ≡ nothing_sent }
 {
     match error {
         StepError::MomentBack { .. } => {
@@ -64,7 +70,7 @@ fn stopped(alloc: Global, error: StepError) -> PendingAnswer
 
 /// Makes the step of an event, and begins to answer it.
 fn step(alloc: Global, instance: &mut Instance, event: Event, now: Moment) -> PendingAnswer
-    ensures { WhenMade (λ answered. ComesOf (Ok event) instance.old now answered instance.new) result }
+    ensures { WhenMade (λ answered. IsStepAnswer event instance.old now answered instance.new) result }
 {
     match instance.step(event, now) {
         Ok(outcome) => done(alloc, outcome),
@@ -85,7 +91,7 @@ pub fn begin_answer(
     now: Moment,
 ) -> PendingAnswer
     // PROMISE: A request is answered by one step and that step's reply, or refused with nothing changed.
-    ensures { WhenMade (λ answered. IsAnswered instance.old request.now bits now answered instance.new) result }
+    ensures { WhenMade (λ answered. IsRequestAnswer instance.old request.now bits now answered instance.new) result }
 {
     match event_by(alloc, instance.patterns(), request, bits) {
         Ok(event) => step(alloc, instance, event, now),

@@ -1,6 +1,6 @@
 -- What is replied, one call after the other.
 use Rattle.std.proofs.Common.{◌≡◌, ◌∙◌, [], None, inl, inr, refl, sym, subst, ap}
-use Rattle.am_api_silences.specs.Answers.{IsTurnedAway, WhenMade}
+use Rattle.am_api_silences.specs.Answers.{IsRefusalAnswer, WhenMade}
 use Rattle.am_api_silences.specs.PendingReply.{IsMadeOf, Makes}
 use Rattle.am_api_silences.specs.Replies.{Says, line_bytes}
 use Rattle.am_api_silences.specs.Table.{memory_line}
@@ -59,7 +59,7 @@ says_line line (Fixed bytes) says = (memory_line, says)
 no_instance : InstanceState
 no_instance = record { config = record { members = []; place = 0; retention = 0; peer_timeout = 0 }; silences = []; log = []; last = 0 }
 
-pub line_made : (refusal : Refusal) (begun : PendingAnswer) (reply : ReplyBytes) → ((stand : InstanceState) → WhenMade (λ answered. IsTurnedAway refusal stand answered stand) begun)
+pub line_made : (refusal : Refusal) (begun : PendingAnswer) (reply : ReplyBytes) → ((stand : InstanceState) → WhenMade (λ answered. IsRefusalAnswer refusal stand answered stand) begun)
     → IsMadeOf begun.making reply → IsLine reply
 line_made refusal begun reply refused made = says_line (line_seen refusal) reply (refused no_instance reply made).says
 

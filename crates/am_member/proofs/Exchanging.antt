@@ -1,7 +1,7 @@
 -- What comes of what a connection said.
 use Rattle.std.proofs.Common.{◌≡◌, inl, inr, ℕ, List, Option, None, Some, Result, Ok, Err, refl, sym, subst}
 use Rattle.std.specs.Prelude.{option_map}
-use Rattle.am_api_silences.specs.Answers.{WhenMade, IsAnswered, IsTurnedAway, with_reply as answered_with}
+use Rattle.am_api_silences.specs.Answers.{WhenMade, IsRefusalAnswer, IsRequestAnswer, with_reply as answered_with}
 use Rattle.am_api_silences.specs.declared.answering.PendingAnswer.{PendingAnswer}
 use Rattle.am_gossip.specs.declared.frame.Frame.{Frame}
 use Rattle.am_http.specs.declared.refusal.Refusal.{Refusal}
@@ -17,20 +17,20 @@ use Rattle.am_member.specs.declared.session_answer.SessionAnswer.{SessionAnswer}
 use Rattle.am_peers.specs.declared.fault.Fault.{Fault}
 use Rattle.am_peers.specs.declared.fault.Fault.TheVariants.{Read as InRead, Write, TooLarge, Frame as InFrame, UnknownName, Step}
 use Rattle.am_member.specs.Incoming.{no_effects}
-use Rattle.am_member.specs.Exchanging.{AreHeard, AreStepped, WhenFinished, IsAnsweredTo, IsHandedOn, fault_heard, left_at, with_reply}
+use Rattle.am_member.specs.Exchanging.{AreHeard, AreStepped, WhenFinished, IsReadAnswer, IsHandedOn, fault_heard, left_at, with_reply}
 
 module _ (read : Read) (bits now : ℕ) (old new : InstanceState) (exchanged : SessionAnswer) where
-  pub whole_answered : (request : Request) (begun : PendingAnswer) → read ≡ Whole request → WhenMade (λ answered. IsAnswered old request bits now answered new) begun →
-      WhenFinished (IsHandedOn begun) exchanged → WhenFinished (IsAnsweredTo read bits now old new) exchanged
+  pub whole_answered : (request : Request) (begun : PendingAnswer) → read ≡ Whole request → WhenMade (λ answered. IsRequestAnswer old request bits now answered new) begun →
+      WhenFinished (IsHandedOn begun) exchanged → WhenFinished (IsReadAnswer read bits now old new) exchanged
   whole_answered request begun is done handed = λ reply finished.
       let on = handed reply finished in
-      subst (λ (r : Read). IsAnsweredTo r bits now old new (with_reply exchanged reply)) (sym is) (answered_with begun on.0, done on.0 on.1, on.2)
+      subst (λ (r : Read). IsReadAnswer r bits now old new (with_reply exchanged reply)) (sym is) (answered_with begun on.0, done on.0 on.1, on.2)
 
-  pub refused_answered : (refusal : Refusal) (begun : PendingAnswer) → read ≡ Refused refusal → WhenMade (λ answered. IsTurnedAway refusal old answered new) begun →
-      WhenFinished (IsHandedOn begun) exchanged → WhenFinished (IsAnsweredTo read bits now old new) exchanged
+  pub refused_answered : (refusal : Refusal) (begun : PendingAnswer) → read ≡ Refused refusal → WhenMade (λ answered. IsRefusalAnswer refusal old answered new) begun →
+      WhenFinished (IsHandedOn begun) exchanged → WhenFinished (IsReadAnswer read bits now old new) exchanged
   refused_answered refusal begun is done handed = λ reply finished.
       let on = handed reply finished in
-      subst (λ (r : Read). IsAnsweredTo r bits now old new (with_reply exchanged reply)) (sym is) (answered_with begun on.0, done on.0 on.1, on.2)
+      subst (λ (r : Read). IsReadAnswer r bits now old new (with_reply exchanged reply)) (sym is) (answered_with begun on.0, done on.0 on.1, on.2)
 
 -- a fault of the session itself is none at which the member stops it
 pub heard_fault : (fault : Option SessionFault) (standing : Standing) → left_at (option_map fault_heard fault) standing ≡ standing

@@ -1,5 +1,5 @@
 -- A reply that is being made is finished with some reply, and that its step was made doesn't hang on which.
-use Rattle.std.proofs.Common.{◌≡◌, ℕ, List, Option, None, Some, refl}
+use Rattle.std.proofs.Common.{Option, None, Some, refl}
 use Rattle.am_api_silences.specs.PendingReply.{IsMadeOf}
 use Rattle.am_api_silences.specs.Replies.{memory_bytes}
 use Rattle.am_api_silences.specs.declared.pending_reply.PendingReply.{PendingReply}

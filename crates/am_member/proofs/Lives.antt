@@ -1,5 +1,5 @@
 -- What comes of the turns of a member.
-use Rattle.std.proofs.Common.{◌≡◌, ◌⊎◌, inl, inr, ℕ, ◌++◌, Bool, true, List, [], ◌∷◌, map, Option, None, Some, Result, Ok, Err, refl, sym, subst, ap, ◌∙◌, append_assoc, append-nil}
+use Rattle.std.proofs.Common.{◌≡◌, ◌⊎◌, inl, inr, ℕ, ◌++◌, Bool, true, List, [], ◌∷◌, map, Option, None, Some, Result, Ok, Err, IfOk, IfErr, refl, sym, subst, ap, ◌∙◌, append_assoc, append-nil}
 use Rattle.std.proofs.lemmas.List.{map-append}
 use Rattle.std.proofs.lemmas.Option.{none-some}
 use Rattle.std.specs.List.{AllByRecursion}
@@ -14,7 +14,7 @@ use Rattle.am_refusals.specs.declared.error.StepError.{StepError}
 use Rattle.am_instance.specs.declared.event.Event.{Event}
 use Rattle.am_instance.specs.declared.event.Event.TheVariants as events
 use Rattle.am_instance.specs.declared.reply.Outcome.{Outcome}
-use Rattle.am_api_silences.specs.Answers.{Answered, ComesOf}
+use Rattle.am_api_silences.specs.Answers.{Answered, IsRefusalAnswer, IsStepAnswer}
 use Rattle.am_api_silences.specs.declared.replies.ReplyBytes.{ReplyBytes}
 use Rattle.am_http.specs.declared.session.fault.SessionFault.{SessionFault}
 use Rattle.am_http.specs.Sessions.{Standing, name_of}
@@ -24,7 +24,7 @@ use Rattle.am_peers.specs.declared.fault.Fault.TheVariants.{Read as InRead, Writ
 use Rattle.am_member.specs.declared.session_answer.StepEffects.{StepEffects}
 use Rattle.am_member.specs.Incoming.{MakesAll, StopsAt, no_effects}
 use Rattle.am_member.proofs.Finished.{finish_where}
-use Rattle.am_member.specs.Exchanging.{Answer, AreHeard, AreStepped, IsAnsweredTo, IsFromNobody, IsSessionAnswer, MakesNamed, is_stopped, with_reply}
+use Rattle.am_member.specs.Exchanging.{Answer, AreHeard, AreStepped, IsReadAnswer, IsFromNobody, IsSessionAnswer, MakesNamed, is_stopped, with_reply}
 use Rattle.am_member.specs.Lives.{AreEventsOf, AreEventsOfFrames, AreEventsOfRead, AreStepsOf, AreStepsOfAll, Deed, IsLife, IsTurn, Turn, listed, standings_after}
 use Rattle.am_member.specs.Lives.Deed.{Served, Own}
 
@@ -183,18 +183,19 @@ record ReadSteps (read : Read) (bits now : ℕ) (stopped : Bool) (old new : Inst
   steps : (steps : List Happened) × AreStepsUpTo now asked stopped old steps new
 
 -- what it means is one step or none
-meant_steps : (meant : Result Event Refusal) (now : ℕ) (stopped : Bool) (old : InstanceState) (answered : Answered) (new : InstanceState) → ComesOf meant old now answered new →
+meant_steps : (meant : Result Event Refusal) (now : ℕ) (stopped : Bool) (old : InstanceState) (answered : Answered) (new : InstanceState) →
+    IfErr meant (λ refusal. IsRefusalAnswer refusal old answered new) → IfOk meant (λ event. IsStepAnswer event old now answered new) →
     (steps : List Happened) × AreStepsUpTo now (listed meant) stopped old steps new
-meant_steps (Ok event) now stopped old answered new comes =
-    whole_steps now (event ∷ []) stopped old new (step_before now event [] comes.0 old new new comes.1 (none_at now new new refl))
-meant_steps (Err refusal) now stopped old answered new comes = whole_steps now [] stopped old new (none_at now old new comes.same)
+meant_steps (Ok event) now stopped old answered new refused stepped =
+    whole_steps now (event ∷ []) stopped old new (step_before now event [] stepped.step old new new stepped.made (none_at now new new refl))
+meant_steps (Err refusal) now stopped old answered new refused stepped = whole_steps now [] stopped old new (none_at now old new refused.same)
 
-read_steps : (read : Read) (bits now : ℕ) (stopped : Bool) (old new : InstanceState) (answer : Answer) → IsAnsweredTo read bits now old new answer →
+read_steps : (read : Read) (bits now : ℕ) (stopped : Bool) (old new : InstanceState) (answer : Answer) → IsReadAnswer read bits now old new answer →
     ReadSteps read bits now stopped old new
 read_steps (Whole request) bits now stopped old new answer done = record {
-  asked = listed done.1.0;
-  are = (done.1.0, done.1.1, refl);
-  steps = meant_steps done.1.0 now stopped old done.0 new done.1.2;
+  asked = listed done.1.meant;
+  are = (done.1.meant, done.1.means, refl);
+  steps = meant_steps done.1.meant now stopped old done.0 new done.1.refused done.1.stepped;
 }
 read_steps (Refused refusal) bits now stopped old new answer done =
     record { asked = []; are = refl; steps = whole_steps now [] stopped old new (none_at now old new done.1.same) }

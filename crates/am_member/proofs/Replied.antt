@@ -1,5 +1,5 @@
 -- What is replied in a turn, by what is shown.
-use Rattle.std.proofs.Common.{◌≡◌, ◌≤◌, inl, inr, ℕ, true, List, Result, Ok, Err}
+use Rattle.std.proofs.Common.{◌≡◌, ◌≤◌, inl, inr, ℕ, true, List, Result, Ok, Err, IfOk, IfErr}
 use Rattle.am_silence.specs.Mesh.{Mesh}
 use Rattle.am_nflog.specs.Mesh.{Mesh as LogMesh}
 use Rattle.am_http.specs.declared.refusal.Refusal.{Refusal}
@@ -14,11 +14,11 @@ use Rattle.am_instance.specs.declared.event.Event.{Event}
 use Rattle.am_instance.specs.declared.reply.Made.{Made}
 use Rattle.am_instance.specs.declared.reply.Outcome.{Outcome}
 use Rattle.am_instance.specs.declared.reply.Reply.{Reply}
-use Rattle.am_api_silences.specs.Answers.{Answered, ComesOf, IsErrorBytes, TellsStep}
+use Rattle.am_api_silences.specs.Answers.{Answered, IsErrorBytes, IsRefusalAnswer, IsStepAnswer}
 use Rattle.am_api_silences.specs.Replies.{IsReplyBytes, Says}
 use Rattle.am_api_silences.specs.declared.replies.ReplyBytes.{ReplyBytes}
 use Rattle.am_api_silences.specs.declared.replies.ReplyBytes.TheVariants.{Own, Fixed}
-use Rattle.am_member.specs.Exchanging.{Answer, IsAnsweredTo}
+use Rattle.am_member.specs.Exchanging.{Answer, IsReadAnswer}
 use Rattle.am_http.specs.declared.request.Read.TheVariants.{Whole}
 use Rattle.am_member.specs.Lives.{IsBareAnswer, IsBareBytes, RepliesBare}
 
@@ -39,28 +39,30 @@ RepliesAsSets silences log stand = (event : Event) (now : ℕ) (reply : Reply) (
     IsBareReply silences log event now reply
 
 -- a step tells what they reply
-step_bare : (silences : List Mesh) (log : List LogMesh) (stand new : InstanceState) (event : Event) (now : ℕ) (step : Result Outcome StepError) (answered : Answered) →
-    RepliesAsSets silences log stand → IsStep stand event now step new → TellsStep step answered → asks_shown event ≡ true →
-    Says (IsBareBytes silences log event now) answered.reply
-step_bare silences log stand new event now (Ok outcome) answered sets made tells asks =
+step_bare : (silences : List Mesh) (log : List LogMesh) (stand new : InstanceState) (event : Event) (now : ℕ) (step : Result Outcome StepError) (reply : ReplyBytes) →
+    RepliesAsSets silences log stand → IsStep stand event now step new → IfOk step (λ outcome. Says (IsReplyBytes outcome.reply) reply) → IfErr step (λ error. Says (IsErrorBytes error) reply) →
+    asks_shown event ≡ true → Says (IsBareBytes silences log event now) reply
+step_bare silences log stand new event now (Ok outcome) reply sets made replied refused asks =
     weaker (IsReplyBytes outcome.reply) (IsBareBytes silences log event now)
     (λ bytes is. inl (outcome.reply, sets event now outcome.reply outcome.made made.accepted.forward asks made.reply, is))
-    answered.reply tells.0
-step_bare silences log stand new event now (Err error) answered sets made tells asks =
-    weaker (IsErrorBytes error) (IsBareBytes silences log event now) (error_bare silences log event now error) answered.reply tells.0
+    reply replied
+step_bare silences log stand new event now (Err error) reply sets made replied refused asks =
+    weaker (IsErrorBytes error) (IsBareBytes silences log event now) (error_bare silences log event now error) reply refused
 
-comes_bare : (silences : List Mesh) (log : List LogMesh) (stand new : InstanceState) (meant : Result Event Refusal) (now : ℕ) (answered : Answered) →
-    RepliesAsSets silences log stand → ComesOf meant stand now answered new → RepliesBare silences log meant now answered.reply
-comes_bare silences log stand new (Ok event) now answered sets comes = λ asks. step_bare silences log stand new event now comes.0 answered sets comes.1 comes.2 asks
-comes_bare silences log stand new (Err refusal) now answered sets comes = comes.says
+meant_bare : (silences : List Mesh) (log : List LogMesh) (stand new : InstanceState) (meant : Result Event Refusal) (now : ℕ) (answered : Answered) →
+    RepliesAsSets silences log stand → IfErr meant (λ refusal. IsRefusalAnswer refusal stand answered new) → IfOk meant (λ event. IsStepAnswer event stand now answered new) →
+    RepliesBare silences log meant now answered.reply
+meant_bare silences log stand new (Ok event) now answered sets refused stepped =
+    λ asks. step_bare silences log stand new event now stepped.step answered.reply sets stepped.made stepped.replied stepped.refused asks
+meant_bare silences log stand new (Err refusal) now answered sets refused stepped = refused.says
 
 -- the answer to a request
 pub answer_bare : (silences : List Mesh) (log : List LogMesh) (stand new : InstanceState) (request : Request) (bits now : ℕ) (answer : Answer) →
-    RepliesAsSets silences log stand → IsAnsweredTo (Whole request) bits now stand new answer → IsBareAnswer silences log request bits now answer
+    RepliesAsSets silences log stand → IsReadAnswer (Whole request) bits now stand new answer → IsBareAnswer silences log request bits now answer
 answer_bare silences log stand new request bits now answer sets done = record {
   reply = done.0.reply;
   is = done.2.reply;
-  meant = done.1.0;
-  means = done.1.1;
-  replied = comes_bare silences log stand new done.1.0 now done.0 sets done.1.2;
+  meant = done.1.meant;
+  means = done.1.means;
+  replied = meant_bare silences log stand new done.1.meant now done.0 sets done.1.refused done.1.stepped;
 }

@@ -3,13 +3,13 @@ use Rattle.std.specs.Prelude.{◌≡◌, ◌≢◌, ◌⊎◌, ℕ, Bool, true, 
 use Rattle.am_api_silences.specs.declared.answering.PendingAnswer.{PendingAnswer}
 use Rattle.am_api_silences.specs.declared.pending_reply.PendingReply.{PendingReply}
 use Rattle.am_api_silences.specs.declared.replies.ReplyBytes.{ReplyBytes}
-use Rattle.am_api_silences.specs.Answers.{Answered, IsAnswerTo, with_reply as answered_with}
+use Rattle.am_api_silences.specs.Answers.{Answered, IsRefusalAnswer, IsRequestAnswer, with_reply as answered_with}
 use Rattle.am_api_silences.specs.Events.{IsCall}
 use Rattle.am_api_silences.specs.PendingReply.{IsMadeOf}
 use Rattle.am_gossip.specs.declared.frame.Frame.{Frame}
 use Rattle.am_http.specs.declared.cause.Cause.{Cause}
 use Rattle.am_http.specs.declared.request.Read.{Read}
-use Rattle.am_http.specs.declared.request.Read.TheVariants.{More, Whole}
+use Rattle.am_http.specs.declared.request.Read.TheVariants.{More, Whole, Refused}
 use Rattle.am_http.specs.declared.routes.Call.{Call}
 use Rattle.am_http.specs.declared.routes.Call.TheVariants.{List as ListCall}
 use Rattle.am_instance.specs.Configs.{Settings}
@@ -65,11 +65,13 @@ pub record IsReplied (answered : Answered) (answer : Answer) : Type 0 where
 abbrev pub IsHandedOn : PendingAnswer → Answer → Type 0
 IsHandedOn begun answer = (reply : ReplyBytes) × IsMadeOf begun.making reply × IsReplied (answered_with begun reply) answer
 
--- what was read is answered; nothing is where it decides nothing yet
-abbrev pub IsAnsweredTo : Read → ℕ → ℕ → InstanceState → InstanceState → Answer → Type 0
-IsAnsweredTo More bits now old new answer = IsUntouched old new answer
-IsAnsweredTo read bits now old new answer =
-    (answered : Answered) × IsAnswerTo read old bits now answered new × IsReplied answered answer
+-- what was read is answered: a request by what it means, another by why it is refused; nothing is where it decides nothing yet
+abbrev pub IsReadAnswer : Read → ℕ → ℕ → InstanceState → InstanceState → Answer → Type 0
+IsReadAnswer (Whole request) bits now old new answer =
+    (answered : Answered) × IsRequestAnswer old request bits now answered new × IsReplied answered answer
+IsReadAnswer (Refused refusal) bits now old new answer =
+    (answered : Answered) × IsRefusalAnswer refusal old answered new × IsReplied answered answer
+IsReadAnswer More bits now old new answer = IsUntouched old new answer
 
 -- ---- frames
 
@@ -116,7 +118,7 @@ AreHeard name now frames fault old new effects told =
 -- What comes of what a connection with this name said: of a request its answer, else the steps of the frames. (A session never
 -- says both.)
 pub record IsSessionAnswer (name : Option (List ℕ)) (bits now : ℕ) (said : Spoken) (old new : InstanceState) (answer : Answer) : Type 0 where
-  pub asked : (read : Read) → said.request ≡ Some read → IsAnsweredTo read bits now old new answer
+  pub asked : (read : Read) → said.request ≡ Some read → IsReadAnswer read bits now old new answer
   pub heard : said.request ≡ None →
       (answer.reply ≡ None) × AreHeard name now said.frames said.fault old new answer.effects answer.fault
 

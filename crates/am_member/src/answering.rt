@@ -3,7 +3,7 @@
 ghost use Rattle.std.specs.Prelude.{◌≡◌, None, option_map};
 ghost use Rattle.std.specs.Option.{option_copied};
 ghost use Rattle.am_http.specs.Sessions.{name_of, spoken};
-ghost use Rattle.am_member.specs.Exchanging.{AreHeard, AreStepped, WhenFinished, IsAnsweredTo, IsListRequest, IsSessionAnswer, IsHandedOn, fault_heard, is_list, left_at};
+ghost use Rattle.am_member.specs.Exchanging.{AreHeard, AreStepped, WhenFinished, IsListRequest, IsReadAnswer, IsSessionAnswer, IsHandedOn, fault_heard, is_list, left_at};
 
 use crate::sender::peer_named;
 use crate::session_answer::{SessionAnswer, StepEffects};
@@ -41,7 +41,7 @@ fn reply_to(
     bits: u128,
     now: Moment,
 ) -> SessionAnswer
-    ensures answered { WhenFinished (IsAnsweredTo read bits now instance.old instance.new) result }
+    ensures answered { WhenFinished (IsReadAnswer read bits now instance.old instance.new) result }
     ensures no_fault { result.fault ≡ None }
 {
     match read {

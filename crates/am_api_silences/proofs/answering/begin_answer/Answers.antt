@@ -1,5 +1,18 @@
-use Rattle.std.proofs.Common.{Err}
+use Rattle.std.proofs.Common.{Ok, Err}
 use Rattle.am_api_silences.proofs.answering.begin_answer.Goals as goal
 
+pub returns-in-Ok : goal.returns-in-Ok
+returns-in-Ok c = λ reply made. record {
+  meant = Ok c.in-Ok.event;
+  means = c.in-Ok.ensures;
+  refused = tt;
+  stepped = c.step.ensures reply made;
+}
+
 pub returns-in-Err : goal.returns-in-Err
-returns-in-Err c = λ reply made. (Err c.in-Err.refusal, c.in-Err.ensures, c.refuse.ensures c.args.instance.now reply made)
+returns-in-Err c = λ reply made. record {
+  meant = Err c.in-Err.refusal;
+  means = c.in-Err.ensures;
+  refused = c.refuse.ensures c.args.instance.now reply made;
+  stepped = tt;
+}
