@@ -6,7 +6,7 @@ use Rattle.am_instance.specs.InstanceStates.{InstanceState}
 use Rattle.am_instance.specs.Laws.{Happened}
 use Rattle.am_instance.specs.OneStep.{IsStep}
 use Rattle.am_member.specs.declared.session_answer.SessionAnswer.{SessionAnswer}
-use Rattle.am_member.specs.Exchanging.{IsSessionAnswer, WhenFinished, left_at}
+use Rattle.am_member.specs.Exchanging.{IsSessionAnswer, left_at}
 use Rattle.am_member.specs.Lives.{IsOwnEvent}
 use Rattle.am_member.specs.Sparing.{spared}
 use Rattle.am_dialogue.specs.Talks.{Closes, IsElsewhere, IsRequest, Keeps, KeepsBy, KeepsGone, Saying, Talk, WaitsNoMore}
@@ -38,7 +38,7 @@ pub record IsTaken (said : Spoken) (old : InstanceState) (talk : Talk) (new : In
   pub bits : ℕ
   pub now : ℕ
   pub answer : SessionAnswer
-  pub exchanged : WhenFinished (IsSessionAnswer (name_of talk.session) bits now (spared said) old new) answer
+  pub exchanged : IsSessionAnswer (name_of talk.session) bits now (spared said) old new answer
   pub way : talk'.way ≡ talk.way
   pub session : talk'.session ≡ left_at answer.fault talk.session
   pub waiting : WaitsNoMore talk talk'

@@ -28,14 +28,11 @@ use Rattle.am_http.specs.Sessions.{Feeds, Greets, Hears as HearsPiece, IsAsked, 
 use Rattle.am_http.specs.Sessions.Standing.{fresh, InRequest, InGreeting, InFrames, over}
 use Rattle.am_instance.specs.InstanceStates.{InstanceState}
 use Rattle.am_instance.specs.Laws.{Happened}
-use Rattle.am_member.specs.declared.session_answer.StepEffects.{StepEffects}
 use Rattle.am_api_silences.specs.Replies.{bytes_of as reply_bytes}
 use Rattle.am_api_silences.specs.declared.pending_reply.PendingReply.{PendingReply}
-use Rattle.am_api_silences.specs.declared.replies.ReplyBytes.{ReplyBytes}
-use Rattle.am_member.proofs.Finished.{finish_where}
 use Rattle.am_member.specs.declared.session_answer.SessionAnswer.{SessionAnswer}
-use Rattle.am_member.specs.Exchanging.{Answer, AreHeard, AreStepped, IsFinished, IsSessionAnswer, MakesNamed, WhenFinished, left_at, with_reply}
-use Rattle.am_member.specs.Incoming.{no_effects}
+use Rattle.am_member.specs.Exchanging.{AreStepped, IsSessionAnswer, left_at}
+use Rattle.am_member.specs.Incoming.{SoFar, no_effects, so_far}
 use Rattle.am_member.specs.Lives.{Came, Deed as LifeDeed, IsGreetedBy, IsLife, Tells, Turn, bytes_in, bytes_of, turns_of}
 use Rattle.am_member.specs.Lives.Came.{Heard, Fed as FedAnyhow, AtEnd, Opened}
 use Rattle.am_member.specs.Lives.Deed.{Served, Own}
@@ -176,26 +173,20 @@ nil_parts : (frame : Frame) (made others : List Frame) → [] ≡ made ++ frame 
 nil_parts frame [] others e = cc
 nil_parts frame (first ∷ made) others e = cc
 
-stepped_nothing : (name : Option (List ℕ)) (now : ℕ) (old new : InstanceState) (effects : StepEffects) → MakesNamed name now [] old no_effects new effects → new ≡ old
-stepped_nothing None now old new effects made = made.1
-stepped_nothing (Some name) now old new effects made = made.2.0
+stepped_nothing : (name : Option (List ℕ)) (now : ℕ) (start end : SoFar) (steps : Result Unit Fault) → AreStepped name now [] start end steps → end ≡ start
+stepped_nothing name now start end (Ok _) stepped = stepped.2
+stepped_nothing name now start end (Err UnknownName) stepped = stepped.1
+stepped_nothing name now start end (Err (Step error)) stepped = absurd (nil_parts stepped.2.frame stepped.2.made stepped.2.others stepped.2.frames_are)
+stepped_nothing name now start end (Err (InRead at)) stepped = absurd stepped
+stepped_nothing name now start end (Err (Write written)) stepped = absurd stepped
+stepped_nothing name now start end (Err TooLarge) stepped = absurd stepped
+stepped_nothing name now start end (Err (InFrame error)) stepped = absurd stepped
 
-stopped_nothing : (name : Option (List ℕ)) (now : ℕ) (old new : InstanceState) (effects : StepEffects) (stop : Fault) → AreStepped name now [] old no_effects new effects (Err stop) → new ≡ old
-stopped_nothing name now old new effects UnknownName stepped = stepped.1
-stopped_nothing name now old new effects (Step error) stepped = absurd (nil_parts stepped.2.frame stepped.2.made stepped.2.others stepped.2.frames_are)
-stopped_nothing name now old new effects (InRead at) stepped = absurd stepped
-stopped_nothing name now old new effects (Write written) stepped = absurd stepped
-stopped_nothing name now old new effects TooLarge stepped = absurd stepped
-stopped_nothing name now old new effects (InFrame error) stepped = absurd stepped
-
-heard_nothing : (name : Option (List ℕ)) (now : ℕ) (fault : Option SessionFault) (old new : InstanceState) (effects : StepEffects) (told : Option Fault) →
-    AreHeard name now [] fault old new effects told → new ≡ old
-heard_nothing name now fault old new effects told (inl all) = stepped_nothing name now old new effects all.0
-heard_nothing name now fault old new effects told (inr stops) = stopped_nothing name now old new effects stops.0 stops.1
-
-exchanged_nothing : (name : Option (List ℕ)) (bits now : ℕ) (fault : Option SessionFault) (old new : InstanceState) (answer : Answer) →
+exchanged_nothing : (name : Option (List ℕ)) (bits now : ℕ) (fault : Option SessionFault) (old new : InstanceState) (answer : SessionAnswer) →
     IsSessionAnswer name bits now (spared (heard [] fault)) old new answer → new ≡ old
-exchanged_nothing name bits now fault old new answer done = heard_nothing name now fault old new answer.effects answer.fault (done.heard refl).1
+exchanged_nothing name bits now fault old new answer done =
+    let said = done.heard refl in
+    ap (λ (s : SoFar). s.instance) (stepped_nothing name now (so_far old no_effects) (so_far new answer.effects) said.steps said.stepped)
 
 -- it is heard on, or no more
 left_rests : (fault : Option Fault) (s : Standing) → (left_at fault s ≡ s) ⊎ (left_at fault s ≡ over (name_of s))
@@ -211,25 +202,13 @@ no_more : (talk talk' : Talk) → talk.waiting ≡ None → WaitsNoMore talk tal
 no_more talk talk' none (inl same) = same ∙ none
 no_more talk talk' none (inr is) = is
 
--- a reply is begun where a request was said alone
-begun_where : (name : Option (List ℕ)) (bits now : ℕ) (said : Spoken) (old new : InstanceState) (answer : SessionAnswer) (reply : Option PendingReply) (whole : Option ReplyBytes)
-    → IsFinished reply whole → IsSessionAnswer name bits now (spared said) old new (with_reply answer whole) → said.request ≡ None → reply ≡ None
-begun_where name bits now said old new answer None whole finished done none = refl
-begun_where name bits now said old new answer (Some begun) None finished done none = absurd finished
-begun_where name bits now said old new answer (Some begun) (Some reply) finished done none = absurd (none-some reply (sym (done.heard none).0))
-
-silent_answer : (name : Option (List ℕ)) (bits now : ℕ) (said : Spoken) (old new : InstanceState) (answer : SessionAnswer)
-    → WhenFinished (IsSessionAnswer name bits now (spared said) old new) answer → said.request ≡ None → answer.reply ≡ None
-silent_answer name bits now said old new answer done none =
-    let whole = finish_where answer.reply in begun_where name bits now said old new answer answer.reply whole.0 whole.1 (done whole.0 whole.1) none
-
 -- nothing is replied that wasn't
 unsaid : (reply : Option PendingReply) (old new : Saying) → reply ≡ None → SaysBy reply old new → new ≡ old
 unsaid reply old new none says = subst (λ (r : Option PendingReply). SaysBy r old new) none says
 
 taken_lasts : (said : Spoken) (old new : InstanceState) (talk talk' : Talk) → said.request ≡ None → talk.waiting ≡ None → IsTaken said old talk new talk' → Lasts talk talk'
 taken_lasts said old new talk talk' silent none taken =
-    let same = unsaid taken.answer.reply talk.saying talk'.saying (silent_answer (name_of talk.session) taken.bits taken.now said old new taken.answer taken.exchanged silent) taken.saying in
+    let same = unsaid taken.answer.reply talk.saying talk'.saying (taken.exchanged.heard silent).silent taken.saying in
     elim (left_rests taken.answer.fault talk.session) [
       | inl on ↦ inl (record {
         stays = record { way = taken.way; session = taken.session ∙ on; waiting = taken.waiting };
@@ -252,12 +231,11 @@ left_keeps said old new talk talk' silent left = elim left.saying [
 
 silent_alone : (fault : Option SessionFault) (said : Spoken) (old new : InstanceState) (talk talk' : Talk) → said ≡ heard [] fault → talk.waiting ≡ None →
     IsAnswered said old talk new talk' → IsAlone old talk new talk'
-silent_alone fault said old new talk talk' says none (inl taken) =
-    let whole = finish_where taken.answer.reply in record {
-      own = nothing_made old new (exchanged_nothing (name_of talk.session) taken.bits taken.now fault old new (with_reply taken.answer whole.0)
-          (subst (λ (s : Spoken). IsSessionAnswer (name_of talk.session) taken.bits taken.now (spared s) old new (with_reply taken.answer whole.0)) says (taken.exchanged whole.0 whole.1)));
-      lasts = taken_lasts said old new talk talk' (request_of said _ says) none taken;
-    }
+silent_alone fault said old new talk talk' says none (inl taken) = record {
+  own = nothing_made old new (exchanged_nothing (name_of talk.session) taken.bits taken.now fault old new taken.answer
+      (subst (λ (s : Spoken). IsSessionAnswer (name_of talk.session) taken.bits taken.now (spared s) old new taken.answer) says taken.exchanged));
+  lasts = taken_lasts said old new talk talk' (request_of said _ says) none taken;
+}
 silent_alone fault said old new talk talk' says none (inr (inl kept)) = no_request _ said (request_of said _ says) kept.request
 silent_alone fault said old new talk talk' says none (inr (inr left)) = record {
   own = left.own;
@@ -472,7 +450,7 @@ module _ (connection : ℕ) (standings : ℕ → Standing) (old new : InstanceSt
 
   taken_silent : (comes : Comes) (taken : IsTaken said old talk new talk') → talk'.session ≢ over (name_of talk'.session) → talk'.saying ≡ Silent
   taken_silent comes taken still = request_where (talk'.saying ≡ Silent) said.request said refl
-      (λ none. unsaid taken.answer.reply talk.saying talk'.saying (silent_answer (name_of talk.session) taken.bits taken.now said old new taken.answer taken.exchanged none) taken.saying ∙ comes.silent)
+      (λ none. unsaid taken.answer.reply talk.saying talk'.saying (taken.exchanged.heard none).silent taken.saying ∙ comes.silent)
       (λ request. absurd (still (subst (λ (s : Standing). s ≡ over (name_of s)) (sym taken.session) (left_over taken.answer.fault talk.session (asked_ends comes request)))))
 
   taken_lives : Comes → IsTaken said old talk new talk' → LivesOn connection standings old new turns (IsInAccord talk' passed)

@@ -1,7 +1,7 @@
 -- What comes of what a connection said.
-use Rattle.std.proofs.Common.{◌≡◌, inl, inr, ℕ, List, Option, None, Some, Result, Ok, Err, refl, sym, subst}
+use Rattle.std.proofs.Common.{◌≡◌, ℕ, false, List, Option, None, Some, Result, Ok, Err, refl, sym, subst}
 use Rattle.std.specs.Prelude.{option_map}
-use Rattle.am_api_silences.specs.Answers.{WhenMade, IsRefusalAnswer, IsRequestAnswer, with_reply as answered_with}
+use Rattle.am_api_silences.specs.Answers.{WhenMade, IsRefusalAnswer, IsRequestAnswer}
 use Rattle.am_api_silences.specs.declared.answering.PendingAnswer.{PendingAnswer}
 use Rattle.am_gossip.specs.declared.frame.Frame.{Frame}
 use Rattle.am_http.specs.declared.refusal.Refusal.{Refusal}
@@ -16,21 +16,18 @@ use Rattle.am_member.specs.declared.session_answer.StepEffects.{StepEffects}
 use Rattle.am_member.specs.declared.session_answer.SessionAnswer.{SessionAnswer}
 use Rattle.am_peers.specs.declared.fault.Fault.{Fault}
 use Rattle.am_peers.specs.declared.fault.Fault.TheVariants.{Read as InRead, Write, TooLarge, Frame as InFrame, UnknownName, Step}
-use Rattle.am_member.specs.Incoming.{no_effects}
-use Rattle.am_member.specs.Exchanging.{AreHeard, AreStepped, WhenFinished, IsReadAnswer, IsHandedOn, fault_heard, left_at, with_reply}
+use Rattle.am_member.specs.Incoming.{SoFar, no_effects, so_far}
+use Rattle.am_member.specs.Exchanging.{AreHeard, AreStepped, IsReadAnswer, fault_heard, left_at}
 
-module _ (read : Read) (bits now : ℕ) (old new : InstanceState) (exchanged : SessionAnswer) where
-  pub whole_answered : (request : Request) (begun : PendingAnswer) → read ≡ Whole request → WhenMade (λ answered. IsRequestAnswer old request bits now answered new) begun →
-      WhenFinished (IsHandedOn begun) exchanged → WhenFinished (IsReadAnswer read bits now old new) exchanged
-  whole_answered request begun is done handed = λ reply finished.
-      let on = handed reply finished in
-      subst (λ (r : Read). IsReadAnswer r bits now old new (with_reply exchanged reply)) (sym is) (answered_with begun on.0, done on.0 on.1, on.2)
+module _ (read : Read) (bits now : ℕ) (old new : InstanceState) (answer : SessionAnswer) (begun : PendingAnswer) (reply : answer.reply ≡ Some begun.making)
+    (effects : answer.effects ≡ record { outbox = begun.outbox; ticked = false }) (no_fault : answer.fault ≡ None) where
+  pub whole_answered : (request : Request) → read ≡ Whole request → WhenMade (λ answered. IsRequestAnswer old request bits now answered new) begun → IsReadAnswer read bits now old new answer
+  whole_answered request is such = subst (λ (r : Read). IsReadAnswer r bits now old new answer) (sym is)
+      (record { begun = begun; such = such; reply = reply; effects = effects; no_fault = no_fault })
 
-  pub refused_answered : (refusal : Refusal) (begun : PendingAnswer) → read ≡ Refused refusal → WhenMade (λ answered. IsRefusalAnswer refusal old answered new) begun →
-      WhenFinished (IsHandedOn begun) exchanged → WhenFinished (IsReadAnswer read bits now old new) exchanged
-  refused_answered refusal begun is done handed = λ reply finished.
-      let on = handed reply finished in
-      subst (λ (r : Read). IsReadAnswer r bits now old new (with_reply exchanged reply)) (sym is) (answered_with begun on.0, done on.0 on.1, on.2)
+  pub refused_answered : (refusal : Refusal) → read ≡ Refused refusal → WhenMade (λ answered. IsRefusalAnswer refusal old answered new) begun → IsReadAnswer read bits now old new answer
+  refused_answered refusal is such = subst (λ (r : Read). IsReadAnswer r bits now old new answer) (sym is)
+      (record { begun = begun; such = such; reply = reply; effects = effects; no_fault = no_fault })
 
 -- a fault of the session itself is none at which the member stops it
 pub heard_fault : (fault : Option SessionFault) (standing : Standing) → left_at (option_map fault_heard fault) standing ≡ standing
@@ -39,30 +36,30 @@ heard_fault (Some session_faults.TooLarge) standing = refl
 heard_fault (Some (session_faults.Frame error)) standing = refl
 
 -- a step that isn't made stops it
-pub stopped : (name : Option (List ℕ)) (now : ℕ) (frames : List Frame) (old : InstanceState) (before : StepEffects) (new : InstanceState) (after : StepEffects) (stop : Fault) (standing : Standing) →
-    AreStepped name now frames old before new after (Err stop) → left_at (Some stop) standing ≡ over (name_of standing)
-stopped name now frames old before new after UnknownName standing stepped = refl
-stopped name now frames old before new after (Step error) standing stepped = refl
-stopped name now frames old before new after (InRead at) standing stepped = absurd stepped
-stopped name now frames old before new after (Write written) standing stepped = absurd stepped
-stopped name now frames old before new after TooLarge standing stepped = absurd stepped
-stopped name now frames old before new after (InFrame error) standing stepped = absurd stepped
+pub stopped : (name : Option (List ℕ)) (now : ℕ) (frames : List Frame) (before after : SoFar) (stop : Fault) (standing : Standing) →
+    AreStepped name now frames before after (Err stop) → left_at (Some stop) standing ≡ over (name_of standing)
+stopped name now frames before after UnknownName standing stepped = refl
+stopped name now frames before after (Step error) standing stepped = refl
+stopped name now frames before after (InRead at) standing stepped = absurd stepped
+stopped name now frames before after (Write written) standing stepped = absurd stepped
+stopped name now frames before after TooLarge standing stepped = absurd stepped
+stopped name now frames before after (InFrame error) standing stepped = absurd stepped
 
--- the same of steps with the name of the session, from no effects on
-as_said : (name given : Option (List ℕ)) (now : ℕ) (frames : List Frame) (old : InstanceState) (before : StepEffects) (new : InstanceState) (after : StepEffects) (result : Result Unit Fault) →
-    given ≡ name → before ≡ no_effects → AreStepped given now frames old before new after result → AreStepped name now frames old no_effects new after result
-as_said name given now frames old before new after result same none stepped =
-    subst (λ (e : StepEffects). AreStepped name now frames old e new after result) none
-    (subst (λ (n : Option (List ℕ)). AreStepped n now frames old before new after result) same stepped)
+module _ (name given : Option (List ℕ)) (now : ℕ) (frames : List Frame) (fault : Option SessionFault) (old : InstanceState) (before : StepEffects) (new : InstanceState) (answer : SessionAnswer)
+    (same : given ≡ name) (none : before ≡ no_effects) (silent : answer.reply ≡ None) where
+  -- the same of steps with the name of the session, from no effects on
+  as_said : (result : Result Unit Fault) → AreStepped given now frames (so_far old before) (so_far new answer.effects) result →
+      AreStepped name now frames (so_far old no_effects) (so_far new answer.effects) result
+  as_said result stepped =
+      subst (λ (e : StepEffects). AreStepped name now frames (so_far old e) (so_far new answer.effects) result) none
+      (subst (λ (n : Option (List ℕ)). AreStepped n now frames (so_far old before) (so_far new answer.effects) result) same stepped)
 
--- all steps were made
-pub heard_out : (name given : Option (List ℕ)) (now : ℕ) (frames : List Frame) (fault : Option SessionFault) (old : InstanceState) (before : StepEffects) (new : InstanceState) (after : StepEffects) (told : Option Fault) →
-    given ≡ name → before ≡ no_effects → AreStepped given now frames old before new after (Ok tt) → told ≡ option_map fault_heard fault →
-    AreHeard name now frames fault old new after told
-heard_out name given now frames fault old before new after told same none stepped is = inl (as_said name given now frames old before new after (Ok tt) same none stepped, is)
+  -- all steps were made
+  pub heard_out : AreStepped given now frames (so_far old before) (so_far new answer.effects) (Ok tt) → answer.fault ≡ option_map fault_heard fault →
+      AreHeard name now frames fault old new answer
+  heard_out stepped is = record { silent = silent; steps = Ok tt; stepped = as_said (Ok tt) stepped; all = is; stop = tt }
 
--- one wasn't
-pub heard_stop : (name given : Option (List ℕ)) (now : ℕ) (frames : List Frame) (fault : Option SessionFault) (old : InstanceState) (before : StepEffects) (new : InstanceState) (after : StepEffects) (stop : Fault) →
-    given ≡ name → before ≡ no_effects → AreStepped given now frames old before new after (Err stop) →
-    AreHeard name now frames fault old new after (Some stop)
-heard_stop name given now frames fault old before new after stop same none stepped = inr (stop, as_said name given now frames old before new after (Err stop) same none stepped, refl)
+  -- one wasn't
+  pub heard_stop : (stop : Fault) → AreStepped given now frames (so_far old before) (so_far new answer.effects) (Err stop) → answer.fault ≡ Some stop →
+      AreHeard name now frames fault old new answer
+  heard_stop stop stepped is = record { silent = silent; steps = Err stop; stepped = as_said (Err stop) stepped; all = tt; stop = is }

@@ -14,17 +14,15 @@ use Rattle.am_refusals.specs.declared.error.StepError.{StepError}
 use Rattle.am_instance.specs.declared.event.Event.{Event}
 use Rattle.am_instance.specs.declared.event.Event.TheVariants as events
 use Rattle.am_instance.specs.declared.reply.Outcome.{Outcome}
-use Rattle.am_api_silences.specs.Answers.{Answered, IsRefusalAnswer, IsStepAnswer}
-use Rattle.am_api_silences.specs.declared.replies.ReplyBytes.{ReplyBytes}
-use Rattle.am_http.specs.declared.session.fault.SessionFault.{SessionFault}
+use Rattle.am_api_silences.specs.Answers.{Answered, IsRefusalAnswer, IsRequestAnswer, IsStepAnswer, with_reply}
 use Rattle.am_http.specs.Sessions.{Standing, name_of}
 use Rattle.am_member.specs.Sparing.{spared}
 use Rattle.am_peers.specs.declared.fault.Fault.{Fault}
 use Rattle.am_peers.specs.declared.fault.Fault.TheVariants.{Read as InRead, Write, TooLarge, Frame as InFrame, UnknownName, Step}
-use Rattle.am_member.specs.declared.session_answer.StepEffects.{StepEffects}
-use Rattle.am_member.specs.Incoming.{MakesAll, StopsAt, no_effects}
-use Rattle.am_member.proofs.Finished.{finish_where}
-use Rattle.am_member.specs.Exchanging.{Answer, AreHeard, AreStepped, IsReadAnswer, IsFromNobody, IsSessionAnswer, MakesNamed, is_stopped, with_reply}
+use Rattle.am_member.specs.declared.session_answer.SessionAnswer.{SessionAnswer}
+use Rattle.am_member.specs.Incoming.{MakesAll, SoFar, StopsAt, no_effects, so_far}
+use Rattle.am_member.proofs.Finished.{finish_of}
+use Rattle.am_member.specs.Exchanging.{AreStepped, IsReadAnswer, IsSessionAnswer, is_stopped}
 use Rattle.am_member.specs.Lives.{AreEventsOf, AreEventsOfFrames, AreEventsOfRead, AreStepsOf, AreStepsOfAll, Deed, IsLife, IsTurn, Turn, listed, standings_after}
 use Rattle.am_member.specs.Lives.Deed.{Served, Own}
 
@@ -66,12 +64,12 @@ none_at : (now : ℕ) (old new : InstanceState) → new ≡ old → (steps : Lis
 none_at now old new same = ([], record { asks = refl; moments = tt; made = same })
 
 -- the steps of frames
-pub all_steps : (sender now : ℕ) (frames : List Frame) (old : InstanceState) (before : StepEffects) (new : InstanceState) (after : StepEffects) →
-    MakesAll sender now frames old before new after → (steps : List Happened) × AreStepsAt now (sent_from sender frames) old steps new
-all_steps sender now [] old before new after made = none_at now old new made.0
-all_steps sender now (frame ∷ frames) old before new after made =
-    step_before now (events.Frame sender frame) (sent_from sender frames) (Ok made.2.outcome) old made.0 new made.2.step
-    (all_steps sender now frames made.0 made.1 new after made.3)
+pub all_steps : (sender now : ℕ) (frames : List Frame) (before after : SoFar) → MakesAll sender now frames before after →
+    (steps : List Happened) × AreStepsAt now (sent_from sender frames) before.instance steps after.instance
+all_steps sender now [] before after same = none_at now before.instance after.instance (ap (λ (s : SoFar). s.instance) same)
+all_steps sender now (frame ∷ frames) before after made =
+    step_before now (events.Frame sender frame) (sent_from sender frames) (Ok made.1.outcome) before.instance made.0.instance after.instance made.1.step
+    (all_steps sender now frames made.0 after made.2)
 
 -- all at the same moment, also with others behind them
 moments_append : (now : ℕ) (steps others : List Happened) → AllByRecursion (λ step. step.now ≡ now) steps → AllByRecursion (λ step. step.now ≡ now) others →
@@ -109,11 +107,13 @@ whole_steps now asked stopped old new all = (
 )
 
 -- the steps up to the first one that is refused
-stop_steps : (sender now : ℕ) (frames : List Frame) (old : InstanceState) (before : StepEffects) (new : InstanceState) (after : StepEffects) (error : StepError) →
-    StopsAt sender now frames old before new after error → (steps : List Happened) × AreStepsUpTo now (sent_from sender frames) true old steps new
-stop_steps sender now frames old before new after error stop =
+stop_steps : (sender now : ℕ) (frames : List Frame) (before after : SoFar) (error : StepError) → StopsAt sender now frames before after error →
+    (steps : List Happened) × AreStepsUpTo now (sent_from sender frames) true before.instance steps after.instance
+stop_steps sender now frames before after error stop =
+    let old : InstanceState = before.instance in
+    let new : InstanceState = after.instance in
     let event : Event = events.Frame sender stop.frame in
-    let made = all_steps sender now stop.made old before stop.mid after stop.made_all in
+    let made = all_steps sender now stop.made before (so_far stop.mid after.effects) stop.made_all in
     let last = step_before now event [] (Err error) stop.mid new new stop.refused (none_at now new new refl) in
     let both = at_append now (sent_from sender stop.made) (event ∷ []) made.0 last.0 old stop.mid new made.1 last.1 in (
       made.0 ++ last.0,
@@ -136,43 +136,29 @@ record FrameSteps (name : Option (List ℕ)) (now : ℕ) (frames : List Frame) (
   are : AreEventsOfFrames old.config name frames asked
   steps : (steps : List Happened) × AreStepsUpTo now asked stopped old steps new
 
--- no frame, no step
-no_frame : (name : Option (List ℕ)) (now : ℕ) (frames : List Frame) (stopped : Bool) (old new : InstanceState) →
-    ((frames ≡ []) ⊎ IsFromNobody old.config name frames) → new ≡ old → FrameSteps name now frames stopped old new
-no_frame name now frames stopped old new why same =
-    record { asked = []; are = inl (refl, why); steps = whole_steps now [] stopped old new (none_at now old new same) }
-
--- all steps were made
-named_steps : (name : Option (List ℕ)) (now : ℕ) (frames : List Frame) (stopped : Bool) (old : InstanceState) (before : StepEffects) (new : InstanceState) (after : StepEffects) →
-    MakesNamed name now frames old before new after → FrameSteps name now frames stopped old new
-named_steps None now frames stopped old before new after made = no_frame None now frames stopped old new (inl made.0) made.1
-named_steps (Some name) now frames stopped old before new after made = record {
-  asked = sent_from made.0 frames;
-  are = inr (made.0, made.1, refl);
-  steps = whole_steps now (sent_from made.0 frames) stopped old new (all_steps made.0 now frames old before new after made.2);
-}
-
--- the steps stopped
-stepped_steps : (name : Option (List ℕ)) (now : ℕ) (frames : List Frame) (old : InstanceState) (before : StepEffects) (new : InstanceState) (after : StepEffects) (stop : Fault) →
-    AreStepped name now frames old before new after (Err stop) → FrameSteps name now frames (is_stopped (Some stop)) old new
-stepped_steps name now frames old before new after UnknownName stepped = no_frame name now frames true old new (inr stepped.0) stepped.1
-stepped_steps name now frames old before new after (Step error) stepped = record {
+-- what the frames of a connection did
+stepped_steps : (name : Option (List ℕ)) (now : ℕ) (frames : List Frame) (before after : SoFar) (steps : Result Unit Fault) (told : Option Fault) → AreStepped name now frames before after steps →
+    IfErr steps (λ stop. told ≡ Some stop) → FrameSteps name now frames (is_stopped told) before.instance after.instance
+stepped_steps name now frames before after (Ok _) told stepped is = record {
   asked = sent_from stepped.0 frames;
   are = inr (stepped.0, stepped.1, refl);
-  steps = stop_steps stepped.0 now frames old before new after error stepped.2;
+  steps = whole_steps now (sent_from stepped.0 frames) (is_stopped told) before.instance after.instance (all_steps stepped.0 now frames before after stepped.2);
 }
-stepped_steps name now frames old before new after (InRead at) stepped = absurd stepped
-stepped_steps name now frames old before new after (Write written) stepped = absurd stepped
-stepped_steps name now frames old before new after TooLarge stepped = absurd stepped
-stepped_steps name now frames old before new after (InFrame error) stepped = absurd stepped
-
--- whatever came of them
-heard_steps : (name : Option (List ℕ)) (now : ℕ) (frames : List Frame) (fault : Option SessionFault) (old new : InstanceState) (effects : StepEffects) (told : Option Fault) →
-    AreHeard name now frames fault old new effects told → FrameSteps name now frames (is_stopped told) old new
-heard_steps name now frames fault old new effects told (inl all) = named_steps name now frames (is_stopped told) old no_effects new effects all.0
-heard_steps name now frames fault old new effects told (inr stops) =
-    subst (λ (f : Option Fault). FrameSteps name now frames (is_stopped f) old new) (sym stops.2)
-    (stepped_steps name now frames old no_effects new effects stops.0 stops.1)
+stepped_steps name now frames before after (Err UnknownName) told stepped is = record {
+  asked = [];
+  are = inl (refl, inr stepped.0);
+  steps = whole_steps now [] (is_stopped told) before.instance after.instance (none_at now before.instance after.instance (ap (λ (s : SoFar). s.instance) stepped.1));
+}
+stepped_steps name now frames before after (Err (Step error)) told stepped is =
+    subst (λ (f : Option Fault). FrameSteps name now frames (is_stopped f) before.instance after.instance) (sym is) (record {
+      asked = sent_from stepped.0 frames;
+      are = inr (stepped.0, stepped.1, refl);
+      steps = stop_steps stepped.0 now frames before after error stepped.2;
+    })
+stepped_steps name now frames before after (Err (InRead at)) told stepped is = absurd stepped
+stepped_steps name now frames before after (Err (Write written)) told stepped is = absurd stepped
+stepped_steps name now frames before after (Err TooLarge) told stepped is = absurd stepped
+stepped_steps name now frames before after (Err (InFrame error)) told stepped is = absurd stepped
 
 -- ---- the step of a request
 
@@ -190,15 +176,21 @@ meant_steps (Ok event) now stopped old answered new refused stepped =
     whole_steps now (event ∷ []) stopped old new (step_before now event [] stepped.step old new new stepped.made (none_at now new new refl))
 meant_steps (Err refusal) now stopped old answered new refused stepped = whole_steps now [] stopped old new (none_at now old new refused.same)
 
-read_steps : (read : Read) (bits now : ℕ) (stopped : Bool) (old new : InstanceState) (answer : Answer) → IsReadAnswer read bits now old new answer →
+-- (its steps don't hang on what its reply is finished with)
+read_steps : (read : Read) (bits now : ℕ) (stopped : Bool) (old new : InstanceState) (answer : SessionAnswer) → IsReadAnswer read bits now old new answer →
     ReadSteps read bits now stopped old new
-read_steps (Whole request) bits now stopped old new answer done = record {
-  asked = listed done.1.meant;
-  are = (done.1.meant, done.1.means, refl);
-  steps = meant_steps done.1.meant now stopped old done.0 new done.1.refused done.1.stepped;
-}
+read_steps (Whole request) bits now stopped old new answer done =
+    let whole = finish_of done.begun.making in
+    let answered : Answered = with_reply done.begun whole.0 in
+    let given : IsRequestAnswer old request bits now answered new = done.such whole.0 whole.1 in record {
+      asked = listed given.meant;
+      are = (given.meant, given.means, refl);
+      steps = meant_steps given.meant now stopped old answered new given.refused given.stepped;
+    }
 read_steps (Refused refusal) bits now stopped old new answer done =
-    record { asked = []; are = refl; steps = whole_steps now [] stopped old new (none_at now old new done.1.same) }
+    let whole = finish_of done.begun.making in
+    let given : IsRefusalAnswer refusal old (with_reply done.begun whole.0) new = done.such whole.0 whole.1 in
+    record { asked = []; are = refl; steps = whole_steps now [] stopped old new (none_at now old new given.same) }
 read_steps More bits now stopped old new answer done =
     record { asked = []; are = refl; steps = whole_steps now [] stopped old new (none_at now old new done.same) }
 
@@ -228,18 +220,19 @@ or_given other (Some x) = x
 some_is : {A : Type 0} (x y : A) (o : Option A) → o ≡ Some x → o ≡ Some y → x ≡ y
 some_is x y o is also = ap (or_given x) (sym is ∙ also)
 
-turn_by : (old : InstanceState) (turn : Turn) (whole : Option ReplyBytes) (request : Option Read) → (spared turn.said).request ≡ request →
-    IsSessionAnswer (name_of turn.heard) turn.bits turn.now (spared turn.said) old turn.left (with_reply turn.answer whole) → (steps : List Happened) × AreStepsOf old turn steps
-turn_by old turn whole (Some read) is done =
-    let found = read_steps read turn.bits turn.now (is_stopped turn.answer.fault) old turn.left (with_reply turn.answer whole) (done.asked read is) in
+turn_by : (old : InstanceState) (turn : Turn) (request : Option Read) → (spared turn.said).request ≡ request →
+    IsSessionAnswer (name_of turn.heard) turn.bits turn.now (spared turn.said) old turn.left turn.answer → (steps : List Happened) × AreStepsOf old turn steps
+turn_by old turn (Some read) is done =
+    let found = read_steps read turn.bits turn.now (is_stopped turn.answer.fault) old turn.left turn.answer (done.asked read is) in
     steps_of_turn old turn found.asked
     (record {
       of_request = λ other also. subst (λ (r : Read). AreEventsOfRead r turn.bits found.asked) (some_is read other (spared turn.said).request is also) found.are;
       of_frames = λ none. absurd (none-some read (sym none ∙ is));
     })
     found.steps
-turn_by old turn whole None is done =
-    let found = heard_steps (name_of turn.heard) turn.now (spared turn.said).frames (spared turn.said).fault old turn.left turn.answer.effects turn.answer.fault (done.heard is).1 in
+turn_by old turn None is done =
+    let heard = done.heard is in
+    let found = stepped_steps (name_of turn.heard) turn.now (spared turn.said).frames (so_far old no_effects) (so_far turn.left turn.answer.effects) heard.steps turn.answer.fault heard.stepped heard.stop in
     steps_of_turn old turn found.asked
     (record {
       of_request = λ read some. absurd (none-some read (sym is ∙ some));
@@ -247,11 +240,8 @@ turn_by old turn whole None is done =
     })
     found.steps
 
--- (its steps don't hang on what its reply is finished with)
 pub turn_steps : (standing : Standing) (old : InstanceState) (turn : Turn) → IsTurn standing old turn → (steps : List Happened) × AreStepsOf old turn steps
-turn_steps standing old turn done =
-    let whole = finish_where turn.answer.reply in
-    turn_by old turn whole.0 (spared turn.said).request refl (done.answered whole.0 whole.1)
+turn_steps standing old turn done = turn_by old turn (spared turn.said).request refl done.answered
 
 -- all deeds
 pub life_steps : (standings : ℕ → Standing) (start new : InstanceState) (deeds : List Deed) → IsLife standings start deeds new →

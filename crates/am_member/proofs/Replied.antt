@@ -14,11 +14,12 @@ use Rattle.am_instance.specs.declared.event.Event.{Event}
 use Rattle.am_instance.specs.declared.reply.Made.{Made}
 use Rattle.am_instance.specs.declared.reply.Outcome.{Outcome}
 use Rattle.am_instance.specs.declared.reply.Reply.{Reply}
-use Rattle.am_api_silences.specs.Answers.{Answered, IsErrorBytes, IsRefusalAnswer, IsStepAnswer}
+use Rattle.am_api_silences.specs.Answers.{Answered, IsErrorBytes, IsRefusalAnswer, IsRequestAnswer, IsStepAnswer, with_reply}
 use Rattle.am_api_silences.specs.Replies.{IsReplyBytes, Says}
 use Rattle.am_api_silences.specs.declared.replies.ReplyBytes.{ReplyBytes}
 use Rattle.am_api_silences.specs.declared.replies.ReplyBytes.TheVariants.{Own, Fixed}
-use Rattle.am_member.specs.Exchanging.{Answer, IsReadAnswer}
+use Rattle.am_member.specs.declared.session_answer.SessionAnswer.{SessionAnswer}
+use Rattle.am_member.specs.Exchanging.{IsReadAnswer}
 use Rattle.am_http.specs.declared.request.Read.TheVariants.{Whole}
 use Rattle.am_member.specs.Lives.{IsBareAnswer, IsBareBytes, RepliesBare}
 
@@ -57,12 +58,13 @@ meant_bare silences log stand new (Ok event) now answered sets refused stepped =
 meant_bare silences log stand new (Err refusal) now answered sets refused stepped = refused.says
 
 -- the answer to a request
-pub answer_bare : (silences : List Mesh) (log : List LogMesh) (stand new : InstanceState) (request : Request) (bits now : ℕ) (answer : Answer) →
+pub answer_bare : (silences : List Mesh) (log : List LogMesh) (stand new : InstanceState) (request : Request) (bits now : ℕ) (answer : SessionAnswer) →
     RepliesAsSets silences log stand → IsReadAnswer (Whole request) bits now stand new answer → IsBareAnswer silences log request bits now answer
 answer_bare silences log stand new request bits now answer sets done = record {
-  reply = done.0.reply;
-  is = done.2.reply;
-  meant = done.1.meant;
-  means = done.1.means;
-  replied = meant_bare silences log stand new done.1.meant now done.0 sets done.1.refused done.1.stepped;
+  making = done.begun.making;
+  is = done.reply;
+  told = λ reply made.
+      let answered : Answered = with_reply done.begun reply in
+      let given : IsRequestAnswer stand request bits now answered new = done.such reply made in
+      record { meant = given.meant; means = given.means; replied = meant_bare silences log stand new given.meant now answered sets given.refused given.stepped };
 }

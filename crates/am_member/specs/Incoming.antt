@@ -15,34 +15,45 @@ use Rattle.am_member.specs.declared.session_answer.StepEffects.{StepEffects}
 abbrev pub no_effects : StepEffects
 no_effects = record { outbox = nothing_sent; ticked = false }
 
--- what one more step adds: what it sends, and whether it was a Tick
+-- where steps have come to: the instance as they left it, and what they had for effects besides
+pub record SoFar : Type 0 where
+  pub instance : InstanceState
+  pub effects : StepEffects
+
+abbrev pub so_far : InstanceState → StepEffects → SoFar
+so_far instance effects = record { instance = instance; effects = effects }
+
+-- what one more step adds to the effects
 pub record Adds (more : Sent) (ticks : Bool) (before after : StepEffects) : Type 0 where
+  -- what it sends
   pub sent : Gathers more before.outbox after.outbox
+  -- whether it was a Tick
   pub ticked : after.ticked ≡ (before.ticked || ticks)
 
--- the step of a frame that came from a peer is answered
-pub record MakesStep (sender now : ℕ) (frame : Frame) (old : InstanceState) (before : StepEffects) (new : InstanceState) (after : StepEffects) : Type 0 where
+-- the step of a frame that came from a peer is made
+pub record MakesStep (sender now : ℕ) (frame : Frame) (before after : SoFar) : Type 0 where
   pub outcome : Outcome
-  pub step : IsStep old (events.Frame sender frame) now (Ok outcome) new
-  pub adds : Adds (sent_by outcome) (collects (events.Frame sender frame)) before after
+  pub step : IsStep before.instance (events.Frame sender frame) now (Ok outcome) after.instance
+  pub adds : Adds (sent_by outcome) (collects (events.Frame sender frame)) before.effects after.effects
 
--- so is that of each frame, from where the one before it left the instance
-abbrev pub MakesAll : ℕ → ℕ → List Frame → InstanceState → StepEffects → InstanceState → StepEffects → Type 0
-MakesAll sender now [] old before new after = (new ≡ old) × (after ≡ before)
-MakesAll sender now (frame ∷ frames) old before new after =
-    (mid : InstanceState) × (between : StepEffects) × MakesStep sender now frame old before mid between
-    × MakesAll sender now frames mid between new after
+-- so is that of each frame, one after the other
+abbrev pub MakesAll : ℕ → ℕ → List Frame → SoFar → SoFar → Type 0
+MakesAll sender now [] before after = after ≡ before
+MakesAll sender now (frame ∷ frames) before after =
+    (mid : SoFar) × MakesStep sender now frame before mid × MakesAll sender now frames mid after
 
 -- the steps up to the first one that is refused
-pub record StopsAt (sender now : ℕ) (frames : List Frame) (old : InstanceState) (before : StepEffects) (new : InstanceState) (after : StepEffects)
-    (error : StepError) : Type 0 where
+pub record StopsAt (sender now : ℕ) (frames : List Frame) (before after : SoFar) (error : StepError) : Type 0 where
+  -- first come frames whose steps are made
   pub made : List Frame
+  pub mid : InstanceState
+  pub made_all : MakesAll sender now made before (so_far mid after.effects)
+  -- behind them one whose step is refused
   pub frame : Frame
+  pub refused : IsStep mid (events.Frame sender frame) now (Err error) after.instance
+  -- and others
   pub others : List Frame
   pub frames_are : frames ≡ made ++ frame ∷ others
-  pub mid : InstanceState
-  pub made_all : MakesAll sender now made old before mid after
-  pub refused : IsStep mid (events.Frame sender frame) now (Err error) new
 
 -- ---- a peer
 

@@ -23,12 +23,14 @@ use Rattle.am_instance.specs.declared.event.Event.{Event}
 use Rattle.am_instance.specs.declared.event.Event.TheVariants as events
 use Rattle.am_instance.specs.declared.reply.Reply.{Reply}
 use Rattle.am_api_silences.specs.Events.{IsEventOf}
+use Rattle.am_api_silences.specs.PendingReply.{Makes}
 use Rattle.am_api_silences.specs.Replies.{IsReplyBytes, Says, line_bytes, memory_bytes}
 use Rattle.am_api_silences.specs.Table.{clock_line}
+use Rattle.am_api_silences.specs.declared.pending_reply.PendingReply.{PendingReply}
 use Rattle.am_api_silences.specs.declared.replies.ReplyBytes.{ReplyBytes}
 use Rattle.am_http.specs.Sessions.{Feeds, Says as SaysPiece, SaysEnd, Spoken, Standing, and_then, name_of, nothing, over}
 use Rattle.am_member.specs.declared.session_answer.SessionAnswer.{SessionAnswer}
-use Rattle.am_member.specs.Exchanging.{Answer, IsSessionAnswer, IsFromNobody, IsSender, WhenFinished, is_stopped, left_at}
+use Rattle.am_member.specs.Exchanging.{AreFrom, IsSessionAnswer, IsFromNobody, is_stopped, left_at}
 use Rattle.am_member.specs.Sparing.{spared}
 
 -- what came of a connection: a piece that there was memory for, any piece, or the end of its input; or frames that were sealed, with the
@@ -77,10 +79,10 @@ pub record Turn : Type 0 where
   pub left : InstanceState
 
 -- What came is told by the connection's own session; what its frames ask for is left to the member's own steps, and the rest is
--- answered as the contract of `apply_session_output` says, whatever the reply is finished with.
+-- answered as the contract of `apply_session_output` says.
 pub record IsTurn (standing : Standing) (old : InstanceState) (turn : Turn) : Type 0 where
   pub tells : Tells standing turn.came turn.said turn.heard
-  pub answered : WhenFinished (IsSessionAnswer (name_of turn.heard) turn.bits turn.now (spared turn.said) old turn.left) turn.answer
+  pub answered : IsSessionAnswer (name_of turn.heard) turn.bits turn.now (spared turn.said) old turn.left turn.answer
 
 -- how far its connection has come after a turn, and each other one as before
 abbrev pub standings_after : (ℕ → Standing) → Turn → ℕ → Standing
@@ -156,7 +158,7 @@ AreEventsOfRead _ bits asked = asked ≡ []
 abbrev pub AreEventsOfFrames : Settings → Option (List ℕ) → List Frame → List Event → Type 0
 AreEventsOfFrames config name frames sent =
     ((sent ≡ []) × ((frames ≡ []) ⊎ IsFromNobody config name frames))
-    ⊎ ((sender : ℕ) × IsSender config name sender × (sent ≡ map (λ frame. events.Frame sender frame) frames))
+    ⊎ ((sender : ℕ) × AreFrom config name frames sender × (sent ≡ map (λ frame. events.Frame sender frame) frames))
 
 -- the events of what was said
 pub record AreEventsOf (config : Settings) (name : Option (List ℕ)) (bits : ℕ) (said : Spoken) (asked : List Event) : Type 0 where
@@ -207,10 +209,14 @@ abbrev pub RepliesBare : List Mesh → List LogMesh → Result Event Refusal →
 RepliesBare silences log (Ok event) now reply = asks_shown event ≡ true → Says (IsBareBytes silences log event now) reply
 RepliesBare silences log (Err refusal) now reply = Says (λ bytes. bytes ≡ line_bytes (line_seen refusal)) reply
 
--- the reply to a request, whatever it means
-pub record IsBareAnswer (silences : List Mesh) (log : List LogMesh) (request : Request) (bits now : ℕ) (answer : Answer) : Type 0 where
-  pub reply : ReplyBytes
-  pub is : answer.reply ≡ Some reply
+-- what is replied to a request, whatever it means
+pub record IsBareTold (silences : List Mesh) (log : List LogMesh) (request : Request) (bits now : ℕ) (reply : ReplyBytes) : Type 0 where
   pub meant : Result Event Refusal
   pub means : IsEventOf request bits meant
   pub replied : RepliesBare silences log meant now reply
+
+-- such a reply is made
+pub record IsBareAnswer (silences : List Mesh) (log : List LogMesh) (request : Request) (bits now : ℕ) (answer : SessionAnswer) : Type 0 where
+  pub making : PendingReply
+  pub is : answer.reply ≡ Some making
+  pub told : Makes (IsBareTold silences log request bits now) making

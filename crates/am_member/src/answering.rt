@@ -1,9 +1,10 @@
 //! What comes of what a connection said, piece by piece.
 
-ghost use Rattle.std.specs.Prelude.{◌≡◌, None, option_map};
+ghost use Rattle.std.specs.Prelude.{◌≡◌, false, None, Some, option_map};
 ghost use Rattle.std.specs.Option.{option_copied};
 ghost use Rattle.am_http.specs.Sessions.{name_of, spoken};
-ghost use Rattle.am_member.specs.Exchanging.{AreHeard, AreStepped, WhenFinished, IsListRequest, IsReadAnswer, IsSessionAnswer, IsHandedOn, fault_heard, is_list, left_at};
+ghost use Rattle.am_member.specs.Exchanging.{AreHeard, AreStepped, IsListRequest, IsReadAnswer, IsSessionAnswer, fault_heard, is_list, left_at};
+ghost use Rattle.am_member.specs.Incoming.{so_far};
 
 use crate::sender::peer_named;
 use crate::session_answer::{SessionAnswer, StepEffects};
@@ -19,7 +20,8 @@ use std::alloc::Global;
 
 /// Hands on an answer.
 fn replied(begun: PendingAnswer) -> SessionAnswer
-    ensures handed { WhenFinished (IsHandedOn begun) result }
+    ensures reply { result.reply ≡ Some begun.making }
+    ensures effects { result.effects ≡ record { outbox = begun.outbox; ticked = false } }
     ensures no_fault { result.fault ≡ None }
 {
     let PendingAnswer { making, outbox } = begun;
@@ -41,7 +43,7 @@ fn reply_to(
     bits: u128,
     now: Moment,
 ) -> SessionAnswer
-    ensures answered { WhenFinished (IsReadAnswer read bits now instance.old instance.new) result }
+    ensures answered { IsReadAnswer read bits now instance.old instance.new result }
     ensures no_fault { result.fault ≡ None }
 {
     match read {
@@ -64,7 +66,7 @@ fn step_named(
     frames: Vec<Frame>,
     now: Moment,
 ) -> Result<(), Fault>
-    ensures { AreStepped (option_copied name.entry) now frames.items instance.old effects.old instance.new effects.new result }
+    ensures { AreStepped (option_copied name.entry) now frames.items (so_far instance.old effects.old) (so_far instance.new effects.new) result }
 {
     let Some(name) = name else {
         return if frames.is_empty() {
@@ -100,8 +102,7 @@ fn hear(
     fault: Option<SessionFault>,
     now: Moment,
 ) -> SessionAnswer
-    ensures heard { AreHeard (name_of session.old) now frames.items fault instance.old instance.new result.effects result.fault }
-    ensures silent { result.reply ≡ None }
+    ensures heard { AreHeard (name_of session.old) now frames.items fault instance.old instance.new result }
     ensures session { session.new ≡ left_at result.fault session.old }
 {
     let mut exchanged = SessionAnswer::nothing(alloc);
@@ -139,7 +140,7 @@ pub fn apply_session_output(
     now: Moment,
 ) -> SessionAnswer
     // PROMISE: A request is answered by one step at its moment, a peer's frames by one step each.
-    ensures exchanged { WhenFinished (IsSessionAnswer (name_of session.old) bits now (spoken said) instance.old instance.new) result }
+    ensures exchanged { IsSessionAnswer (name_of session.old) bits now (spoken said) instance.old instance.new result }
     ensures session { session.new ≡ left_at result.fault session.old }
 {
     let SessionOutput {

@@ -8,7 +8,6 @@ ghost use Rattle.am_instance.specs.Configs.{AreMembers};
 ghost use Rattle.am_instance.specs.InstanceStates.{InstanceState};
 ghost use Rattle.am_instance.specs.Laws.{AreMade, Happened, HasMaps, all_entries, all_silences};
 ghost use Rattle.am_http.specs.Sessions.{Says, Standing, fresh};
-ghost use Rattle.am_member.specs.Exchanging.{WhenFinished};
 ghost use Rattle.am_member.specs.Lives.{AreCalm, AreStepsOfAll, Deed, IsBareAnswer, IsHeardOut, IsLife, IsTurn, ShowsBareSets, Turn};
 ghost use Rattle.am_member.specs.Lives.{bytes_in, said_in, standings_in, turns_of};
 ghost use Rattle.am_peers.specs.Outgoing.{is_name};
@@ -57,7 +56,7 @@ pub fn lives_reply_as_the_bare_sets()
         HasMaps start → HasMaps stand → IsLife standings start deeds stand →
         IsTurn (standings_in standings deeds turn.connection) stand turn → turn.said.request ≡ Some (Whole request) →
         (steps : List Happened) × AreStepsOfAll start deeds steps × (AreCalm start steps →
-        WhenFinished (IsBareAnswer (all_silences start steps) (all_entries start steps) request turn.bits turn.now) turn.answer) }
+        IsBareAnswer (all_silences start steps) (all_entries start steps) request turn.bits turn.now turn.answer) }
 {
     lives_are_steps();
     calm_steps_reply_as_the_bare_sets();

@@ -4,7 +4,7 @@ ghost use Rattle.std.specs.Prelude.{◌≡◌, ℕ, OnOk, OnErr, IfErr, Err};
 ghost use Rattle.am_instance.specs.OneStep.{IsStep};
 ghost use Rattle.am_instance.specs.Steps.{collects};
 ghost use Rattle.am_instance.specs.declared.event.Event.TheVariants as events;
-ghost use Rattle.am_member.specs.Incoming.{MakesAll, MakesStep, StopsAt};
+ghost use Rattle.am_member.specs.Incoming.{MakesAll, MakesStep, StopsAt, so_far};
 
 use crate::session_answer::StepEffects;
 use am_gossip::Frame;
@@ -25,7 +25,7 @@ fn make_step(
     frame: Frame,
     now: Moment,
 ) -> Result<(), StepError>
-    ensures made { OnOk result (MakesStep sender now frame instance.old effects.old instance.new effects.new) }
+    ensures made { OnOk result (MakesStep sender now frame (so_far instance.old effects.old) (so_far instance.new effects.new)) }
     ensures stopped { IfErr result (λ e. IsStep instance.old (events.Frame sender frame) now (Err e) instance.new) }
     ensures kept { OnErr result (effects.new ≡ effects.old) }
 {
@@ -47,8 +47,8 @@ pub fn make_steps(
     frames: Vec<Frame>,
     now: Moment,
 ) -> Result<(), StepError>
-    ensures made { OnOk result (MakesAll sender now frames.items instance.old effects.old instance.new effects.new) }
-    ensures stopped { IfErr result (StopsAt sender now frames.items instance.old effects.old instance.new effects.new) }
+    ensures made { OnOk result (MakesAll sender now frames.items (so_far instance.old effects.old) (so_far instance.new effects.new)) }
+    ensures stopped { IfErr result (StopsAt sender now frames.items (so_far instance.old effects.old) (so_far instance.new effects.new)) }
 {
     for frame in frames {
         make_step(instance, effects, sender, frame, now)?;

@@ -4,7 +4,7 @@ ghost use Rattle.std.specs.Prelude.{◌≡◌, ℕ, IsTrue};
 ghost use Rattle.am_http.specs.Sessions.{name_of, spoken};
 ghost use Rattle.am_dialogue.specs.Answered.{IsAnswered, IsTaken, SaysBy};
 ghost use Rattle.am_dialogue.specs.Talks.{Closes, IsClosed, KeepsBy, Stays, talk_of};
-ghost use Rattle.am_member.specs.Exchanging.{WhenFinished, IsSessionAnswer, left_at};
+ghost use Rattle.am_member.specs.Exchanging.{IsSessionAnswer, left_at};
 
 use super::counting::count_said;
 use super::desk::{Desk, random_bits};
@@ -121,7 +121,7 @@ impl<U: Keeper> Desk<'_, U> {
         session: &mut Session,
         said: SessionOutput,
     ) -> SessionAnswer
-        ensures exchanged { (bits : ℕ) × (now : ℕ) × WhenFinished (IsSessionAnswer (name_of session.old) bits now (spoken said) instance.old instance.new) result }
+        ensures exchanged { (bits : ℕ) × (now : ℕ) × IsSessionAnswer (name_of session.old) bits now (spoken said) instance.old instance.new result }
         ensures session { session.new ≡ left_at result.fault session.old }
     {
         let bits = random_bits(&mut self.random);
