@@ -149,7 +149,7 @@ impl Conversation {
 
     /// Has this be what is still to be done for it.
     // (so that one function proves the drops of all that was still to be done)
-    fn set(&mut self, work: Work)
+    pub fn set(&mut self, work: Work)
         ensures { self.new ≡ record (self.old) { work = work } }
     {
         self.work = work;

@@ -1,9 +1,8 @@
 //! What waits for its place in the line, and goes on there.
 
-ghost use Rattle.std.specs.Prelude.{◌≡◌};
 ghost use Rattle.am_http.specs.Sessions.{spoken};
 ghost use Rattle.am_dialogue.specs.Answered.{ByItself, IsAnswered};
-ghost use Rattle.am_dialogue.specs.Talks.{KeepsGone, Lasts, Rests, saying_in, talk_of, waiting_in};
+ghost use Rattle.am_dialogue.specs.Talks.{KeepsGone, Lasts, Rests, talk_of};
 ghost use Rattle.am_living.specs.Talking.{IsTakenUp};
 
 use super::desk::Desk;
@@ -13,13 +12,6 @@ use am_http::session::SessionOutput;
 use am_instance::Instance;
 use am_upkeep::Keeper;
 use std::mem;
-
-/// Has this be still to be done for a connection.
-fn keep_to_do(dialogue: &mut Conversation, work: Work)
-    ensures { talk_of dialogue.new ≡ record (talk_of dialogue.old) { waiting = waiting_in work; saying = saying_in work } }
-{
-    dialogue.work = work;
-}
 
 impl<U: Keeper> Desk<'_, U> {
     /// Goes on with what is still to be done for a connection. What waits for its turn goes on waiting.
@@ -31,7 +23,7 @@ impl<U: Keeper> Desk<'_, U> {
             Work::Judging(said, judging) => self.go_on_judging(instance, dialogue, said, judging),
             Work::PendingReply(making) => dialogue.go_on(self.alloc, making),
             Work::Call(call) => self.go_on_call(instance, dialogue, call),
-            other => keep_to_do(dialogue, other),
+            other => dialogue.set(other),
         }
     }
 
@@ -90,7 +82,7 @@ impl<U: Keeper> Desk<'_, U> {
                 let called = self.take_turn(instance, turn);
                 self.follow_call(dialogue, called);
             }
-            other => keep_to_do(dialogue, other),
+            other => dialogue.set(other),
         }
     }
 }
