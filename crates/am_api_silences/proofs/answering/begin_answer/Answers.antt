@@ -1,13 +1,5 @@
-use Rattle.std.proofs.Common.{Ok, Err}
+use Rattle.std.proofs.Common.{Err}
 use Rattle.am_api_silences.proofs.answering.begin_answer.Goals as goal
-
-pub returns-in-Ok : goal.returns-in-Ok
-returns-in-Ok c = λ reply made. record {
-  meant = Ok c.in-Ok.event;
-  means = c.in-Ok.ensures;
-  refused = tt;
-  stepped = c.step.ensures reply made;
-}
 
 pub returns-in-Err : goal.returns-in-Err
 returns-in-Err c = λ reply made. record {
