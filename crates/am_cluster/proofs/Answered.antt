@@ -1,6 +1,6 @@
 -- What an answered step was.
 use Rattle.std.proofs.Common.{◌≡◌, ◌⊎◌, inl, inr, ◌∙◌, ◌<◌, ◌≤◌, ℕ, Bool, true, false, List, [], Some, None, Option, Result, Ok, Err, ap, refl, sym, subst, length}
-use Rattle.std.specs.Prelude.{MatchOption, option_and_then, if◌then◌else◌}
+use Rattle.std.specs.Prelude.{option_and_then, if◌then◌else◌}
 use Rattle.std.specs.Str.{bytes_eq}
 use Rattle.std.proofs.lemmas.List.Quantifiers.{position-Some}
 use Rattle.am_gossip.specs.declared.frame.Frame.{Frame}
@@ -32,11 +32,11 @@ use Rattle.am_cluster.specs.declared.error.ClusterError.TheVariants as errors
 use Rattle.am_cluster.specs.declared.journal.mark.Mark.{Mark}
 use Rattle.am_cluster.specs.declared.journal.mark.Mark.TheVariants as marks
 use Rattle.am_cluster.specs.Delivering.{IsDelivery, delivery}
-use Rattle.am_cluster.specs.Doing.{IsCarriedOut, IsDone, quiet}
+use Rattle.am_cluster.specs.Doing.{IsCarriedOut, IsDone}
 use Rattle.am_cluster.specs.Events.{HasHappened, IsTold}
-use Rattle.am_cluster.specs.Refusals.{IsRefused, IsUnmade, mark_of, refused_anyway}
-use Rattle.am_cluster.specs.Lives.{IsStart, OfMember}
-use Rattle.am_cluster.specs.Steps.{AtNamed, IsStepped, place_in}
+use Rattle.am_cluster.specs.Refusals.{IsRefused, mark_of, refused_anyway}
+use Rattle.am_cluster.specs.Lives.{IsStart}
+use Rattle.am_cluster.specs.Steps.{IsStepped, place_in}
 use Rattle.am_cluster.specs.Ties.{IsWorld}
 use Rattle.am_cluster.specs.Worlds.{Replica, World, replica_at}
 use Rattle.am_cluster.proofs.Places.{set_length}
@@ -93,42 +93,39 @@ module _ (old new : World) (at line place : ℕ) (replica : Replica) (reply : Re
     log = refl;
   }
 
-  started_goes : (done : Result Unit ClusterError) → Ok reply ≡ quiet done → IsStart old place replica at line done new → GoesOnBy old new at
-  started_goes (Ok u) e is = record {
+  started_goes : IsStart old place replica at line (Ok reply) new → GoesOnBy old new at
+  started_goes is = record {
     goes = record {
-      members = ap (λ w. length w.replicas) is ∙ set_length old.replicas place _;
-      silences = record { step = Started place at; rest = []; parts = ap (λ w. w.silences) is; begins = refl };
-      log = record { step = Started place at; rest = []; parts = ap (λ w. w.log) is; begins = refl };
+      members = ap (λ w. length w.replicas) is.1 ∙ set_length old.replicas place _;
+      silences = record { step = Started place at; rest = []; parts = ap (λ w. w.silences) is.1; begins = refl };
+      log = record { step = Started place at; rest = []; parts = ap (λ w. w.log) is.1; begins = refl };
     };
     silences = refl;
     log = refl;
   }
-  started_goes (Err error) e is = absurd cc
 
   does_go : (what : Asked) → IsCarriedOut old place replica what at line (Ok reply) new → GoesOnBy old new at
   does_go (asked.Event e source) has = happened_goes e source has
-  does_go asked.Start is = started_goes is.0 is.1 is.2
+  does_go asked.Start is = started_goes is
   does_go asked.NoMember never = absurd never
 
-  by_cause : (what : Asked) (o : Option ClusterError) →
-      MatchOption o (IsUnmade old (Ok reply) new ⊎ IsCarriedOut old place replica what at line (Ok reply) new) (λ cause. IsRefused cause (mark_of cause place at) old line (Ok reply) new) →
+  by_cause : (what : Asked) → IsDone old place replica what at line (Ok reply) new → (o : Option ClusterError) → refused_anyway replica what at ≡ o →
       IsCarriedOut old place replica what at line (Ok reply) new
-  by_cause what None (inl unmade) = absurd (let error = unmade.error in cc)
-  by_cause what None (inr does) = does
-  by_cause what (Some cause) refused = absurd (never_refused old new line reply cause (mark_of cause place at) refused)
+  by_cause what done None none = elim (done.done none) [ inl unmade ↦ absurd (let error = unmade.error in cc) | inr does ↦ does ]
+  by_cause what done (Some cause) stands = absurd (never_refused old new line reply cause (mark_of cause place at) (done.refused cause stands))
 
   -- what was asked of a member was carried out, where that was answered
   pub done_answered : (what : Asked) → IsDone old place replica what at line (Ok reply) new → IsCarriedOut old place replica what at line (Ok reply) new
-  done_answered what done = by_cause what (refused_anyway replica what at) done
+  done_answered what done = by_cause what done (refused_anyway replica what at) refl
 
 module _ (old new : World) (is : IsWorld old) (at line : ℕ) (reply : Reply) where
-  by_place : (name : List ℕ) (event : LineEvent) (o : Option ℕ) → place_in old name ≡ o →
-      AtNamed old o at line (λ p r. IsDone old p r (asked_by r.stand.config event) at line (Ok reply) new) (Ok reply) new → GoesOnBy old new at
-  by_place name event None named refused = absurd (never_refused old new line reply errors.UnknownPeer (marks.Refused at) refused)
-  by_place name event (Some place) named done =
+  by_place : (name : List ℕ) (event : LineEvent) → IsStepped old (actions.Event at name event) line (Ok reply) new → (o : Option ℕ) → place_in old name ≡ o → GoesOnBy old new at
+  by_place name event step None none = absurd (never_refused old new line reply errors.UnknownPeer (marks.Refused at) (step.event_of_nobody at name event refl none))
+  by_place name event step (Some place) named =
       let there = named_there old is name place named in
       let what = asked_by there.0.stand.config event in
-      does_go old new at line place there.0 reply what (done_answered old new at line place there.0 reply what (done there.0 there.1))
+      let done = step.event at name event place there.0 refl (record { named = named; found = there.1 }) in
+      does_go old new at line place there.0 reply what (done_answered old new at line place there.0 reply what done)
 
   by_number : (number : ℕ) → IsDelivery old number at line (Ok reply) new → GoesOnBy old new at
   by_number number (inl refused) = absurd (never_refused old new line reply errors.NoFrame (marks.Refused at) refused.1)
@@ -138,9 +135,9 @@ module _ (old new : World) (is : IsWorld old) (at line : ℕ) (reply : Reply) wh
       does_go old new at line del.flight.addressee there.0 reply what (done_answered old new at line del.flight.addressee there.0 reply what (del.done there.0 there.1))
 
   pub step_goes : (action : Action) → moment_of action ≡ Some at → IsStepped old action line (Ok reply) new → GoesOnBy old new at
-  step_goes (actions.Event now name event) same stepped =
-      let at_now : now ≡ at = cc in by_place name event (place_in old name) refl (subst (λ t. IsStepped old (actions.Event t name event) line (Ok reply) new) at_now stepped)
-  step_goes (actions.Deliver now number) same stepped = let at_now : now ≡ at = cc in by_number number (subst (λ t. IsStepped old (actions.Deliver t number) line (Ok reply) new) at_now stepped)
+  step_goes (actions.Event now name event) same step =
+      let at_now : now ≡ at = cc in by_place name event (subst (λ t. IsStepped old (actions.Event t name event) line (Ok reply) new) at_now step) (place_in old name) refl
+  step_goes (actions.Deliver now number) same step = let at_now : now ≡ at = cc in by_number number (subst (λ t. IsDelivery old number t line (Ok reply) new) at_now (step.deliver now number refl))
   step_goes (actions.Stop name) same stepped = absurd cc
   step_goes (actions.Save name) same stepped = absurd cc
   step_goes (actions.Lose number) same stepped = absurd cc
@@ -159,10 +156,8 @@ reply_of stand after e now source (Err (step_errors.Memory taken)) frames reply 
 pub step_replies : (old new : World) (action : Action) (now line place : ℕ) (replica : Replica) (e : Event) (reply : Reply) →
     Asks old action place replica e now → IsStepped old action line (Ok reply) new → Replies replica e now reply
 step_replies old new action now line place replica e reply asks stepped =
-    let here = subst (λ a. IsStepped old a line (Ok reply) new) asks.says stepped in
-    let at_place : OfMember old place (λ r. IsDone old place r (asked_by r.stand.config asks.line) now line (Ok reply) new) =
-    subst (λ o. AtNamed old o now line (λ p r. IsDone old p r (asked_by r.stand.config asks.line) now line (Ok reply) new) (Ok reply) new) asks.named here in
-    let done = done_answered old new now line place replica reply (asked_by replica.stand.config asks.line) (at_place replica asks.found) in
+    let done = done_answered old new now line place replica reply (asked_by replica.stand.config asks.line)
+    (stepped.event now asks.name asks.line place replica asks.says (record { named = asks.named; found = asks.found })) in
     let has : HasHappened old place replica e asks.source now line (Ok reply) new = subst (λ a. IsCarriedOut old place replica a now line (Ok reply) new) asks.asked done in
     let said = reply_of replica.stand has.stand e now asks.source has.answer has.frames reply has.step has.told in
     record { runs = has.runs; past = said.2; made = said.0; is = said.1 }

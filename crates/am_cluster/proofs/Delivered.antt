@@ -29,6 +29,7 @@ use Rattle.am_cluster.proofs.Goes.{sent_there}
 use Rattle.am_cluster.proofs.Lost.{place_within}
 use Rattle.am_cluster.proofs.Places.{some_is}
 use Rattle.am_cluster.proofs.Refusing.{can_have}
+use Rattle.am_cluster.proofs.Stepping.{done_by}
 
 -- the frame that is read at a place is the one that bears the number
 read_there : (flights : List Flight) (number place : ℕ) (g : Flight) (at : IsNumberedAt flights number place) → g ≡ slice_index_or flights place g → slice_get flights place ≡ Some g
@@ -103,8 +104,7 @@ module _ (w : World) (number : ℕ) (a : Arrival) (is : IsArrival w number a) wh
         (λ cause. IsRefused cause (mark_of cause a.place now) w line result new) →
         IsDone w a.place replica (delivery is.flight is.flying.index) now line result new
     done_of replica o told match =
-        subst (λ x. MatchOption x (IsUnmade w result new ⊎ HasHappened w a.place replica (events.Frame is.flight.sender is.flight.frame) (Arrived is.flying.index) now line result new)
-        (λ cause. IsRefused cause (mark_of cause a.place now) w line result new))
+        done_by w new a.place replica (delivery is.flight is.flying.index) now line result o
         (told ∙ ap (λ s. event_refusal (is_peer replica.stand.config s) replica now) is.sender_is) match
 
     -- it is refused there

@@ -33,11 +33,11 @@ use Rattle.am_cluster.specs.Events.{HasHappened}
 use Rattle.am_cluster.specs.Lives.{IsSave, IsStart, IsStop}
 use Rattle.am_cluster.specs.Losing.{IsLoss}
 use Rattle.am_cluster.specs.Marks.{step_of_mark}
-use Rattle.am_cluster.specs.Refusals.{IsRefused, IsUnmade, mark_of, refused_anyway}
+use Rattle.am_cluster.specs.Refusals.{IsRefused, mark_of, refused_anyway}
 use Rattle.am_cluster.specs.Replicas.{Extends}
 use Rattle.am_cluster.specs.Settling.{AreCutShort, AreTurnsMade, IsSettle, IsStopped, IsTurn, Turn, begun, late_places, loan}
 use Rattle.am_cluster.specs.Settling.Turn.{Collects, Takes}
-use Rattle.am_cluster.specs.Steps.{AtNamed, IsStepped, OfNamed, place_in}
+use Rattle.am_cluster.specs.Steps.{IsStepped, place_in}
 use Rattle.am_cluster.specs.Ties.{IsWorld}
 use Rattle.am_cluster.specs.Worlds.{Replica, World}
 use Rattle.am_cluster.proofs.Answered.{event_moment, named_there}
@@ -111,8 +111,8 @@ module _ (old new : World) (at line place : ℕ) (replica : Replica) (result : R
       (ap (λ w. length w.replicas) h.world ∙ set_length old.replicas place _) (ap (λ w. w.silences) h.world) (ap (λ w. w.log) h.world) (ap (λ w. w.lines) h.world)
       (event_moment silence_state place at source e h.answer h.frames) (event_moment log_state place at source e h.answer h.frames)
 
-  started_extends : (done : Result Unit ClusterError) → IsStart old place replica at line done new → Extends old new (Some at) line
-  started_extends (Ok u) is = by_one (Some at) line old new (Started place at) (Started place at) (ap (λ w. length w.replicas) is ∙ set_length old.replicas place _) (ap (λ w. w.silences) is) (ap (λ w. w.log) is) (ap (λ w. w.lines) is) refl refl
+  started_extends : (done : Result Reply ClusterError) → IsStart old place replica at line done new → Extends old new (Some at) line
+  started_extends (Ok reply) is = by_one (Some at) line old new (Started place at) (Started place at) (ap (λ w. length w.replicas) is.1 ∙ set_length old.replicas place _) (ap (λ w. w.silences) is.1) (ap (λ w. w.log) is.1) (ap (λ w. w.lines) is.1) refl refl
   started_extends (Err errors.Memory) is = unchanged (Some at) line old new is
   started_extends (Err errors.NoFrame) is = absurd is
   started_extends (Err errors.Running) is = absurd is
@@ -122,21 +122,20 @@ module _ (old new : World) (at line place : ℕ) (replica : Replica) (result : R
 
   carried_extends : (what : Asked) → IsCarriedOut old place replica what at line result new → Extends old new (Some at) line
   carried_extends (asked.Event e source) has = happened_extends e source has
-  carried_extends asked.Start is = started_extends is.0 is.2
+  carried_extends asked.Start is = started_extends result is
   carried_extends asked.NoMember never = absurd never
 
-  by_cause : (what : Asked) (o : Option ClusterError) →
-      MatchOption o (IsUnmade old result new ⊎ IsCarriedOut old place replica what at line result new) (λ cause. IsRefused cause (mark_of cause place at) old line result new) → Extends old new (Some at) line
-  by_cause what None (inl unmade) = unchanged (Some at) line old new unmade.world
-  by_cause what None (inr does) = carried_extends what does
-  by_cause what (Some cause) refused = refused_extends (Some at) line old new cause (mark_of cause place at) result (mark_moment Mesh cause place at) (mark_moment LogMesh cause place at) refused
+  by_cause : (what : Asked) → IsDone old place replica what at line result new → (o : Option ClusterError) → refused_anyway replica what at ≡ o → Extends old new (Some at) line
+  by_cause what done None none = elim (done.done none) [ inl unmade ↦ unchanged (Some at) line old new unmade.world | inr does ↦ carried_extends what does ]
+  by_cause what done (Some cause) stands =
+      refused_extends (Some at) line old new cause (mark_of cause place at) result (mark_moment Mesh cause place at) (mark_moment LogMesh cause place at) (done.refused cause stands)
 
   pub done_extends : (what : Asked) → IsDone old place replica what at line result new → Extends old new (Some at) line
-  done_extends what done = by_cause what (refused_anyway replica what at) done
+  done_extends what done = by_cause what done (refused_anyway replica what at) refl
 
 module _ (old new : World) (line place : ℕ) (replica : Replica) where
-  saved_extends : (done : Result Unit ClusterError) → IsSave old place replica line done new → Extends old new None line
-  saved_extends (Ok u) is = by_one None line old new (Saved place) (Saved place) (ap (λ w. length w.replicas) is.1 ∙ set_length old.replicas place _) (ap (λ w. w.silences) is.1) (ap (λ w. w.log) is.1) (ap (λ w. w.lines) is.1) refl refl
+  saved_extends : (done : Result Reply ClusterError) → IsSave old place replica line done new → Extends old new None line
+  saved_extends (Ok reply) is = by_one None line old new (Saved place) (Saved place) (ap (λ w. length w.replicas) is.2 ∙ set_length old.replicas place _) (ap (λ w. w.silences) is.2) (ap (λ w. w.log) is.2) (ap (λ w. w.lines) is.2) refl refl
   saved_extends (Err errors.Stopped) is = unchanged None line old new is.1
   saved_extends (Err errors.Memory) is = unchanged None line old new is.1
   saved_extends (Err errors.NoFrame) is = absurd is
@@ -144,8 +143,8 @@ module _ (old new : World) (line place : ℕ) (replica : Replica) where
   saved_extends (Err (errors.MomentBack last)) is = absurd is
   saved_extends (Err errors.UnknownPeer) is = absurd is
 
-  stopped_extends : (done : Result Unit ClusterError) → IsStop old place replica line done new → Extends old new None line
-  stopped_extends (Ok u) is = by_one None line old new (Stopped place) (Stopped place) (ap (λ w. length w.replicas) is.1 ∙ set_length old.replicas place _) (ap (λ w. w.silences) is.1) (ap (λ w. w.log) is.1) (ap (λ w. w.lines) is.1) refl refl
+  stopped_extends : (done : Result Reply ClusterError) → IsStop old place replica line done new → Extends old new None line
+  stopped_extends (Ok reply) is = by_one None line old new (Stopped place) (Stopped place) (ap (λ w. length w.replicas) is.2 ∙ set_length old.replicas place _) (ap (λ w. w.silences) is.2) (ap (λ w. w.log) is.2) (ap (λ w. w.lines) is.2) refl refl
   stopped_extends (Err errors.Stopped) is = unchanged None line old new is.1
   stopped_extends (Err errors.Memory) is = unchanged None line old new is.2
   stopped_extends (Err errors.NoFrame) is = absurd is
@@ -154,8 +153,8 @@ module _ (old new : World) (line place : ℕ) (replica : Replica) where
   stopped_extends (Err errors.UnknownPeer) is = absurd is
 
 module _ (old new : World) (line number : ℕ) where
-  lost_extends : (done : Result Unit ClusterError) → IsLoss old number done new → Extends old new None line
-  lost_extends (Ok u) lost = by_nothing None line old new (ap (λ w. length w.replicas) lost.world) (ap (λ w. w.silences) lost.world) (ap (λ w. w.log) lost.world) (ap (λ w. w.lines) lost.world)
+  lost_extends : (done : Result Reply ClusterError) → IsLoss old number done new → Extends old new None line
+  lost_extends (Ok reply) is = let lost = is.1 in by_nothing None line old new (ap (λ w. length w.replicas) lost.world) (ap (λ w. w.silences) lost.world) (ap (λ w. w.log) lost.world) (ap (λ w. w.lines) lost.world)
   lost_extends (Err errors.NoFrame) is = unchanged None line old new is.1
   lost_extends (Err errors.Running) is = absurd is
   lost_extends (Err errors.Stopped) is = absurd is
@@ -164,15 +163,23 @@ module _ (old new : World) (line number : ℕ) where
   lost_extends (Err errors.Memory) is = absurd is
 
 module _ (old new : World) (is : IsWorld old) (line : ℕ) (result : Result Reply ClusterError) where
-  at_named : (at : ℕ) (name : List ℕ) (event : LineEvent) (o : Option ℕ) → place_in old name ≡ o →
-      AtNamed old o at line (λ p r. IsDone old p r (asked_by r.stand.config event) at line result new) result new → Extends old new (Some at) line
-  at_named at name event None named refused = refused_extends (Some at) line old new errors.UnknownPeer (marks.Refused at) result refl refl refused
-  at_named at name event (Some place) named done =
-      let there = named_there old is name place named in done_extends old new at line place there.0 result (asked_by there.0.stand.config event) (done there.0 there.1)
+  by_event : (at : ℕ) (name : List ℕ) (event : LineEvent) → IsStepped old (actions.Event at name event) line result new → (o : Option ℕ) → place_in old name ≡ o → Extends old new (Some at) line
+  by_event at name event step None none = refused_extends (Some at) line old new errors.UnknownPeer (marks.Refused at) result refl refl (step.event_of_nobody at name event refl none)
+  by_event at name event step (Some place) named =
+      let there = named_there old is name place named in
+      done_extends old new at line place there.0 result (asked_by there.0.stand.config event) (step.event at name event place there.0 refl (record { named = named; found = there.1 }))
 
-  of_named : (name : List ℕ) (P : ℕ → Replica → Type 0) (o : Option ℕ) → place_in old name ≡ o → ((place : ℕ) (replica : Replica) → P place replica → Extends old new None line) → OfNamed old o P result new → Extends old new None line
-  of_named name P None named each none = unchanged None line old new none.1
-  of_named name P (Some place) named each holds = let there = named_there old is name place named in each place there.0 (holds there.0 there.1)
+  by_stop : (name : List ℕ) → IsStepped old (actions.Stop name) line result new → (o : Option ℕ) → place_in old name ≡ o → Extends old new None line
+  by_stop name step None none = unchanged None line old new (step.nobody name (inl refl) none).1
+  by_stop name step (Some place) named =
+      let there = named_there old is name place named in
+      stopped_extends old new line place there.0 result (step.stop name place there.0 refl (record { named = named; found = there.1 }))
+
+  by_save : (name : List ℕ) → IsStepped old (actions.Save name) line result new → (o : Option ℕ) → place_in old name ≡ o → Extends old new None line
+  by_save name step None none = unchanged None line old new (step.nobody name (inr refl) none).1
+  by_save name step (Some place) named =
+      let there = named_there old is name place named in
+      saved_extends old new line place there.0 result (step.save name place there.0 refl (record { named = named; found = there.1 }))
 
   by_number : (at number : ℕ) → IsDelivery old number at line result new → Extends old new (Some at) line
   by_number at number (inl refused) = refused_extends (Some at) line old new errors.NoFrame (marks.Refused at) result refl refl refused.1
@@ -181,11 +188,11 @@ module _ (old new : World) (is : IsWorld old) (line : ℕ) (result : Result Repl
       done_extends old new at line del.flight.addressee there.0 result (delivery del.flight del.index) (del.done there.0 there.1)
 
   pub step_extends : (action : Action) → IsStepped old action line result new → Extends old new (moment_of action) line
-  step_extends (actions.Event at name event) stepped = at_named at name event (place_in old name) refl stepped
-  step_extends (actions.Deliver at number) stepped = by_number at number stepped
-  step_extends (actions.Stop name) stepped = of_named name _ (place_in old name) refl (λ place replica q. stopped_extends old new line place replica q.0 q.2) stepped
-  step_extends (actions.Save name) stepped = of_named name _ (place_in old name) refl (λ place replica q. saved_extends old new line place replica q.0 q.2) stepped
-  step_extends (actions.Lose number) stepped = lost_extends old new line number stepped.0 stepped.2
+  step_extends (actions.Event at name event) step = by_event at name event step (place_in old name) refl
+  step_extends (actions.Deliver at number) step = by_number at number (step.deliver at number refl)
+  step_extends (actions.Stop name) step = by_stop name step (place_in old name) refl
+  step_extends (actions.Save name) step = by_save name step (place_in old name) refl
+  step_extends (actions.Lose number) step = lost_extends old new line number result (step.lose number refl)
 
 -- ---- settles
 

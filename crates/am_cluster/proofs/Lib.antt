@@ -11,6 +11,7 @@ pub mod Acted
 pub mod Telling
 pub mod Born
 pub mod Lost
+pub mod Stepping
 pub mod Delivered
 pub mod Asked
 pub mod Lent

@@ -11,11 +11,10 @@ use Rattle.am_cluster.specs.declared.error.ClusterError.TheVariants as errors
 use Rattle.am_cluster.specs.declared.flight.Flight.{Flight}
 use Rattle.am_cluster.specs.declared.journal.mark.Mark.TheVariants as marks
 use Rattle.am_cluster.specs.Doing.{IsDone}
-use Rattle.am_cluster.specs.Lives.{OfMember}
 use Rattle.am_cluster.specs.Losing.{IsNoNumber}
 use Rattle.am_cluster.specs.Refusals.{IsRefused}
 use Rattle.am_cluster.specs.Ties.{IsFlying}
-use Rattle.am_cluster.specs.Worlds.{World}
+use Rattle.am_cluster.specs.Worlds.{Replica, World, replica_at}
 
 -- a frame in flight of this number, as it is about to arrive
 pub record IsArrival (world : World) (number : ℕ) (arrival : Arrival) : Type 0 where
@@ -33,12 +32,16 @@ delivery flight index = asked.Event (events.Frame flight.sender flight.frame) (A
 
 -- the frame of this number comes to its addressee, as an event there; it stays in flight
 pub record IsDelivered (old : World) (number now line : ℕ) (result : Result Reply ClusterError) (new : World) : Type 0 where
+  -- it is in flight
   pub flight : Flight
   pub there : Contains old.flights flight
   pub bears : flight.number ≡ number
+  -- it has this place among all that were ever sent
   pub index : ℕ
   pub index_is : flight.number ≡ index + 1
-  pub done : OfMember old flight.addressee (λ replica. IsDone old flight.addressee replica (delivery flight index) now line result new)
+  -- what it brings is done at its addressee
+  pub done : (replica : Replica) → replica_at old flight.addressee ≡ Some replica →
+      IsDone old flight.addressee replica (delivery flight index) now line result new
 
 -- what came of delivering the frame of a number: where none in flight has it the step is refused
 abbrev pub IsDelivery : World → ℕ → ℕ → ℕ → Result Reply ClusterError → World → Type 0

@@ -54,11 +54,14 @@ pub record CanHave (replica : Replica) (event : Event) (now : ℕ) : Type 0 wher
 pub record HasHappened (old : World) (place : ℕ) (replica : Replica) (event : Event) (source : Source) (now line : ℕ)
     (result : Result Reply ClusterError) (new : World) : Type 0 where
   pub runs : replica.runs ≡ true
+  -- this its instance answers, and so it stands then
   pub answer : Result Outcome StepError
   pub stand : InstanceState
   pub step : IsStep replica.stand event now answer stand
+  -- these frames fly then, and the cluster answers so
   pub frames : List (ℕ × Frame)
   pub told : IsTold source answer frames result
+  -- the step is written down in both runs, and nothing else changes
   pub world : new ≡
       written (with_flights (with_replica old place (with_stand replica stand)) place now frames)
       (event_step silence_state place now source event answer frames) (event_step log_state place now source event answer frames) line

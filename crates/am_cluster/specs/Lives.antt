@@ -1,5 +1,7 @@
 -- How a member is saved, stopped and started.
 use Rattle.std.specs.Prelude.{◌≡◌, ℕ, ◌≤◌, true, false, Some, Result, Ok, Err}
+use Rattle.am_instance.specs.declared.reply.Reply.{Reply}
+use Rattle.am_instance.specs.declared.reply.Reply.TheVariants.{Nothing}
 use Rattle.am_runs.specs.Steps.RunStep.{Saved, Stopped, Started}
 use Rattle.am_cluster.specs.declared.error.ClusterError.{ClusterError}
 use Rattle.am_cluster.specs.declared.error.ClusterError.TheVariants as errors
@@ -19,17 +21,17 @@ started replica now =
     record replica { stand = record replica.stand { silences = replica.saved_silences; log = replica.saved_log; last = now }; runs = true }
 
 -- What came of saving a member. A stopped one is told as such, and want of memory only of one that runs; neither is written down.
-abbrev pub IsSave : World → ℕ → Replica → ℕ → Result Unit ClusterError → World → Type 0
-IsSave old place replica line (Ok _) new =
-    (replica.runs ≡ true) × (new ≡ written (with_replica old place (saved replica)) (Saved place) (Saved place) line)
+abbrev pub IsSave : World → ℕ → Replica → ℕ → Result Reply ClusterError → World → Type 0
+IsSave old place replica line (Ok reply) new =
+    (reply ≡ Nothing) × (replica.runs ≡ true) × (new ≡ written (with_replica old place (saved replica)) (Saved place) (Saved place) line)
 IsSave old place replica line (Err errors.Stopped) new = (replica.runs ≡ false) × (new ≡ old)
 IsSave old place replica line (Err errors.Memory) new = (replica.runs ≡ true) × (new ≡ old)
 IsSave old place replica line (Err _) new = ⊥
 
 -- What came of stopping it. Want of memory is told only where there was no room to write it down.
-abbrev pub IsStop : World → ℕ → Replica → ℕ → Result Unit ClusterError → World → Type 0
-IsStop old place replica line (Ok _) new =
-    (replica.runs ≡ true) × (new ≡ written (with_replica old place (stopped replica)) (Stopped place) (Stopped place) line)
+abbrev pub IsStop : World → ℕ → Replica → ℕ → Result Reply ClusterError → World → Type 0
+IsStop old place replica line (Ok reply) new =
+    (reply ≡ Nothing) × (replica.runs ≡ true) × (new ≡ written (with_replica old place (stopped replica)) (Stopped place) (Stopped place) line)
 IsStop old place replica line (Err errors.Stopped) new = (replica.runs ≡ false) × (new ≡ old)
 IsStop old place replica line (Err errors.Memory) new = (replica.runs ≡ true) × (old.room ≡ 0) × (new ≡ old)
 IsStop old place replica line (Err _) new = ⊥
@@ -40,9 +42,9 @@ pub record CanBegin (replica : Replica) (now : ℕ) : Type 0 where
   pub forward : replica.stand.last ≤ now
 
 -- what came of starting one that can be
-abbrev pub IsStart : World → ℕ → Replica → ℕ → ℕ → Result Unit ClusterError → World → Type 0
-IsStart old place replica now line (Ok _) new =
-    new ≡ written (with_replica old place (started replica now)) (Started place now) (Started place now) line
+abbrev pub IsStart : World → ℕ → Replica → ℕ → ℕ → Result Reply ClusterError → World → Type 0
+IsStart old place replica now line (Ok reply) new =
+    (reply ≡ Nothing) × (new ≡ written (with_replica old place (started replica now)) (Started place now) (Started place now) line)
 IsStart old place replica now line (Err errors.Memory) new = new ≡ old
 IsStart old place replica now line (Err _) new = ⊥
 

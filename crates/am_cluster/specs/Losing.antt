@@ -1,5 +1,7 @@
 -- How a frame in flight is found by its number, and how one is lost.
 use Rattle.std.specs.Prelude.{◌≡◌, ◌≢◌, ℕ, List, ◌∷◌, ◌++◌, Some, Result, Ok, Err, slice_get, Contains}
+use Rattle.am_instance.specs.declared.reply.Reply.{Reply}
+use Rattle.am_instance.specs.declared.reply.Reply.TheVariants.{Nothing}
 use Rattle.am_cluster.specs.declared.error.ClusterError.{ClusterError}
 use Rattle.am_cluster.specs.declared.error.ClusterError.TheVariants as errors
 use Rattle.am_cluster.specs.declared.flight.Flight.{Flight}
@@ -25,7 +27,7 @@ pub record HasLost (old : World) (number : ℕ) (new : World) : Type 0 where
   pub world : new ≡ record old { flights = before ++ after }
 
 -- what came of losing the frame of a number
-abbrev pub IsLoss : World → ℕ → Result Unit ClusterError → World → Type 0
-IsLoss old number (Ok _) new = HasLost old number new
+abbrev pub IsLoss : World → ℕ → Result Reply ClusterError → World → Type 0
+IsLoss old number (Ok reply) new = (reply ≡ Nothing) × HasLost old number new
 IsLoss old number (Err errors.NoFrame) new = IsNoNumber old.flights number × (new ≡ old)
 IsLoss old number (Err _) new = ⊥

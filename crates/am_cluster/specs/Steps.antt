@@ -1,5 +1,5 @@
 -- What a step of a schedule does to the cluster.
-use Rattle.std.specs.Prelude.{◌≡◌, ℕ, List, Option, Some, None, Result, Err, option_and_then}
+use Rattle.std.specs.Prelude.{◌≡◌, ◌⊎◌, ℕ, List, Option, Some, None, Result, Err, option_and_then}
 use Rattle.am_silence.specs.Mesh.{Mesh}
 use Rattle.am_nflog.specs.Mesh.{Mesh as LogMesh}
 use Rattle.am_runs.specs.Steps.{RunStep}
@@ -7,6 +7,7 @@ use Rattle.am_steps.specs.BothStates.{log_state, silence_state}
 use Rattle.am_steps.specs.Recorded.{HasSource}
 use Rattle.am_schedule.specs.declared.step.Action.{Action}
 use Rattle.am_schedule.specs.declared.step.Action.TheVariants as actions
+use Rattle.am_schedule.specs.declared.step.LineEvent.{LineEvent}
 use Rattle.am_instance.specs.Configs.{place_named}
 use Rattle.am_instance.specs.declared.reply.Reply.{Reply}
 use Rattle.am_steps.specs.declared.asked.Asked.{Asked}
@@ -15,9 +16,9 @@ use Rattle.am_steps.specs.Events.{asked_by}
 use Rattle.am_cluster.specs.declared.error.ClusterError.{ClusterError}
 use Rattle.am_cluster.specs.declared.error.ClusterError.TheVariants as errors
 use Rattle.am_cluster.specs.declared.journal.mark.Mark.TheVariants as marks
-use Rattle.am_cluster.specs.Doing.{IsDone, Quietly}
+use Rattle.am_cluster.specs.Doing.{IsDone}
 use Rattle.am_cluster.specs.Delivering.{IsDelivery}
-use Rattle.am_cluster.specs.Lives.{IsSave, IsStop, OfMember}
+use Rattle.am_cluster.specs.Lives.{IsSave, IsStop}
 use Rattle.am_cluster.specs.Losing.{IsLoss}
 use Rattle.am_cluster.specs.Refusals.{IsRefused}
 use Rattle.am_cluster.specs.Worlds.{Replica, World, replica_at}
@@ -33,24 +34,29 @@ Fits (asked.Event event source) = (members now : ℕ) →
     × ((before : List (RunStep LogMesh)) → HasSource log_state members before now event source)
 Fits _ = Unit {0}
 
--- at the member of a name; where there is none, the step is refused as that of an unknown peer
-abbrev pub AtNamed : World → Option ℕ → ℕ → ℕ → (ℕ → Replica → Type 0) → Result Reply ClusterError → World → Type 0
-AtNamed old None now line P result new = IsRefused errors.UnknownPeer (marks.Refused now) old line result new
-AtNamed old (Some place) now line P result new = OfMember old place (P place)
+-- this one is the member of a name
+pub record IsNamed (world : World) (name : List ℕ) (place : ℕ) (replica : Replica) : Type 0 where
+  pub named : place_in world name ≡ Some place
+  pub found : replica_at world place ≡ Some replica
 
--- the same where no moment is written: then nothing is written down
-abbrev pub OfNamed : World → Option ℕ → (ℕ → Replica → Type 0) → Result Reply ClusterError → World → Type 0
-OfNamed old None P result new = (result ≡ Err errors.UnknownPeer) × (new ≡ old)
-OfNamed old (Some place) P result new = OfMember old place (P place)
-
--- what came of a step
-abbrev pub IsStepped : World → Action → ℕ → Result Reply ClusterError → World → Type 0
-IsStepped old (actions.Event at name event) line result new =
-    AtNamed old (place_in old name) at line
-    (λ place replica. IsDone old place replica (asked_by replica.stand.config event) at line result new) result new
-IsStepped old (actions.Stop name) line result new =
-    OfNamed old (place_in old name) (λ place replica. Quietly (λ done. IsStop old place replica line done new) result) result new
-IsStepped old (actions.Save name) line result new =
-    OfNamed old (place_in old name) (λ place replica. Quietly (λ done. IsSave old place replica line done new) result) result new
-IsStepped old (actions.Deliver at frame) line result new = IsDelivery old frame at line result new
-IsStepped old (actions.Lose frame) line result new = Quietly (λ done. IsLoss old frame done new) result
+-- What came of a step of a schedule: `old` is the cluster before it, `new` the one behind it, and `result` the answer.
+pub record IsStepped (old : World) (action : Action) (line : ℕ) (result : Result Reply ClusterError) (new : World) : Type 0 where
+  -- what a line asks of the member of a name is done there
+  pub event : (at : ℕ) (name : List ℕ) (event : LineEvent) (place : ℕ) (replica : Replica) → action ≡ actions.Event at name event →
+      IsNamed old name place replica → IsDone old place replica (asked_by replica.stand.config event) at line result new
+  -- where no member has the name it is refused as that of an unknown peer, and that is written down
+  pub event_of_nobody : (at : ℕ) (name : List ℕ) (event : LineEvent) → action ≡ actions.Event at name event →
+      place_in old name ≡ None → IsRefused errors.UnknownPeer (marks.Refused at) old line result new
+  -- the member of a name is stopped
+  pub stop : (name : List ℕ) (place : ℕ) (replica : Replica) → action ≡ actions.Stop name →
+      IsNamed old name place replica → IsStop old place replica line result new
+  -- or saved
+  pub save : (name : List ℕ) (place : ℕ) (replica : Replica) → action ≡ actions.Save name →
+      IsNamed old name place replica → IsSave old place replica line result new
+  -- where no member has the name neither is, and nothing is written down
+  pub nobody : (name : List ℕ) → (action ≡ actions.Stop name) ⊎ (action ≡ actions.Save name) →
+      place_in old name ≡ None → (result ≡ Err errors.UnknownPeer) × (new ≡ old)
+  -- the frame of a number comes to its addressee
+  pub deliver : (at number : ℕ) → action ≡ actions.Deliver at number → IsDelivery old number at line result new
+  -- or it is lost
+  pub lose : (number : ℕ) → action ≡ actions.Lose number → IsLoss old number result new

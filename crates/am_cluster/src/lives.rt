@@ -6,11 +6,12 @@ ghost use Rattle.am_cluster.specs.Lives.{CanBegin, IsSave, IsStart, IsStop, OfMe
 use crate::cluster::Cluster;
 use crate::error::ClusterError;
 use crate::journal::Mark;
+use am_instance::Reply;
 use am_version_order::Moment;
 
 impl Cluster {
     /// Saves the member at a place.
-    pub(crate) fn save_at(&mut self, place: usize, line: u64) -> Result<(), ClusterError>
+    pub(crate) fn save_at(&mut self, place: usize, line: u64) -> Result<Reply, ClusterError>
         requires { place < length self.old.replicas }
         ensures { OfMember self.old place (λ replica. IsSave self.old place replica line result self.new) }
     {
@@ -21,11 +22,11 @@ impl Cluster {
         self.journal.make_room(1)?;
         self.members[place].keep(copy);
         self.journal.mark(Mark::Saved { place }, line);
-        Ok(())
+        Ok(Reply::Nothing)
     }
 
     /// Stops the member at a place.
-    pub(crate) fn stop_at(&mut self, place: usize, line: u64) -> Result<(), ClusterError>
+    pub(crate) fn stop_at(&mut self, place: usize, line: u64) -> Result<Reply, ClusterError>
         requires { place < length self.old.replicas }
         ensures { OfMember self.old place (λ replica. IsStop self.old place replica line result self.new) }
     {
@@ -35,7 +36,7 @@ impl Cluster {
         self.journal.make_room(1)?;
         self.members[place].stop();
         self.journal.mark(Mark::Stopped { place }, line);
-        Ok(())
+        Ok(Reply::Nothing)
     }
 
     /// Starts the member at a place, which is stopped, from its last save.
@@ -44,7 +45,7 @@ impl Cluster {
         place: usize,
         now: Moment,
         line: u64,
-    ) -> Result<(), ClusterError>
+    ) -> Result<Reply, ClusterError>
         requires within { place < length self.old.replicas }
         requires ready { OfMember self.old place (λ replica. CanBegin replica now) }
         ensures { OfMember self.old place (λ replica. IsStart self.old place replica now line result self.new) }
@@ -53,6 +54,6 @@ impl Cluster {
         self.journal.make_room(1)?;
         self.members[place].begin(instance);
         self.journal.mark(Mark::Started { place, now }, line);
-        Ok(())
+        Ok(Reply::Nothing)
     }
 }

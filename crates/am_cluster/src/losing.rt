@@ -7,6 +7,7 @@ ghost use Rattle.am_cluster.specs.Ties.{AreAscending};
 use crate::cluster::Cluster;
 use crate::error::ClusterError;
 use crate::flight::Flight;
+use am_instance::Reply;
 
 /// Where the frame of a number stands among those in flight, which stand by their numbers, if it flies. It takes no
 /// memory.
@@ -21,13 +22,13 @@ pub(crate) fn flight_numbered(flights: &[Flight], number: u64) -> Option<usize>
 
 impl Cluster {
     /// Loses the frame of a number. It takes no memory.
-    pub(crate) fn lose(&mut self, number: u64) -> Result<(), ClusterError>
+    pub(crate) fn lose(&mut self, number: u64) -> Result<Reply, ClusterError>
         ensures { IsLoss self.old number result self.new }
     {
         let Some(index) = flight_numbered(&self.flights, number) else {
             return Err(ClusterError::NoFrame);
         };
         self.flights.remove(index);
-        Ok(())
+        Ok(Reply::Nothing)
     }
 }

@@ -3,7 +3,7 @@
 ghost use Rattle.std.specs.Prelude.{◌≡◌, ◌<◌, IfOk, IfSome, length};
 ghost use Rattle.am_steps.specs.Events.{IsSound, asked_by};
 ghost use Rattle.am_cluster.specs.Lives.{OfMember};
-ghost use Rattle.am_cluster.specs.Doing.{IsDone, quiet};
+ghost use Rattle.am_cluster.specs.Doing.{IsDone};
 ghost use Rattle.am_cluster.specs.Steps.{Fits, IsStepped, place_in};
 
 use crate::cluster::Cluster;
@@ -14,16 +14,6 @@ use am_schedule::{Action, LineEvent, Step};
 use am_steps::{Asked, to_event};
 use am_version_order::Moment;
 use std::alloc::AllocError;
-
-/// What a step without an event is answered by.
-fn quiet(done: Result<(), ClusterError>) -> Result<Reply, ClusterError>
-    ensures { result ≡ quiet done }
-{
-    match done {
-        Ok(()) => Ok(Reply::Nothing),
-        Err(error) => Err(error),
-    }
-}
 
 impl Cluster {
     /// The place of the member of a name.
@@ -65,7 +55,7 @@ impl Cluster {
         }
         match self.asked(place, event)? {
             Asked::Event { event, source } => self.apply_event(place, event, source, now, line),
-            Asked::Start => quiet(self.start_at(place, now, line)),
+            Asked::Start => self.start_at(place, now, line),
             Asked::NoMember => unreachable!(),
         }
     }
@@ -89,15 +79,15 @@ impl Cluster {
                 }
             },
             Action::Stop { name } => match self.place_of(name.as_str()) {
-                Some(place) => quiet(self.stop_at(place, line)),
+                Some(place) => self.stop_at(place, line),
                 None => Err(ClusterError::UnknownPeer),
             },
             Action::Save { name } => match self.place_of(name.as_str()) {
-                Some(place) => quiet(self.save_at(place, line)),
+                Some(place) => self.save_at(place, line),
                 None => Err(ClusterError::UnknownPeer),
             },
             Action::Deliver { at, frame } => self.deliver(*frame, *at, line),
-            Action::Lose { frame } => quiet(self.lose(*frame)),
+            Action::Lose { frame } => self.lose(*frame),
         }
     }
 }

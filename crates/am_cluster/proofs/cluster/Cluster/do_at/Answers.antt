@@ -1,9 +1,11 @@
-use Rattle.std.proofs.Common.{◌≡◌, sym, ◌∙◌, subst, length}
+use Rattle.std.proofs.Common.{◌≡◌, Err, Some, inl, inr, refl, sym, ap, ◌∙◌, subst, length}
+use Rattle.std.proofs.lemmas.Result.{err_from_is_err_and}
 use Rattle.std.specs.Prelude.{None}
 use Rattle.am_steps.specs.Events.{IsSound}
 use Rattle.am_cluster.specs.Refusals.{refused_anyway}
 use Rattle.am_cluster.specs.Steps.{Fits}
 use Rattle.am_cluster.proofs.Refusing.{can_begin, can_have, late_cause, stranger_refused}
+use Rattle.am_cluster.proofs.Stepping.{done_as, done_by}
 use Rattle.am_cluster.proofs.Turned.{got}
 use Rattle.am_cluster.proofs.cluster.Cluster.do_at.Goals as goal
 
@@ -31,3 +33,22 @@ unreachable-requires c =
     let here = got c.args.self.now.replicas c.args.place c.requires in
     stranger_refused c.args.now here.0
     (subst (λ what. refused_anyway here.0 what c.args.now ≡ None) (sym (c.in_ok-event.ensures.asked here.0 here.1) ∙ c.in-NoMember.is) (sym (c.line_refusal.ensures here.0 here.1) ∙ c.in_default.is))
+
+pub returns-in-Some : goal.returns-in-Some
+returns-in-Some c = λ replica found.
+    done_by c.args.self.now _ c.args.place replica _ c.args.now c.args.line _ (Some c.in-Some.cause) (sym c.in-Some.is ∙ c.line_refusal.ensures replica found) c.refuse_at.ensures
+
+pub returns-in_err-event : goal.returns-in_err-event
+returns-in_err-event c = λ replica found.
+    let p = err_from_is_err_and c.from_residual.result c.from_residual.ensures.1 in
+    done_by c.args.self.now _ c.args.place replica _ c.args.now c.args.line _ None (sym c.in_default.is ∙ c.line_refusal.ensures replica found) (inl (record { error = p.1 ∙ ap Err p.2; world = refl }))
+
+pub returns-in-Event : goal.returns-in-Event
+returns-in-Event c = λ replica found.
+    done_as c.args.self.now _ c.args.place replica _ _ c.args.now c.args.line _ (sym c.in_default.is ∙ c.line_refusal.ensures replica found)
+    (sym c.in-Event.is ∙ c.in_ok-event.ensures.asked replica found) (c.apply_event.ensures replica found)
+
+pub returns-in-Start : goal.returns-in-Start
+returns-in-Start c = λ replica found.
+    done_as c.args.self.now _ c.args.place replica _ _ c.args.now c.args.line _ (sym c.in_default.is ∙ c.line_refusal.ensures replica found)
+    (sym c.in-Start.is ∙ c.in_ok-event.ensures.asked replica found) (inr (c.start_at.ensures replica found))

@@ -23,4 +23,4 @@ invariant_of-self c =
 pub returns : goal.returns
 returns c =
     let at = subst (λ fs. IsNumberedAt fs c.args.number c.in-Some.index) c.deref.ensures.value c.in-Some.ensures in
-    has_lost _ c.args.number c.in-Some.index c.remove.new.self.items at c.remove.ensures.items c.args.self.now c.self.view_is
+    (refl, has_lost _ c.args.number c.in-Some.index c.remove.new.self.items at c.remove.ensures.items c.args.self.now c.self.view_is)

@@ -1,4 +1,4 @@
-use Rattle.std.proofs.Common.{◌≡◌, ◌<◌, ◌≤◌, false, Some, sym, ap, ◌∙◌, subst, set}
+use Rattle.std.proofs.Common.{◌≡◌, ◌<◌, ◌≤◌, false, Some, refl, sym, ap, ◌∙◌, subst, set}
 use Rattle.am_runs.specs.Steps.RunStep.{Started}
 use Rattle.am_cluster.specs.Worlds.{replica_at, with_replica, written}
 use Rattle.am_cluster.specs.Lives.{started}
@@ -38,4 +38,4 @@ returns c =
     let same = world_written _ _ c.self.inside.flights.items c.self.inside.journal c.make_room.new.self c.mark.new.self (Started c.args.place c.args.now) (Started c.args.place c.args.now) c.args.line
     (ap (λ x. set c.self.inside.members.items c.args.place x) (started_with c.index_mut.result.now c.index.result.now c.begin.new.self c.in_ok-instance.instance c.args.now again c.in_ok-instance.ensures c.begin.ensures))
     c.make_room.ensures.silences c.make_room.ensures.log c.make_room.ensures.lines c.in_ok-make_room.ensures.room c.mark.ensures.silences c.mark.ensures.log c.mark.ensures.lines c.mark.ensures.room in
-    changed (λ u replica. written (with_replica u c.args.place (started replica c.args.now)) (Started c.args.place c.args.now) (Started c.args.place c.args.now) c.args.line) _ _ _ c.args.place c.index.result.now c.self.view_is found same
+    λ replica here. (refl, changed (λ u replica. written (with_replica u c.args.place (started replica c.args.now)) (Started c.args.place c.args.now) (Started c.args.place c.args.now) c.args.line) _ _ _ c.args.place c.index.result.now c.self.view_is found same replica here)

@@ -1,4 +1,4 @@
-use Rattle.std.proofs.Common.{true, sym, ap, ◌∙◌, subst, set}
+use Rattle.std.proofs.Common.{true, refl, sym, ap, ◌∙◌, subst, set}
 use Rattle.am_runs.specs.Steps.RunStep.{Stopped}
 use Rattle.am_cluster.specs.Worlds.{with_replica, written}
 use Rattle.am_cluster.specs.Lives.{stopped}
@@ -34,5 +34,5 @@ returns c =
     let same = world_written _ _ c.self.inside.flights.items c.self.inside.journal c.make_room.new.self c.mark.new.self (Stopped c.args.place) (Stopped c.args.place) c.args.line
     (ap (λ x. set c.self.inside.members.items c.args.place x) (c.stop.ensures ∙ ap stopped again))
     c.make_room.ensures.silences c.make_room.ensures.log c.make_room.ensures.lines c.in_ok-make_room.ensures.room c.mark.ensures.silences c.mark.ensures.log c.mark.ensures.lines c.mark.ensures.room in
-    answered (λ v replica. written (with_replica v c.args.place (stopped replica)) (Stopped c.args.place) (Stopped c.args.place) c.args.line) _ _ _ c.args.place c.index.result.now true c.self.view_is found
-    (sym (ap (λ x. x.runs) c.behind-self.view_is) ∙ c.if-not-index.false) same
+    λ replica here. let is = answered (λ v replica. written (with_replica v c.args.place (stopped replica)) (Stopped c.args.place) (Stopped c.args.place) c.args.line) _ _ _ c.args.place c.index.result.now true c.self.view_is found
+    (sym (ap (λ x. x.runs) c.behind-self.view_is) ∙ c.if-not-index.false) same replica here in (refl, is.0, is.1)
