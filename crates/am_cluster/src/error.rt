@@ -3,12 +3,12 @@
 ghost use Rattle.std.specs.Prelude.{◌≡◌};
 
 use am_version_order::Moment;
-use std::alloc::{AllocError, AllocFailed};
+use std::alloc::AllocError;
 use thiserror::Error;
 
 /// Why a step is refused: the first of these that applies, in their order, but for want of memory, which is also
 /// answered where there was no room to write another one down; then nothing has changed.
-#[derive(Clone, Copy, Debug, PartialEq, Eq, Error)]
+#[derive(Clone, Copy, Debug, Error)]
 pub enum ClusterError {
     #[error("no frame of this number is in flight")]
     NoFrame,
@@ -32,16 +32,6 @@ impl From<AllocError> for ClusterError {
     ghost from_gives = { λ _ e. e ≡ Memory };
 
     fn from(_e: AllocError) -> ClusterError {
-        ClusterError::Memory
-    }
-}
-
-impl<T: Drop> From<AllocFailed<T>> for ClusterError {
-    ghost use Rattle.am_cluster.specs.declared.error.ClusterError.TheVariants.{Memory};
-
-    ghost from_gives = { λ _ e. e ≡ Memory };
-
-    fn from(_e: AllocFailed<T>) -> ClusterError {
         ClusterError::Memory
     }
 }

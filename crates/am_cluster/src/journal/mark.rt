@@ -8,7 +8,7 @@ use am_runs::RunStep;
 use am_version_order::Moment;
 
 /// A step in which no version came and no frame was sent.
-#[derive(Clone, Copy, PartialEq, Eq)]
+#[derive(Clone, Copy)]
 pub enum Mark {
     /// A member collected.
     Ticked { place: usize, now: Moment },

@@ -4,7 +4,7 @@ ghost use Rattle.std.specs.Prelude.{◌≡◌};
 ghost use Rattle.am_cluster.specs.Firsts.{earlier};
 
 /// Whether a member was calm, and where it wasn't.
-#[derive(Clone, Copy, Debug, PartialEq, Eq)]
+#[derive(Clone, Copy, Debug)]
 pub struct CalmReport {
     /// Whether it was, with each step so far.
     pub calm: bool,
