@@ -14,7 +14,7 @@ use Rattle.am_steps.specs.BothStates.{log_state, silence_state}
 use Rattle.am_steps.specs.Contents.{carries}
 use Rattle.am_steps.specs.Recorded.{HasSource}
 use Rattle.am_cluster.specs.BothRuns.{RunOf, log_run, silence_run}
-use Rattle.am_cluster.specs.declared.delivering.Arrival.{Arrival}
+use Rattle.am_cluster.specs.declared.flight.Arrival.{Arrival}
 use Rattle.am_cluster.specs.declared.error.ClusterError.{ClusterError}
 use Rattle.am_cluster.specs.declared.flight.Flight.{Flight}
 use Rattle.am_cluster.specs.Delivering.{IsArrival, IsDelivered, delivery}

@@ -5,7 +5,7 @@ use Rattle.am_instance.specs.declared.reply.Reply.{Reply}
 use Rattle.am_runs.specs.declared.step.Source.TheVariants.{Arrived}
 use Rattle.am_steps.specs.declared.asked.Asked.{Asked}
 use Rattle.am_steps.specs.declared.asked.Asked.TheVariants as asked
-use Rattle.am_cluster.specs.declared.delivering.Arrival.{Arrival}
+use Rattle.am_cluster.specs.declared.flight.Arrival.{Arrival}
 use Rattle.am_cluster.specs.declared.error.ClusterError.{ClusterError}
 use Rattle.am_cluster.specs.declared.error.ClusterError.TheVariants as errors
 use Rattle.am_cluster.specs.declared.flight.Flight.{Flight}

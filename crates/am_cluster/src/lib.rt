@@ -2,7 +2,6 @@
 #![tactic(auto)]
 
 mod cluster;
-mod delivering;
 mod durable;
 mod error;
 mod events;
@@ -10,7 +9,6 @@ mod flight;
 pub mod journal;
 pub mod laws;
 mod lives;
-mod losing;
 mod member;
 mod recording;
 mod refusals;

@@ -3,7 +3,7 @@ use Rattle.std.specs.Prelude.{MatchOption}
 use Rattle.std.proofs.lemmas.List.Sorted.{answers_always}
 use Rattle.am_cluster.specs.Losing.{IsNoNumber, IsNumberedAt}
 use Rattle.am_cluster.proofs.Lost.{searched}
-use Rattle.am_cluster.proofs.losing.flight_numbered.Goals as goal
+use Rattle.am_cluster.proofs.flight.flight_numbered.Goals as goal
 
 -- the closure gives a frame's number
 pub returns : goal.returns
