@@ -9,7 +9,7 @@ use am_nflog::Hashes;
 use am_wire::Text;
 
 /// Why a group is notified, or why not.
-#[derive(Clone, Copy, PartialEq, Eq)]
+#[derive(Clone, Copy)]
 pub enum Why {
     Notify(Reason),
     /// All of it was notified, and the repeat interval isn't over.
