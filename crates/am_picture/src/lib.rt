@@ -4,7 +4,6 @@
 mod again;
 mod arrows;
 mod ends;
-mod error;
 mod escape;
 mod lanes;
 mod layout;
@@ -16,6 +15,5 @@ mod scene;
 mod sheet;
 mod times;
 
-pub use error::PictureError;
 pub use escape::{append_escaped, append_shortened};
-pub use picture::{Drawn, picture_of};
+pub use picture::{Drawing, picture_of};

@@ -1,55 +1,60 @@
 //! Pictures of schedules.
 
-ghost use Rattle.std.specs.Prelude.{IfErr, IfOk, OnOk, string_bytes};
-ghost use Rattle.am_picture.specs.Pictures.{IsPictured, IsPrinted, StopsPicture};
+ghost use Rattle.std.specs.Prelude.{IfErr, IfOk};
+ghost use Rattle.am_picture.specs.Pictures.{IsDrawing, StopsPicture};
 
 use crate::arrows::append_frames;
 use crate::ends::append_ends;
-use crate::error::PictureError;
 use crate::lanes::{append_fault_lines, append_lanes};
 use crate::layout::{MOST_STEPS, height_of, lane_of, middle_of, width_of, words_of};
 use crate::marks::{append_marks, append_settles};
 use crate::painter::Painter;
 use crate::sheet::{Sheet, Stroke, open_stroke};
 use am_cluster::Cluster;
-use am_replay::{Onlooker, play};
+use am_replay::{Onlooker, ReplayError, play};
 use am_schedule::parse;
 use am_silence_json::moments::write_moment;
 use std::alloc::{AllocError, Global};
 
-/// A schedule that was played and drawn.
+/// What came of a schedule that was to be drawn.
 #[derive(Drop)]
-pub struct Drawn {
-    /// The picture, as SVG.
-    pub picture: String,
-    /// All that is printed of the schedule.
-    pub output: String,
+pub enum Drawing {
+    /// It was played and drawn.
+    Drawn {
+        /// The picture, as SVG.
+        picture: String,
+        /// All that is printed of the schedule.
+        output: String,
+    },
+    /// It has so many steps, over 2,000, and wasn't played.
+    TooManySteps {
+        steps: usize,
+    },
 }
 
 /// Plays the schedule that a text is, and draws it. `onlooker` is told how far the playing is.
 ///
 /// # Errors
 ///
-/// The first [`PictureError`] that applies, before anything is played but for want of memory.
+/// [`ReplayError::Schedule`] where a line is at fault, and else [`ReplayError::Memory`].
 pub fn picture_of<O: Onlooker>(
     alloc: Global,
     text: &[u8],
     onlooker: &mut O,
-) -> Result<Drawn, PictureError>
+) -> Result<Drawing, ReplayError>
     // PROMISE: A picture is made of a valid schedule of at most 2,000 steps, and of nothing else.
-    ensures pictured { OnOk result (IsPictured text.now) }
-    ensures printed { IfOk result (λ drawn. IsPrinted text.now (string_bytes drawn.output)) }
+    ensures pictured { IfOk result (IsDrawing text.now) }
     ensures stopped { IfErr result (StopsPicture text.now) }
 {
     let schedule = parse(alloc, text)?;
     let steps = schedule.lines.as_slice().len();
     if steps > MOST_STEPS {
-        return Err(PictureError::TooManySteps { steps });
+        return Ok(Drawing::TooManySteps { steps });
     }
     let mut painter = Painter::new(alloc, &schedule, text, onlooker);
     let output = play(alloc, &schedule, &mut painter)?;
     let picture = painter.into_picture();
-    Ok(Drawn { picture, output })
+    Ok(Drawing::Drawn { picture, output })
 }
 
 /// Appends the whole picture.

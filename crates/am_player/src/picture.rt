@@ -1,14 +1,14 @@
 //! A schedule that is played and drawn.
 
-ghost use Rattle.std.specs.Prelude.{ℕ, List, IfSome, OnOk};
+ghost use Rattle.std.specs.Prelude.{OnOk};
 ghost use Rattle.std.specs.Io.KnownBytes.{Appends};
-ghost use Rattle.am_replay.specs.Replays.{IsReplay};
+ghost use Rattle.am_replay.specs.Replays.{HasReplayed};
 
 use crate::host::Host;
 use crate::progress::Display;
 use crate::schedule_fault::ScheduleFault;
 use am_disk::FileFault;
-use am_picture::picture_of;
+use am_picture::{Drawing, picture_of};
 use am_replay::{ReplayError, read_input};
 use am_streams::send;
 use std::fs;
@@ -22,13 +22,30 @@ pub fn draw<H: Host, R: Read, W: Write>(
     file: &str,
     display: &mut Display<'_, H>,
 ) -> Result<(), ScheduleFault>
-    ensures played { OnOk result (IfSome (R.remaining input.old) (λ bytes.
-        (text : List ℕ) × IsReplay bytes text × Appends (W.contents output.old) (W.contents output.new) text)) }
+    ensures played { OnOk result (HasReplayed (R.remaining input.old) (W.contents output.old) (W.contents output.new)) }
 {
     let text = read_input(rt.alloc(), input)?;
-    let drawn = picture_of(rt.alloc(), &text, display)?;
-    write_picture(rt, file, drawn.picture.as_str())?;
-    match send(output, drawn.output.as_str().as_bytes()) {
+    match picture_of(rt.alloc(), &text, display) {
+        Ok(
+            Drawing::Drawn {
+                picture,
+                output: printed,
+            },
+        ) => {
+            write_picture(rt, file, picture.as_str())?;
+            print(output, printed.as_str())
+        }
+        Ok(Drawing::TooManySteps { steps }) => Err(ScheduleFault::TooManySteps { steps }),
+        Err(ReplayError::Memory { .. }) => Err(ScheduleFault::Memory),
+        Err(error) => Err(ScheduleFault::Replay(error)),
+    }
+}
+
+/// Writes what a schedule prints.
+fn print<W: Write>(output: &mut W, text: &str) -> Result<(), ScheduleFault>
+    ensures { OnOk result (Appends (W.contents output.old) (W.contents output.new) text.now) }
+{
+    match send(output, text.as_bytes()) {
         Ok(()) => Ok(()),
         Err(fault) => Err(ScheduleFault::Replay(ReplayError::Write {
             written: fault.written,

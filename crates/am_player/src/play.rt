@@ -1,8 +1,7 @@
 //! A schedule that is played.
 
-ghost use Rattle.std.specs.Prelude.{ℕ, List, IfSome, OnOk};
-ghost use Rattle.std.specs.Io.KnownBytes.{Appends};
-ghost use Rattle.am_replay.specs.Replays.{IsReplay};
+ghost use Rattle.std.specs.Prelude.{OnOk};
+ghost use Rattle.am_replay.specs.Replays.{HasReplayed};
 
 use crate::host::Host;
 use crate::picture::draw;
@@ -41,8 +40,7 @@ fn play<R: Read, W: Write, O: Onlooker>(
     output: &mut W,
     onlooker: &mut O,
 ) -> Result<(), ScheduleFault>
-    ensures played { OnOk result (IfSome (R.remaining input.old) (λ bytes.
-        (text : List ℕ) × IsReplay bytes text × Appends (W.contents output.old) (W.contents output.new) text)) }
+    ensures played { OnOk result (HasReplayed (R.remaining input.old) (W.contents output.old) (W.contents output.new)) }
 {
     run_shown(alloc, input, output, onlooker)?;
     Ok(())

@@ -4,9 +4,8 @@ ghost use Rattle.std.specs.Prelude.{◌≤◌};
 
 use am_disk::FileFault;
 use am_faults::{Fault, status};
-use am_picture::PictureError;
 use am_replay::ReplayError;
-use am_schedule::{FaultKind, ScheduleError};
+use am_schedule::FaultKind;
 use am_snapshot::SnapshotError;
 use std::fmt::{self, Formatter};
 use thiserror::Error;
@@ -17,9 +16,12 @@ pub enum ScheduleFault {
     /// In the schedule, or in what was written of it.
     #[error(fmt = write_replay_error)]
     Replay(#[from] ReplayError),
-    /// In a schedule that is drawn.
-    #[error(fmt = write_picture_error)]
-    Drawing(#[from] PictureError),
+    /// It has so many steps, too many for a picture.
+    #[error("TooManySteps {steps}")]
+    TooManySteps { steps: usize },
+    /// Memory ran out while it was drawn, at whatever line.
+    #[error("Memory 0")]
+    Memory,
     /// In the file of its picture.
     #[error(fmt = write_file_fault)]
     Picture(FileFault),
@@ -39,7 +41,9 @@ impl ScheduleFault {
     fn meaning(&self) -> &'static str {
         match *self {
             ScheduleFault::Replay(error) => meaning_of_replay(error),
-            ScheduleFault::Drawing(error) => meaning_of_drawing(error),
+            ScheduleFault::TooManySteps { .. } =>
+                "a picture has at most 2,000 steps; without one so many are played",
+            ScheduleFault::Memory => meaning_of_row(SnapshotError::Memory),
             ScheduleFault::Picture(fault) => Fault::File(fault).meaning(),
         }
     }
@@ -50,8 +54,8 @@ impl ScheduleFault {
     {
         match self {
             ScheduleFault::Replay(error) => status_of_replay(error),
-            ScheduleFault::Drawing(PictureError::Memory) => status::MEMORY,
-            ScheduleFault::Drawing(_) => status::REFUSED,
+            ScheduleFault::TooManySteps { .. } => status::REFUSED,
+            ScheduleFault::Memory => status::MEMORY,
             ScheduleFault::Picture(fault) => Fault::File(fault).status(),
         }
     }
@@ -71,24 +75,11 @@ fn status_of_replay(error: ReplayError) -> u8
 fn write_replay_error<W: fmt::Write>(error: &ReplayError, f: &mut Formatter<W>) -> fmt::Result {
     match *error {
         ReplayError::Read { at } => write!(f, "Read {at}"),
-        ReplayError::Schedule(error) => write_schedule_error(error, f),
+        ReplayError::Schedule(error) => write!(f, "Schedule {:?} {}", error.kind, error.line),
         ReplayError::TooLarge => f.write_str("TooLarge"),
         ReplayError::Memory { line } => write!(f, "Memory {line}"),
         ReplayError::Write { written } => write!(f, "Write {written}"),
     }
-}
-
-fn write_picture_error<W: fmt::Write>(error: &PictureError, f: &mut Formatter<W>) -> fmt::Result {
-    match *error {
-        PictureError::Schedule(error) => write_schedule_error(error, f),
-        PictureError::TooManySteps { steps } => write!(f, "TooManySteps {steps}"),
-        // at no line
-        PictureError::Memory => f.write_str("Memory 0"),
-    }
-}
-
-fn write_schedule_error<W: fmt::Write>(error: ScheduleError, f: &mut Formatter<W>) -> fmt::Result {
-    write!(f, "Schedule {:?} {}", error.kind, error.line)
 }
 
 fn write_file_fault<W: fmt::Write>(fault: &FileFault, f: &mut Formatter<W>) -> fmt::Result {
@@ -108,16 +99,6 @@ fn meaning_of_replay(error: ReplayError) -> &'static str {
         ReplayError::TooLarge => "the schedule has over 16,777,216 bytes",
         ReplayError::Memory { .. } => "memory ran out at this line, or at none where it is 0",
         ReplayError::Write { written } => meaning_of_row(SnapshotError::Write { written }),
-    }
-}
-
-/// Why a schedule isn't drawn.
-fn meaning_of_drawing(error: PictureError) -> &'static str {
-    match error {
-        PictureError::Schedule(error) => meaning_of_line(error.kind),
-        PictureError::TooManySteps { .. } =>
-            "a picture has at most 2,000 steps; without one so many are played",
-        PictureError::Memory => meaning_of_row(SnapshotError::Memory),
     }
 }
 

@@ -1,3 +1,4 @@
 mod Played
 mod Reported
 mod Viewed
+mod Stopping

@@ -4,6 +4,8 @@ use Rattle.am_schedule.specs.declared.schedule.Schedule.{Schedule}
 use Rattle.am_schedule.specs.declared.step.Line.{Line}
 use Rattle.am_cluster.specs.Beginnings.{AreNewborn}
 use Rattle.am_cluster.specs.Worlds.{World}
+use Rattle.am_replay.specs.declared.error.ReplayError.{ReplayError}
+use Rattle.am_replay.specs.declared.error.ReplayError.TheVariants.{Memory}
 use Rattle.am_replay.specs.Lines.{IsPlayed}
 use Rattle.am_replay.specs.Reports.{AreReports}
 
@@ -22,11 +24,14 @@ pub record PlaysAll (old : World) (lines : List (Line × ℕ)) (new : World) (be
 
 -- All that the playing of a schedule prints.
 pub record IsOutput (schedule : Schedule) (text : List ℕ) : Type 0 where
+  -- a cluster of its names begins with nothing in it
   pub begins : World
   pub newborn : AreNewborn schedule.names schedule.retention schedule.peer_timeout begins
+  -- its lines are played one after the other
   pub ends : World
   pub printed : List ℕ
   pub played : ArePlayed begins schedule.lines printed ends
+  -- and at the end each member is reported on
   pub reports : List ℕ
   pub calm : AreReports ends reports
   pub text_is : text ≡ printed ++ reports
@@ -41,8 +46,13 @@ pub record Reaches (begins : World) (lines : List (Line × ℕ)) (number : ℕ) 
   pub stands : World
   pub played : ArePlayed begins before text stands
 
--- playing came to the line of this number, or to none
+-- memory ran out at the line of this number, to which playing came, or at none
 abbrev pub IsHaltedAt : Schedule → ℕ → Type 0
 IsHaltedAt schedule number =
     (number ≡ 0)
     ⊎ ((begins : World) × AreNewborn schedule.names schedule.retention schedule.peer_timeout begins × Reaches begins schedule.lines number)
+
+-- why a schedule isn't played to its end: for want of memory alone
+abbrev pub StopsPlaying : Schedule → ReplayError → Type 0
+StopsPlaying schedule (Memory line) = IsHaltedAt schedule line
+StopsPlaying schedule _ = ⊥

@@ -7,7 +7,7 @@ use std::alloc::AllocError;
 use thiserror::Error;
 
 /// Why a schedule was not played, or its output not written: the first fault that stands.
-#[derive(Clone, Copy, Debug, PartialEq, Eq, Error)]
+#[derive(Clone, Copy, Debug, Error)]
 pub enum ReplayError {
     #[error("a read failed after {at} bytes")]
     Read { at: usize },
@@ -41,26 +41,13 @@ impl From<ScheduleError> for ReplayError {
     }
 }
 
-/// Memory ran out at this line, or at none, which is 0.
-#[derive(Clone, Copy)]
-pub struct Halt {
-    pub line: u64,
-}
-
-impl From<AllocError> for Halt {
-    ghost from_gives = { λ _ halt. halt.line ≡ 0 };
-
-    fn from(_e: AllocError) -> Halt {
-        Halt { line: 0 }
-    }
-}
-
-impl From<Halt> for ReplayError {
+impl From<AllocError> for ReplayError {
     ghost use Rattle.am_replay.specs.declared.error.ReplayError.TheVariants.{Memory};
 
-    ghost from_gives = { λ halt fault. fault ≡ Memory halt.line };
+    ghost from_gives = { λ _ fault. fault ≡ Memory 0 };
 
-    fn from(halt: Halt) -> ReplayError {
-        ReplayError::Memory { line: halt.line }
+    // (at no line)
+    fn from(_e: AllocError) -> ReplayError {
+        ReplayError::Memory { line: 0 }
     }
 }

@@ -18,7 +18,7 @@ mod reports;
 
 pub use am_cluster::{CalmReport, Cluster, ClusterError, Flight, SettleError};
 pub use am_report::write_view;
-pub use error::{Halt, ReplayError};
+pub use error::ReplayError;
 pub use input::read_input;
 pub use line::{OutputLine, append_line};
 pub use names::{decision_name, kind_name, refusal_name, yes_or_no};

@@ -1,15 +1,16 @@
 //! The player of schedules.
 
-ghost use Rattle.std.specs.Prelude.{◌≡◌, ◌++◌, [], IfOk, IfErr, OnOk, string_bytes};
+ghost use Rattle.std.specs.Prelude.{◌≡◌, ◌++◌, ℕ, [], IfOk, IfErr, OnOk, string_bytes};
 ghost use Rattle.std.specs.Option.{option_copied};
 ghost use Rattle.am_cluster.specs.Beginnings.{AreNewborn};
 ghost use Rattle.am_schedule.specs.declared.step.Line.TheVariants as kinds;
+ghost use Rattle.am_replay.specs.declared.error.ReplayError.TheVariants.{Memory};
 ghost use Rattle.am_replay.specs.declared.refusal.Refusal.TheVariants as refusals;
 ghost use Rattle.am_replay.specs.Lines.{Plays};
-ghost use Rattle.am_replay.specs.Playing.{IsHaltedAt, IsOutput, PlaysAll, Reaches};
+ghost use Rattle.am_replay.specs.Playing.{IsOutput, PlaysAll, Reaches, StopsPlaying};
 ghost use Rattle.am_replay.specs.Texts.{Prints, settle_refusal, settle_text};
 
-use crate::error::Halt;
+use crate::error::ReplayError;
 use crate::flights::tell_flights;
 use crate::line::OutputLine;
 use crate::onlooker::{Answer, Onlooker};
@@ -124,21 +125,21 @@ fn show_line<O: Onlooker>(
 ///
 /// # Errors
 ///
-/// [`Halt`] at the line at which memory ran out.
+/// [`ReplayError::Memory`] with the line at which memory ran out.
 fn play_lines<O: Onlooker>(
     cluster: &mut Cluster,
     lines: &[(Line, u64)],
     out: &mut String,
     onlooker: &mut O,
-) -> Result<(), Halt>
+) -> Result<(), ReplayError>
     ensures played { OnOk result (PlaysAll cluster.old lines.now cluster.new (string_bytes out.old) (string_bytes out.new)) }
-    ensures halted { IfErr result (λ halt. Reaches cluster.old lines.now halt.line) }
+    ensures halted { IfErr result (λ fault. (line : ℕ) × (fault ≡ Memory line) × Reaches cluster.old lines.now line) }
 {
     for (index, (line, number)) in lines.iter().enumerate() {
         onlooker.is_at(index, lines.len());
         match show_line(cluster, line, *number, out, onlooker) {
             Ok(()) => {}
-            Err(_) => return Err(Halt { line: *number }),
+            Err(_) => return Err(ReplayError::Memory { line: *number }),
         }
     }
     Ok(())
@@ -171,14 +172,14 @@ fn newborn(alloc: Global, schedule: &Schedule) -> Result<Cluster, AllocError>
 ///
 /// # Errors
 ///
-/// [`Halt`] where memory ran out, with the line at which it did, or 0 before the first line and behind the last.
+/// [`ReplayError::Memory`] with the line at which memory ran out, or 0 before the first line and behind the last.
 pub fn play<O: Onlooker>(
     alloc: Global,
     schedule: &Schedule,
     onlooker: &mut O,
-) -> Result<String, Halt>
+) -> Result<String, ReplayError>
     ensures output { IfOk result (λ text. IsOutput schedule.now (string_bytes text)) }
-    ensures halted { IfErr result (λ halt. IsHaltedAt schedule.now halt.line) }
+    ensures halted { IfErr result (StopsPlaying schedule.now) }
 {
     let mut cluster = newborn(alloc, schedule)?;
     let mut out = String::new(alloc);

@@ -3,7 +3,7 @@
 use am_silence::SilenceError;
 
 /// The kind of a refusal.
-#[derive(Clone, Copy, PartialEq, Eq)]
+#[derive(Clone, Copy)]
 pub enum Refusal {
     // a silence is not posted, or not ended
     NotFound,
