@@ -2,7 +2,6 @@ pub mod Printed
 pub mod Refusals
 pub mod Faults
 pub mod Inputs
-pub mod Members
 pub mod Texts
 pub mod Lines
 pub mod Reports

@@ -1,9 +1,9 @@
 -- What is printed at the end: whether each member was calm, or the line of its first fault.
 use Rattle.std.specs.Prelude.{◌≡◌, ℕ, ◌+◌, List, [], ◌∷◌, ◌++◌, length, Option, Some, None, MatchOption}
 use Rattle.am_cluster.specs.Reports.{IsCalmInBoth, IsLineOfFault}
+use Rattle.am_cluster.specs.Ties.{names_in}
 use Rattle.am_cluster.specs.Worlds.{World}
 use Rattle.am_replay.specs.declared.line.OutputLine.TheVariants as lines
-use Rattle.am_replay.specs.Members.{names_of}
 use Rattle.am_replay.specs.Texts.{lent, told}
 
 -- the member at a place was calm, or this is the line of its first fault
@@ -26,7 +26,7 @@ AreReportsFrom world place (name ∷ names) text =
 
 -- those of all members, by their names
 abbrev pub AreReports : World → List ℕ → Type 0
-AreReports world text = AreReportsFrom world 0 (names_of world) text
+AreReports world text = AreReportsFrom world 0 (names_in world) text
 
 -- they were printed behind what stood there before
 pub record PrintsReports (world : World) (names : List (List ℕ)) (before after : List ℕ) : Type 0 where

@@ -1,5 +1,5 @@
 -- What is printed of the steps of a schedule, each line with its end.
-use Rattle.std.specs.Prelude.{◌≡◌, ℕ, Bool, List, [], ◌++◌, Option, Some, None, Result, Ok, Err, option_map, codes}
+use Rattle.std.specs.Prelude.{◌≡◌, ℕ, Bool, List, [], ◌++◌, Option, Some, None, Result, Ok, Err, option_map, codes, slice_get, unwrap_or}
 use Rattle.std.specs.Borrow.{Bor}
 use Rattle.am_gossip.specs.Frames.{kind_of}
 use Rattle.am_matcher.specs.declared.muted.Mutes.{Mutes}
@@ -14,6 +14,7 @@ use Rattle.am_cluster.specs.declared.error.ClusterError.TheVariants as errors
 use Rattle.am_cluster.specs.declared.error.SettleError.{SettleError}
 use Rattle.am_cluster.specs.declared.error.SettleError.TheVariants as settle_errors
 use Rattle.am_cluster.specs.declared.flight.Flight.{Flight}
+use Rattle.am_cluster.specs.Ties.{names_in}
 use Rattle.am_cluster.specs.Worlds.{World}
 use Rattle.am_report.specs.Views.{shown_text}
 use Rattle.am_replay.specs.declared.line.OutputLine.{OutputLine}
@@ -22,7 +23,6 @@ use Rattle.am_replay.specs.declared.refusal.Refusal.{Refusal}
 use Rattle.am_replay.specs.declared.refusal.Refusal.TheVariants as refusals
 use Rattle.am_replay.specs.Printed.{line_text}
 use Rattle.am_replay.specs.Refusals.{kind_of as silence_refusal}
-use Rattle.am_replay.specs.Members.{name_at}
 
 -- a value as a line holds it
 abbrev pub lent : {A : Type 0} → A → Bor A
@@ -109,6 +109,10 @@ settle_text (Err error) = refused_text None (settle_refusal error)
 -- whether the run was timely so far
 abbrev pub timely_text : Bool → List ℕ
 timely_text is_timely = told (lines.Timely is_timely)
+
+-- the name of the member at a place, as the first one is told of all of them
+abbrev pub name_at : World → ℕ → List ℕ
+name_at world place = unwrap_or (slice_get (names_in world) place) []
 
 -- a frame in flight
 abbrev pub flight_text : World → Flight → List ℕ

@@ -1,14 +1,34 @@
 //! The frames in flight.
 
-ghost use Rattle.std.specs.Prelude.{◌≡◌, ◌++◌, OnOk, string_bytes};
+ghost use Rattle.std.specs.Prelude.{◌≡◌, ◌++◌, [], OnOk, slice_get, string_bytes, unwrap_or};
 ghost use Rattle.std.specs.List.{flat_map};
-ghost use Rattle.am_replay.specs.Texts.{flight_text};
+ghost use Rattle.am_replay.specs.Texts.{flight_text, name_at};
 
 use crate::line::OutputLine;
-use crate::members::name_at;
 use crate::output::tell;
 use am_cluster::{Cluster, Flight};
+use am_instance::{Config, Place};
 use std::alloc::AllocError;
+
+/// The name that a configuration has for the member at a place, which there is.
+fn name_in(config: &Config, place: Place) -> &str
+    ensures { result.now ≡ unwrap_or (slice_get config.now.members place) [] }
+{
+    match config.members().get(place as usize) {
+        Some(name) => name.as_str(),
+        None => "",
+    }
+}
+
+/// The name of the member at a place, which there is.
+fn name_at(cluster: &Cluster, place: Place) -> &str
+    ensures { result.now ≡ name_at cluster.now place }
+{
+    match cluster.instance(0) {
+        Some(instance) => name_in(instance.config(), place),
+        None => "",
+    }
+}
 
 /// Appends a frame in flight.
 #[tactic(auto, unfolding(crate::specs::Printed::line_text))]

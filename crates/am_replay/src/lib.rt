@@ -6,7 +6,6 @@ mod flights;
 mod input;
 pub mod laws;
 mod line;
-mod members;
 mod names;
 mod onlooker;
 mod output;

@@ -1,7 +1,7 @@
 //! What is reported of the members at the end.
 
 ghost use Rattle.std.specs.Prelude.{◌≡◌, ◌++◌, OnOk, string_bytes};
-ghost use Rattle.am_replay.specs.Members.{names_of};
+ghost use Rattle.am_cluster.specs.Ties.{names_in};
 ghost use Rattle.am_replay.specs.Reports.{PrintsReports, report_text};
 
 use crate::line::OutputLine;
@@ -34,7 +34,7 @@ fn tell_each(out: &mut String, cluster: &Cluster, names: &[Text]) -> Result<(), 
 
 /// Appends what is reported of all members, by their names.
 pub fn tell_reports(out: &mut String, cluster: &Cluster) -> Result<(), AllocError>
-    ensures { OnOk result (PrintsReports cluster.now (names_of cluster.now) (string_bytes out.old) (string_bytes out.new)) }
+    ensures { OnOk result (PrintsReports cluster.now (names_in cluster.now) (string_bytes out.old) (string_bytes out.new)) }
 {
     match cluster.instance(0) {
         Some(instance) => tell_each(out, cluster, instance.config().members()),
