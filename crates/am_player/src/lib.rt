@@ -1,11 +1,9 @@
 //! Schedules, played and drawn for the program: how far the playing is, the file of the picture, and the faults that are printed.
 #![tactic(auto)]
 
-mod host;
 mod picture;
 mod play;
 mod progress;
 mod schedule_fault;
 
-pub use host::Host;
-pub use play::run_replay;
+pub use play::{Host, run_replay};

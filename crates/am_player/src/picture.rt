@@ -4,7 +4,7 @@ ghost use Rattle.std.specs.Prelude.{OnOk};
 ghost use Rattle.std.specs.Io.KnownBytes.{Appends};
 ghost use Rattle.am_replay.specs.Replays.{HasReplayed};
 
-use crate::host::Host;
+use crate::play::Host;
 use crate::progress::Display;
 use crate::schedule_fault::ScheduleFault;
 use am_disk::FileFault;

@@ -3,7 +3,6 @@
 ghost use Rattle.std.specs.Prelude.{OnOk};
 ghost use Rattle.am_replay.specs.Replays.{HasReplayed};
 
-use crate::host::Host;
 use crate::picture::draw;
 use crate::progress::Display;
 use crate::schedule_fault::{ScheduleFault, report};
@@ -11,6 +10,12 @@ use am_faults::status;
 use am_replay::{Onlooker, run_shown};
 use std::alloc::Global;
 use std::io::{Read, Write};
+use std::rt::{Clock, Files};
+
+/// The parts of a runtime that a player uses.
+pub trait Host: AllocGlobal + Clock + Eprint + Files {}
+
+impl<H: AllocGlobal + Clock + Eprint + Files> Host for H {}
 
 /// Plays the schedule that stands on the input, and answers the exit status of the program. Where a file is named it is drawn
 /// there. How far the playing is is shown on standard error, where that `is_terminal`.

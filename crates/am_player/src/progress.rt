@@ -1,6 +1,6 @@
 //! How far the playing of a schedule is, on a terminal.
 
-use crate::host::Host;
+use crate::play::Host;
 use am_replay::Onlooker;
 use std::time::{Duration, Instant};
 
