@@ -16,7 +16,7 @@ returns-clause-passed c =
       created_by = c.in_ok-created_by.created_by.now;
       comment = c.in_ok-comment.comment.now;
     } in
-    silence_passed s _ _ _ _ _ _ _ _ c.in_ok-id.ensures c.in_ok-matchers.ensures.passed c.in_ok-starts_at.ensures.passed
+    silence_passed s _ _ _ _ _ _ _ _ c.in_ok-id.ensures.passed c.in_ok-matchers.ensures.passed c.in_ok-starts_at.ensures.passed
     c.in_ok-ends_at.ensures.passed c.in_ok-updated_at.ensures.passed c.in_ok-created_by.ensures.passed c.in_ok-comment.ensures.passed
 
 pub returns-clause-places : goal.returns-clause-places
