@@ -1,11 +1,11 @@
 -- When there is no picture of a schedule.
-use Rattle.std.specs.Prelude.{◌≡◌, ◌≢◌, ℕ, ◌<◌, ◌≤◌, List, length, Ok, Err, string_bytes}
+use Rattle.std.specs.Prelude.{◌≡◌, ◌≢◌, ◌⊎◌, ℕ, ◌<◌, ◌≤◌, List, length, Ok, Err, string_bytes}
 use Rattle.am_schedule.specs.declared.error.FaultKind.TheVariants as kinds
 use Rattle.am_schedule.specs.declared.schedule.Schedule.{Schedule}
-use Rattle.am_schedule.specs.Schedules.{schedule_of}
+use Rattle.am_schedule.specs.Schedules.{IsReached, schedule_of}
 use Rattle.am_replay.specs.declared.error.ReplayError.{ReplayError}
 use Rattle.am_replay.specs.declared.error.ReplayError.TheVariants.{Schedule as InSchedule, Memory}
-use Rattle.am_replay.specs.Playing.{IsOutput}
+use Rattle.am_replay.specs.Playing.{IsHaltedAt, IsOutput}
 use Rattle.am_picture.specs.declared.picture.Drawing.{Drawing}
 use Rattle.am_picture.specs.declared.picture.Drawing.TheVariants.{Drawn, TooManySteps}
 
@@ -25,8 +25,9 @@ IsDrawing text (Drawn picture output) = IsPictured text × IsPrinted text (strin
 IsDrawing text (TooManySteps steps) =
     (schedule : Schedule) × (schedule_of text ≡ Ok schedule) × (steps ≡ length schedule.lines) × (2000 < steps)
 
--- why nothing did: a line is at fault, or memory ran out
+-- why nothing did: a line is at fault; or memory ran out at a line, when it was read, or when it was played, or at none
 abbrev pub StopsPicture : List ℕ → ReplayError → Type 0
 StopsPicture text (InSchedule error) = (error.kind ≢ kinds.Memory) × (schedule_of text ≡ Err error)
-StopsPicture text (Memory line) = Unit {0}
+StopsPicture text (Memory line) =
+    IsReached text line ⊎ ((schedule : Schedule) × (schedule_of text ≡ Ok schedule) × IsHaltedAt schedule line)
 StopsPicture text _ = ⊥

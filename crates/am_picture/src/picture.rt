@@ -36,7 +36,8 @@ pub enum Drawing {
 ///
 /// # Errors
 ///
-/// [`ReplayError::Schedule`] where a line is at fault, and else [`ReplayError::Memory`].
+/// [`ReplayError::Schedule`] where a line is at fault, and else [`ReplayError::Memory`] with the line at which memory ran out,
+/// when it was read or when it was played, or 0.
 pub fn picture_of<O: Onlooker>(
     alloc: Global,
     text: &[u8],
