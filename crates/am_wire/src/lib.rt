@@ -25,6 +25,7 @@ mod text;
 mod timestamp;
 mod value;
 mod varint;
+mod version_text;
 pub mod writing;
 
 pub use bytes::Bytes;
@@ -38,3 +39,4 @@ pub use rows::{MOST_MESSAGE_BYTES, Rows};
 pub use text::Text;
 pub use value::{Field, Value, WireType};
 pub use varint::{VarintBytes, read_varint, write_varint};
+pub use version_text::VersionText;

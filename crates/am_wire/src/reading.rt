@@ -9,3 +9,4 @@ pub use crate::message_reader::{MessageReader, read_message, take_fields};
 pub use crate::offset::{Offset, split_part};
 pub use crate::parts::{LastNumber, LastText, Submessage, take_item};
 pub use crate::timestamp::{TimestampDraft, moment_in};
+pub use crate::version_text::version_from;
