@@ -39,4 +39,4 @@ pub use rows::{MOST_MESSAGE_BYTES, Rows};
 pub use text::Text;
 pub use value::{Field, Value, WireType};
 pub use varint::{VarintBytes, read_varint, write_varint};
-pub use version_text::VersionText;
+pub use version_text::{ReadText, VersionText};
