@@ -5,10 +5,7 @@ use Rattle.am_nflog.specs.declared.fields.EntryFields.{EntryFields}
 -- the entry of these fields
 abbrev pub entry_in : EntryFields → Entry
 entry_in fields = record {
-  key = record {
-    group_key = fields.group_key.now;
-    receiver = record { group_name = fields.group_name.now; integration = fields.integration.now; idx = fields.idx };
-  };
+  key = fields.key;
   group_hash = fields.group_hash.now;
   resolved = fields.resolved;
   timestamp = fields.timestamp;

@@ -1,41 +1,24 @@
 //! Canonical texts of versions, read from the front.
 
-ghost use Rattle.std.specs.Prelude.{◌≡◌, IfSome, IfOk, if◌then◌else◌};
+ghost use Rattle.std.specs.Prelude.{◌≡◌, IfSome, if◌then◌else◌};
 ghost use Rattle.am_wire.specs.Passing.{Passes};
 ghost use Rattle.am_wire.specs.Writing.{writes_delimited, writes_number};
-ghost use Rattle.am_nflog.specs.Canonical.{IsCanonical, PassesEntry, key_of};
+ghost use Rattle.am_nflog.specs.Canonical.{IsCanonical, PassesEntry};
 ghost use Rattle.am_nflog.specs.Receivers.{writes_receiver, IsReceiver};
 
-use crate::key::LogKey;
+use crate::key_parts::KeyParts;
 use crate::offsets::Offsets;
 use crate::receiver::ReceiverRef;
 use am_version_order::Moment;
 use am_wire::reading::CanonicalReader;
-use std::alloc::{AllocError, Global};
 
 /// An entry in a canonical text: what is told of it at once, and where its other parts stand.
 #[derive(Drop)]
 pub struct CanonicalEntry<'a> {
-    pub group_key: &'a [u8],
-    pub receiver: ReceiverRef<'a>,
+    pub key: KeyParts<'a>,
     pub resolved: bool,
     pub timestamp: Moment,
     pub places: Offsets,
-}
-
-impl CanonicalEntry<'_> {
-    /// The key, with a text of its own.
-    ///
-    /// # Errors
-    ///
-    /// [`AllocError`] where memory runs out.
-    pub fn key(&self, alloc: Global) -> Result<LogKey, AllocError>
-        ensures { IfOk result (λ key. key ≡ key_of self.now) }
-    {
-        let (group_name, integration) = (self.receiver.group_name(), self.receiver.integration());
-        let idx = self.receiver.idx();
-        LogKey::of_parts(alloc, self.group_key, group_name, integration, idx)
-    }
 }
 
 /// The entry of a version and the moment from which on it may be forgotten; none where the text is not canonical, or has
@@ -69,8 +52,7 @@ fn pass_entry<'a>(reader: &mut CanonicalReader<'a>) -> Option<CanonicalEntry<'a>
     let firing_alerts = reader.numbers(6)?;
     let resolved_alerts = reader.numbers(7)?;
     Some(CanonicalEntry {
-        group_key,
-        receiver,
+        key: KeyParts::of(group_key, &receiver),
         resolved,
         timestamp,
         places: Offsets {

@@ -7,6 +7,7 @@ ghost use Rattle.am_nflog.specs.Fields.{entry_in};
 use crate::fields::EntryFields;
 use crate::hashes::Hashes;
 use crate::key::LogKey;
+use crate::key_parts::KeyParts;
 use crate::receiver::{ReceiverDraft, ReceiverRef};
 use am_version_order::Moment;
 use am_wire::reading::{
@@ -83,10 +84,7 @@ impl<'a> EntryParts<'a> {
         ensures { entry_in result ≡ self.now }
     {
         EntryFields {
-            group_key: self.group_key,
-            group_name: self.receiver.group_name(),
-            integration: self.receiver.integration(),
-            idx: self.receiver.idx(),
+            key: KeyParts::of(self.group_key, &self.receiver),
             group_hash: self.group_hash,
             resolved: self.resolved,
             timestamp: self.timestamp,

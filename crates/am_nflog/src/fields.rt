@@ -10,7 +10,7 @@ ghost use Rattle.am_nflog.specs.Receivers.{writes_receiver, IsReceiver};
 
 use crate::entry::Entry;
 use crate::hashes::Hashes;
-use crate::key::LogKey;
+use crate::key_parts::KeyParts;
 use crate::offsets::Offsets;
 use crate::receiver::ReceiverRef;
 use am_version_order::Moment;
@@ -22,12 +22,9 @@ use am_wire::writing::{
 use std::alloc::{AllocError, Global};
 
 /// The fields of an entry, whose texts and lists are another's.
-#[derive(Clone, Copy)]
+#[derive(Drop)]
 pub struct EntryFields<'a> {
-    pub group_key: &'a [u8],
-    pub group_name: &'a str,
-    pub integration: &'a str,
-    pub idx: u32,
+    pub key: KeyParts<'a>,
     pub group_hash: &'a [u8],
     pub resolved: bool,
     pub timestamp: Moment,
@@ -41,28 +38,13 @@ impl<'a> EntryFields<'a> {
         ensures { entry_in result ≡ entry.now }
     {
         EntryFields {
-            group_key: entry.key.group_key(),
-            group_name: entry.key.group_name(),
-            integration: entry.key.integration(),
-            idx: entry.key.idx(),
+            key: entry.key.parts(),
             group_hash: entry.group_hash.as_slice(),
             resolved: entry.resolved,
             timestamp: entry.timestamp,
             firing_alerts: entry.firing_alerts.as_slice(),
             resolved_alerts: entry.resolved_alerts.as_slice(),
         }
-    }
-
-    /// The key, with a text of its own.
-    ///
-    /// # Errors
-    ///
-    /// [`AllocError`] where memory runs out.
-    pub fn key(&self, alloc: Global) -> Result<LogKey, AllocError>
-        ensures { IfOk result (λ key. key ≡ (entry_in self.now).key) }
-    {
-        let (group_name, integration) = (self.group_name, self.integration);
-        LogKey::of_parts(alloc, self.group_key, group_name, integration, self.idx)
     }
 
     /// An entry with texts and lists of its own.
@@ -74,7 +56,7 @@ impl<'a> EntryFields<'a> {
         ensures { IfOk result (λ copy. copy ≡ entry_in self.now) }
     {
         Ok(Entry {
-            key: self.key(alloc)?,
+            key: self.key.owned(alloc)?,
             group_hash: Bytes::copied(alloc, self.group_hash)?,
             resolved: self.resolved,
             timestamp: self.timestamp,
@@ -83,19 +65,13 @@ impl<'a> EntryFields<'a> {
         })
     }
 
-    fn receiver(&self) -> ReceiverRef<'a>
-        ensures { result ≡ (entry_in self.now).key.receiver }
-    {
-        ReceiverRef::new(self.group_name, self.integration, self.idx)
-    }
-
     /// How many bytes the entry has.
     #[tactic(auto, unfolding(crate::specs::Entries::writes_entry))]
     pub fn size(&self) -> u64
         ensures { result ≡ counted (length (writes_entry (entry_in self.now))) }
     {
-        bytes_size(1, self.group_key)
-            .saturating_add(delimited_size(2, self.receiver().size()))
+        bytes_size(1, self.key.group_key())
+            .saturating_add(delimited_size(2, self.key.receiver().size()))
             .saturating_add(bytes_size(3, self.group_hash))
             .saturating_add(number_size(4, u64::from(self.resolved)))
             .saturating_add(message_size(5, &self.timestamp))
@@ -114,8 +90,8 @@ impl<'a> EntryFields<'a> {
         ensures value { OnOk result (IsEntry (entry_in self.now)) }
         ensures places { IfOk result (λ places. StandAt (entry_in self.now) places out.new.items) }
     {
-        write_bytes(out, 1, self.group_key)?;
-        push_receiver(out, &self.receiver())?;
+        write_bytes(out, 1, self.key.group_key())?;
+        push_receiver(out, &self.key.receiver())?;
         let group_hash = write_part(out, 3, self.group_hash)?;
         write_number(out, 4, u64::from(self.resolved))?;
         write_message(out, 5, &self.timestamp)?;

@@ -8,7 +8,7 @@ ghost use Rattle.std.specs.Ordering.{as_partial_cmp};
 ghost use Rattle.std.specs.Str.{IsUtf8};
 ghost use Rattle.am_nflog.specs.Keys.{key_cmp, key_eq};
 
-use crate::order::compare_bytes;
+use crate::key_parts::KeyParts;
 use crate::receiver::Receiver;
 use std::alloc::{AllocError, Global};
 use std::cmp::Ordering;
@@ -59,14 +59,7 @@ impl LogKey {
     pub fn new(alloc: Global, group_key: &[u8], receiver: &Receiver) -> Result<LogKey, AllocError>
         ensures { IfOk result (λ key. key ≡ record { group_key = group_key.now; receiver = receiver.now }) }
     {
-        let (group_name, integration) = (&receiver.group_name, &receiver.integration);
-        LogKey::of_parts(
-            alloc,
-            group_key,
-            group_name.as_str(),
-            integration.as_str(),
-            receiver.idx,
-        )
+        KeyParts::of(group_key, &receiver.borrowed()).owned(alloc)
     }
 
     /// The key of a group and the receiver of these parts.
@@ -138,6 +131,19 @@ impl LogKey {
         self.idx
     }
 
+    /// The parts, whose texts are this one's.
+    #[inline]
+    pub(crate) fn parts(&self) -> KeyParts<'_>
+        ensures { result ≡ self.now }
+    {
+        KeyParts::new(
+            self.group_key(),
+            self.group_name(),
+            self.integration(),
+            self.idx,
+        )
+    }
+
     /// A copy.
     ///
     /// # Errors
@@ -192,17 +198,6 @@ impl Ord for LogKey {
     ghost matches_eq = { Prim.search (comparing, rules) depth 9 };
 
     fn cmp(&self, other: &LogKey) -> Ordering {
-        match compare_bytes(self.group_key(), other.group_key()) {
-            Ordering::Equal => {}
-            order => return order,
-        }
-        match self.group_name().cmp(other.group_name()) {
-            Ordering::Equal => {}
-            order => return order,
-        }
-        match self.integration().cmp(other.integration()) {
-            Ordering::Equal => self.idx().cmp(&other.idx()),
-            order => order,
-        }
+        self.parts().compare(&other.parts())
     }
 }

@@ -3,10 +3,12 @@
 
 mod canonical;
 mod entry;
+mod entry_text;
 mod fields;
 mod hash_iter;
 mod hashes;
 mod key;
+mod key_parts;
 mod make;
 mod mesh;
 mod offsets;
@@ -16,6 +18,7 @@ mod record;
 
 pub use am_wire::Bytes;
 pub use entry::{Entry, EntryDraft, EntryParts};
+pub use entry_text::EntryText;
 pub use hash_iter::HashIter;
 pub use hashes::Hashes;
 pub use key::LogKey;

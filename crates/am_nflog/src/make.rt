@@ -8,6 +8,7 @@ ghost use Rattle.am_nflog.specs.Made.{made_entry, expiry};
 
 use crate::fields::EntryFields;
 use crate::hashes::Hashes;
+use crate::key_parts::KeyParts;
 use crate::mesh::MeshEntry;
 use crate::receiver::Receiver;
 use am_version_order::{Interval, Moment};
@@ -54,10 +55,7 @@ pub fn make_entry(
         return Ok(None);
     }
     let fields = EntryFields {
-        group_key: group_key.as_slice(),
-        group_name: receiver.group_name.as_str(),
-        integration: receiver.integration.as_str(),
-        idx: receiver.idx,
+        key: KeyParts::of(group_key.as_slice(), &receiver.borrowed()),
         group_hash: &[],
         resolved: false,
         timestamp: now,

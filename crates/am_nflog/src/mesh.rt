@@ -126,7 +126,7 @@ impl MeshEntry {
         let room = expiring_size(size, expires_at) as usize;
         let mut canonical = Vec::with_capacity(alloc, room)?;
         let places = write_version(&mut canonical, fields, size, expires_at)?;
-        let key = fields.key(alloc)?;
+        let key = fields.key.owned(alloc)?;
         Ok(MeshEntry {
             key,
             timestamp: fields.timestamp,
@@ -145,7 +145,7 @@ impl MeshEntry {
         let Some((entry, expires_at)) = read_version(text) else {
             return Ok(None);
         };
-        let key = entry.key(alloc)?;
+        let key = entry.key.owned(alloc)?;
         let canonical = text.to_vec(alloc)?;
         let version = MeshEntry {
             key,
@@ -160,7 +160,7 @@ impl MeshEntry {
 
     // The version that a text spells in one way or another.
     #[tactic(auto, unfolding(crate::specs::MeshTable::reads_mesh_entry))]
-    fn of_any(alloc: Global, text: &[u8], at: usize) -> Result<MeshEntry, WireError>
+    fn of_spelling(alloc: Global, text: &[u8], at: usize) -> Result<MeshEntry, WireError>
         requires { at + length text.now < 2 ^ 64 }
         ensures { GivesUnlessMemory result (reads_mesh_entry at text.now) }
     {
@@ -271,7 +271,7 @@ impl Message for MeshEntry {
         if let Some(version) = MeshEntry::of_canonical(alloc, bytes)? {
             return Ok(version);
         }
-        MeshEntry::of_any(alloc, bytes, at)
+        MeshEntry::of_spelling(alloc, bytes, at)
     }
 }
 

@@ -19,8 +19,8 @@ pub struct Receiver {
 }
 
 impl Receiver {
-    // The same receiver, whose texts are this one's.
-    fn borrowed(&self) -> ReceiverRef<'_>
+    /// The same receiver, whose texts are this one's.
+    pub(crate) fn borrowed(&self) -> ReceiverRef<'_>
         ensures { result ≡ self.now }
     {
         ReceiverRef::new(

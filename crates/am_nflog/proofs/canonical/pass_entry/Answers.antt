@@ -33,7 +33,7 @@ returns c =
         firing_alerts = firing.short;
         resolved_alerts = others.short;
       };
-      key = refl;
+      key = c.of.ensures;
       resolved = refl;
       timestamp = refl;
       places = record {

@@ -1,6 +1,6 @@
-use Rattle.std.proofs.Common.{◌≡◌, length, ap, ◌∙◌, arith, cond, ℕ}
+use Rattle.std.proofs.Common.{◌≡◌, length, ap, ◌∙◌, arith, cond, ℕ, List}
 use Rattle.am_wire.specs.Sizes.{counted}
-use Rattle.am_wire.specs.Writing.{writes_number}
+use Rattle.am_wire.specs.Writing.{writes_number, writes_text}
 use Rattle.am_nflog.specs.declared.receiver.Receiver.{Receiver}
 use Rattle.am_nflog.specs.Fields.{entry_in}
 use Rattle.am_nflog.specs.Entries.{writes_entry}
@@ -13,7 +13,8 @@ unfolding writes_entry
 returns c =
     let receiver = (entry_in c.args.self.now).key.receiver in
     let inner = c.size.ensures ∙ ap (λ (r : Receiver). counted (length (writes_receiver r))) c.receiver.ensures in
-    let two = counted_both _ _ _ _ _ c.bytes_size.ensures (c.delimited_size.ensures (writes_receiver receiver) inner) c.saturating_add.ensures in
+    let one = c.bytes_size.ensures ∙ ap (λ (bytes : List ℕ). counted (length (writes_text 1 bytes))) c.group_key.ensures in
+    let two = counted_both _ _ _ _ _ one (c.delimited_size.ensures (writes_receiver receiver) inner) c.saturating_add.ensures in
     let three = counted_both _ _ _ _ _ two c.bytes_size-2.ensures c.saturating_add-2.ensures in
     let flag : c.number_size.result ≡ counted (length (writes_number 4 (cond c.args.self.now.resolved 1 0))) =
     omega (arith, c.number_size.ensures.size, c.number_size.ensures.most, ap (λ (n : ℕ). length (writes_number 4 n)) (c.from.ensures ∙ flag_number c.args.self.now.resolved)) in

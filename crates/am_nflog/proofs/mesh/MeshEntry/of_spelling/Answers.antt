@@ -1,7 +1,7 @@
 use Rattle.std.proofs.lemmas.Result.{err_from_is_err_and}
 use Rattle.am_wire.proofs.Judging.{same_fault}
 use Rattle.am_nflog.specs.MeshTable.{reads_mesh_entry}
-use Rattle.am_nflog.proofs.mesh.MeshEntry.of_any.Goals as goal
+use Rattle.am_nflog.proofs.mesh.MeshEntry.of_spelling.Goals as goal
 
 pub returns-in_err-entry : goal.returns-in_err-entry
 unfolding reads_mesh_entry
