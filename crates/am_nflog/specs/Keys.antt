@@ -7,7 +7,13 @@ use Rattle.std.specs.Cmp.Lexicographic.{pointwise, slice_cmp}
 use Rattle.std.proofs.Common.{refl, sym}
 use Rattle.std.proofs.lemmas.Cmp.{ranked}
 use Rattle.std.proofs.lemmas.Map.Lookups.{exact_bytes}
+use Rattle.am_nflog.specs.declared.receiver.Receiver.{Receiver}
 use Rattle.am_nflog.specs.LogKeys.{LogKey}
+
+-- receivers in their order
+abbrev pub receiver_cmp : Receiver → Receiver → Ordering
+receiver_cmp =
+    then_cmp (on (λ r. r.group_name) (slice_cmp nat_cmp)) (then_cmp (on (λ r. r.integration) (slice_cmp nat_cmp)) (on (λ r. r.idx) nat_cmp))
 
 -- keys in their order
 abbrev pub key_cmp : LogKey → LogKey → Ordering

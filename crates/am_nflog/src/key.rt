@@ -9,7 +9,8 @@ ghost use Rattle.std.specs.Str.{IsUtf8};
 ghost use Rattle.am_nflog.specs.Keys.{key_cmp, key_eq};
 
 use crate::key_parts::KeyParts;
-use crate::receiver::Receiver;
+use crate::order::compare_bytes;
+use crate::receiver::{Receiver, ReceiverRef};
 use std::alloc::{AllocError, Global};
 use std::cmp::Ordering;
 use std::marker::Model;
@@ -131,17 +132,18 @@ impl LogKey {
         self.idx
     }
 
+    /// The receiver, whose texts are this one's.
+    fn receiver(&self) -> ReceiverRef<'_>
+        ensures { result ≡ self.now.receiver }
+    {
+        ReceiverRef::new(self.group_name(), self.integration(), self.idx)
+    }
+
     /// The parts, whose texts are this one's.
-    #[inline]
     pub(crate) fn parts(&self) -> KeyParts<'_>
         ensures { result ≡ self.now }
     {
-        KeyParts::new(
-            self.group_key(),
-            self.group_name(),
-            self.integration(),
-            self.idx,
-        )
+        KeyParts::of(self.group_key(), &self.receiver())
     }
 
     /// A copy.
@@ -198,6 +200,10 @@ impl Ord for LogKey {
     ghost matches_eq = { Prim.search (comparing, rules) depth 9 };
 
     fn cmp(&self, other: &LogKey) -> Ordering {
-        self.parts().compare(&other.parts())
+        // (the receivers are not looked at where the group keys decide)
+        match compare_bytes(self.group_key(), other.group_key()) {
+            Ordering::Equal => self.receiver().compare(&other.receiver()),
+            order => order,
+        }
     }
 }

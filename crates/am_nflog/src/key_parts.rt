@@ -31,28 +31,16 @@ impl<'a> Model for KeyParts<'a> {
 }
 
 impl<'a> KeyParts<'a> {
-    /// The key of a group and the receiver of these parts.
-    #[inline]
-    pub fn new(group_key: &'a [u8], group_name: &'a str, integration: &'a str, idx: u32) -> Self
-        ensures { result ≡ record {
-          group_key = group_key.now;
-          receiver = record { group_name = group_name.now; integration = integration.now; idx = idx };
-        } }
-    {
-        KeyParts {
-            group_key,
-            group_name,
-            integration,
-            idx,
-        }
-    }
-
     /// The key of a group and a receiver.
     pub fn of(group_key: &'a [u8], receiver: &ReceiverRef<'a>) -> Self
         ensures { result ≡ record { group_key = group_key.now; receiver = receiver.now } }
     {
-        let (group_name, integration) = (receiver.group_name(), receiver.integration());
-        KeyParts::new(group_key, group_name, integration, receiver.idx())
+        KeyParts {
+            group_key,
+            group_name: receiver.group_name(),
+            integration: receiver.integration(),
+            idx: receiver.idx(),
+        }
     }
 
     /// The key of the group of alerts.
@@ -70,20 +58,11 @@ impl<'a> KeyParts<'a> {
     }
 
     /// The order of two keys. It takes no memory.
-    #[inline]
     pub fn compare(&self, other: &KeyParts<'_>) -> Ordering
         ensures { result ≡ key_cmp self.now other.now }
     {
         match compare_bytes(self.group_key, other.group_key) {
-            Ordering::Equal => {}
-            order => return order,
-        }
-        match self.group_name.cmp(other.group_name) {
-            Ordering::Equal => {}
-            order => return order,
-        }
-        match self.integration.cmp(other.integration) {
-            Ordering::Equal => self.idx.cmp(&other.idx),
+            Ordering::Equal => self.receiver().compare(&other.receiver()),
             order => order,
         }
     }

@@ -2,12 +2,14 @@
 
 ghost use Rattle.std.specs.Prelude.{◌≡◌, ℕ, List, [], ◌∷◌, ◌++◌, OnOk, IfOk, IfErr, length};
 ghost use Rattle.am_wire.specs.Sizes.{counted};
+ghost use Rattle.am_nflog.specs.Keys.{receiver_cmp};
 ghost use Rattle.am_nflog.specs.Receivers.{receiver, writes_receiver, IsReceiver};
 
 use am_wire::reading::{LastNumber, LastText, MessageReader, Schema, read_message};
 use am_wire::writing::{number_size, text_size, write_number, write_text};
 use am_wire::{Field, Message, Text, WireError, WireType};
 use std::alloc::{AllocError, Global};
+use std::cmp::Ordering;
 use std::marker::Model;
 
 /// One integration of a receiver. Receivers are ordered by group name, integration and index.
@@ -89,6 +91,21 @@ impl<'a> ReceiverRef<'a> {
         ensures { result ≡ self.now.idx }
     {
         self.idx
+    }
+
+    /// The order of two receivers. It takes no memory.
+    #[inline]
+    pub(crate) fn compare(&self, other: &ReceiverRef<'_>) -> Ordering
+        ensures { result ≡ receiver_cmp self.now other.now }
+    {
+        match self.group_name.cmp(other.group_name) {
+            Ordering::Equal => {}
+            order => return order,
+        }
+        match self.integration.cmp(other.integration) {
+            Ordering::Equal => self.idx.cmp(&other.idx),
+            order => order,
+        }
     }
 
     /// A receiver with texts of its own.
