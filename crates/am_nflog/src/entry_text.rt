@@ -3,7 +3,7 @@
 use crate::canonical::read_version;
 use crate::key_parts::KeyParts;
 use crate::mesh::MeshEntry;
-use am_wire::VersionText;
+use am_wire::{ReadText, VersionText};
 use std::cmp::Ordering;
 use std::marker::Model;
 
@@ -33,24 +33,26 @@ impl<'a> Model for EntryText<'a> {
     } };
 }
 
-impl<'a> VersionText<'a> for EntryText<'a> {
+impl VersionText for EntryText<'_> {
     type Owned = MeshEntry;
 
     ghost version = { λ m. m };
 
+    fn text(&self) -> &[u8] {
+        self.text
+    }
+
+    fn compare_keys(&self, other: &Self) -> Ordering {
+        self.key.compare(&other.key)
+    }
+}
+
+impl<'a> ReadText<'a> for EntryText<'a> {
     fn read(text: &'a [u8]) -> Option<Self> {
         let (entry, _) = read_version(text)?;
         Some(EntryText {
             key: entry.key,
             text,
         })
-    }
-
-    fn text(&self) -> &'a [u8] {
-        self.text
-    }
-
-    fn compare_keys(&self, other: &Self) -> Ordering {
-        self.key.compare(&other.key)
     }
 }

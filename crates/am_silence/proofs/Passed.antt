@@ -117,14 +117,3 @@ module _ (old new : Passing) (h : HasPassed old new) where
     pub since_values : (matchers : List Matcher) → matchers ≡ matchers_in text → All IsMatcher matchers
     since_values matchers spelled =
         subst (All IsMatcher) (sym (spelled ∙ ap matchers_in text_is ∙ matchers_spelled h.matchers h.values few)) h.values
-
--- where matchers stand that were passed
-pub passed_between : (part : List ℕ) (start end : ℕ) (old new : Passing) → Passes part old new → start ≡ length old.passed → end ≡ length new.passed
-    → StandsBetween start end part new.passed
-passed_between part start end old new h begins ends = record {
-  front = old.passed;
-  back = [];
-  is = h.passed ∙ ap (λ (x : List ℕ). old.passed ++ x) (sym (append-nil part));
-  begins = begins;
-  ends = omega (arith, ends, ap length h.passed, length-append old.passed part);
-}

@@ -60,9 +60,15 @@ module _ {K X : Type 0} (seen : X → Version K) (cmp : K → K → Ordering) (k
               | inr among ↦ among
             ]
 
+  -- versions in another order that is that of a map are loaded
+  pub loaded_of : (reads : ℕ → List ℕ → Result X WireError) (row : List ℕ) (versions held : List X) → AreMessages reads row versions → IsMap seen cmp held → IsPermutation versions held
+      → IsLoaded seen reads row held
+  loaded_of reads row versions held are order moved =
+      let apart = distinct_map held order in
+      (versions, are, are_distinct versions (IsDistinct-IsPermutation alike flips held versions (IsPermutation-sym versions held moved) apart), moved)
+
   pub loaded : (reads : ℕ → List ℕ → Result X WireError) (row : List ℕ) (versions held : List X) → AreMessages reads row versions → IsMap seen cmp held → HoldsBest seen versions held → length held ≡ length versions
       → IsLoaded seen reads row held
   loaded reads row versions held are order best same =
-      let apart = distinct_map held order in
-      let moved = among_as_many held versions (are_distinct held apart) (λ v there. (best.best v there).member) same in
-      (versions, are, are_distinct versions (IsDistinct-IsPermutation alike flips held versions (IsPermutation-sym versions held moved) apart), moved)
+      let apart = are_distinct held (distinct_map held order) in
+      loaded_of reads row versions held are order (among_as_many held versions apart (λ v there. (best.best v there).member) same)

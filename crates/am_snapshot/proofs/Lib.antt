@@ -13,3 +13,4 @@ pub mod PieceRows
 pub mod Fits
 pub mod AtOnce
 pub mod Rows
+pub mod InOrder

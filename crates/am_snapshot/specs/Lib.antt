@@ -4,3 +4,4 @@ pub mod Saving
 pub mod Loads
 pub mod Folds
 pub mod Pieces
+pub mod Sorted

@@ -25,7 +25,7 @@ pub fn row_length<V: Version>(held: &Held<V>) -> Option<u64>
 
 /// How many bytes a row of so many has with one message more, or `None` where it has over `limit`, or the message is none
 /// that may be read.
-fn with_one(total: u64, content: &[u8], limit: u32) -> Option<u64>
+pub(crate) fn with_one(total: u64, content: &[u8], limit: u32) -> Option<u64>
     requires { total ≤ limit }
     ensures { SomeIff result ((length content.now ≤ most) × (total + length (delimited content.now) ≤ limit))
         (total + length (delimited content.now)) }

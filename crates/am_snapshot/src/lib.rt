@@ -11,6 +11,7 @@ mod loading_at_once;
 mod pieces;
 mod reading;
 mod saving;
+mod sorting;
 
 pub use error::SnapshotError;
 pub use folding::{Folded, fold, fold_held};
@@ -20,3 +21,4 @@ pub use loading_at_once::load_bytes;
 pub use pieces::{RowPiece, row_piece};
 pub use reading::take_row;
 pub use saving::{save, save_within};
+pub use sorting::sort_row;

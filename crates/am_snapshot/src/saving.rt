@@ -20,7 +20,7 @@ use std::alloc::Global;
 use std::io::Write;
 
 /// Sends bytes behind their length on their way.
-fn send_delimited<W: Write>(
+pub(crate) fn send_delimited<W: Write>(
     out: &mut CountingWriter,
     writer: &mut W,
     bytes: &[u8],

@@ -1,6 +1,6 @@
 use Rattle.am_nflog.specs.Spelled.{spelled}
 use Rattle.am_nflog.proofs.Spelling.{read_anywhere}
-use Rattle.am_nflog.proofs.entry_text.EntryTextVersionText.read.Goals as goal
+use Rattle.am_nflog.proofs.entry_text.EntryTextReadText.read.Goals as goal
 
 pub returns-clause-spelled : goal.returns-clause-spelled
 returns-clause-spelled c =
