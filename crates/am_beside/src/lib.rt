@@ -1,7 +1,6 @@
 //! Running Alertmanagers beside a member: what they tell it, which it takes in as frames of peers, and what it gives back.
 #![tactic(auto)]
 
-mod fault;
 mod news;
 mod reading;
 mod replica;
@@ -12,7 +11,6 @@ mod sifting;
 mod told;
 mod work;
 
-pub use fault::BesideFault;
 pub use news::News;
 pub use reading::{begin_row, read_some};
 pub use replicas::{Came, Replicas};

@@ -1,9 +1,9 @@
 //! All replicas beside a member.
 
-use crate::fault::BesideFault;
 use crate::replica::Replica;
 use crate::work::{Stretch, Work};
 use am_gossip::Frame;
+use am_memberlist::AnswerError;
 use am_merge::Held;
 use am_nflog::MeshEntry;
 use am_silence::MeshSilence;
@@ -40,7 +40,7 @@ pub enum Came {
     /// The last: all that the replica holds has come, this frame too, where there is one.
     Whole(usize, Option<Frame>),
     /// A fault. Nothing more of the answer comes.
-    Fault(usize, BesideFault),
+    Fault(usize, AnswerError),
 }
 
 /// The replica at a place.

@@ -1,15 +1,15 @@
 //! One state of an answer: it is read, what the member lacks of it comes in, and what the replica is given is gathered; all in
 //! stretches.
 
-use crate::fault::BesideFault;
 use crate::reading::{begin_row, read_some};
 use crate::sieve::Sieve;
 use crate::sifting::sift;
 use am_gossip::{Part, StateKey};
+use am_memberlist::AnswerError;
 use am_merge::{Held, Iter};
 use am_snapshot::RowPiece;
 use am_version_order::{Moment, Version};
-use am_wire::{Message, RowReader};
+use am_wire::{Message, RowFault, RowReader};
 use std::alloc::{AllocError, Global};
 use std::mem;
 
@@ -85,14 +85,14 @@ where
     ///
     /// # Errors
     ///
-    /// [`BesideFault::Row`] and [`BesideFault::Memory`]; nothing is left then.
+    /// [`AnswerError::Row`] and [`AnswerError::Memory`]; nothing is left then.
     pub fn go_on(
         &mut self,
         alloc: Global,
         row: &[u8],
         own: &Held<V>,
         now: Moment,
-    ) -> Result<Option<Part>, BesideFault> {
+    ) -> Result<Option<Part>, AnswerError> {
         match mem::replace(&mut self.stage, Stage::Done) {
             Stage::Reading => {
                 self.read_on(row)?;
@@ -108,9 +108,13 @@ where
     }
 
     /// Reads a stretch of the row.
-    fn read_on(&mut self, row: &[u8]) -> Result<(), BesideFault> {
+    fn read_on(&mut self, row: &[u8]) -> Result<(), AnswerError> {
         let mut left = row.get(self.read..).unwrap_or(&[]);
-        let has_ended = read_some(&mut self.rows, &mut left, &mut self.held, COUNT)?;
+        let has_ended = match read_some(&mut self.rows, &mut left, &mut self.held, COUNT) {
+            Ok(has_ended) => has_ended,
+            Err(RowFault::Memory) => return Err(AnswerError::Memory),
+            Err(fault) => return Err(AnswerError::Row(fault)),
+        };
         self.read = row.len().saturating_sub(left.len());
         self.stage = if has_ended {
             Stage::Taking(None)

@@ -2,11 +2,10 @@
 
 ghost use Rattle.std.specs.Prelude.{◌≡◌, ◌≢◌, Ok, Err, IfOk, IfErr};
 ghost use Rattle.am_beside.specs.Told.{row_told, rows_seen, rows_told};
-ghost use Rattle.am_beside.specs.declared.fault.BesideFault.TheVariants.{Memory};
+ghost use Rattle.am_memberlist.specs.declared.error.AnswerError.TheVariants.{Memory};
 
-use crate::fault::BesideFault;
 use am_gossip::StateKey;
-use am_memberlist::{Said, read_message, row_in};
+use am_memberlist::{AnswerError, Said, read_message, row_in};
 use std::alloc::Global;
 
 /// The rows of both states, as they stand in what a replica told.
@@ -17,13 +16,13 @@ pub struct ToldRows<'a> {
 }
 
 /// The row of a state in what a replica told.
-fn told_row(alloc: Global, states: &[u8], key: StateKey) -> Result<&[u8], BesideFault>
+fn told_row(alloc: Global, states: &[u8], key: StateKey) -> Result<&[u8], AnswerError>
     ensures told { IfOk result (λ row. row_told key states.now ≡ Ok row.now) }
     ensures fault { IfErr result (λ e. e ≢ Memory → row_told key states.now ≡ Err e) }
 {
     match row_in(alloc, states, key)? {
         Some(row) => Ok(row),
-        None => Err(BesideFault::NoState),
+        None => Err(AnswerError::NoState),
     }
 }
 
@@ -31,8 +30,8 @@ fn told_row(alloc: Global, states: &[u8], key: StateKey) -> Result<&[u8], Beside
 ///
 /// # Errors
 ///
-/// The first [`BesideFault`]: of the message, of the silences, of the log; or [`BesideFault::Memory`].
-pub fn told_rows(alloc: Global, message: &[u8]) -> Result<ToldRows<'_>, BesideFault>
+/// The first [`AnswerError`]: of the message, of the silences, of the log; or [`AnswerError::Memory`].
+pub fn told_rows(alloc: Global, message: &[u8]) -> Result<ToldRows<'_>, AnswerError>
     // PROMISE: Of a replica's message just the rows of both states are taken, or its first fault is told.
     ensures told { IfOk result (λ told. rows_told message.now ≡ Ok (rows_seen told)) }
     ensures fault { IfErr result (λ e. e ≢ Memory → rows_told message.now ≡ Err e) }
@@ -43,6 +42,6 @@ pub fn told_rows(alloc: Global, message: &[u8]) -> Result<ToldRows<'_>, BesideFa
             let entries = told_row(alloc, states, StateKey::Nfl)?;
             Ok(ToldRows { silences, entries })
         }
-        Said::Error(_) => Err(BesideFault::Error),
+        Said::Error(_) => Err(AnswerError::Error),
     }
 }

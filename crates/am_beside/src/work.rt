@@ -1,6 +1,5 @@
 //! What is made of an answer, a stretch at a time.
 
-use crate::fault::BesideFault;
 use crate::news::News;
 use crate::side::Side;
 use crate::told::told_rows;
@@ -64,7 +63,7 @@ impl Work {
     ///
     /// # Errors
     ///
-    /// The first [`BesideFault`]; nothing is left then.
+    /// The first [`AnswerError`]; nothing is left then.
     pub fn go_on(
         self,
         alloc: Global,
@@ -72,9 +71,9 @@ impl Work {
         entries: &Held<MeshEntry>,
         news: &mut News,
         now: Moment,
-    ) -> Result<Stretch, BesideFault> {
+    ) -> Result<Stretch, AnswerError> {
         match self {
-            Work::Answer(answer) => Ok(unpack_on(alloc, answer)?),
+            Work::Answer(answer) => unpack_on(alloc, answer),
             Work::Silences(message, side) => {
                 go_on_silences(alloc, message, side, silences, news, now)
             }
@@ -110,7 +109,7 @@ fn look_at<V: Version + Message>(
     own: &Held<V>,
     news: &mut News,
     now: Moment,
-) -> Result<Option<Frame>, BesideFault>
+) -> Result<Option<Frame>, AnswerError>
 where
     V::Key: Drop,
 {
@@ -131,7 +130,7 @@ fn go_on_silences(
     own: &Held<MeshSilence>,
     news: &mut News,
     now: Moment,
-) -> Result<Stretch, BesideFault> {
+) -> Result<Stretch, AnswerError> {
     let mut side = side;
     let row = told_rows(alloc, &message)?.silences;
     let frame = look_at(alloc, &mut side, row, own, news, now)?;
@@ -154,7 +153,7 @@ fn go_on_entries(
     own: &Held<MeshEntry>,
     news: &mut News,
     now: Moment,
-) -> Result<Stretch, BesideFault> {
+) -> Result<Stretch, AnswerError> {
     let mut side = side;
     let row = told_rows(alloc, &message)?.entries;
     let frame = look_at(alloc, &mut side, row, own, news, now)?;

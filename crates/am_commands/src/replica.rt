@@ -5,7 +5,7 @@ use crate::source::{Origin, ReadFault};
 use am_faults::Fault;
 use am_gossip::StateKey;
 use am_jobs::{PullJob, StateName};
-use am_memberlist::{Said, read_message, request_text, row_in, unpack_answer};
+use am_memberlist::{AnswerError, Said, read_message, request_text, row_in, unpack_answer};
 use am_merge::Held;
 use am_peers::ask;
 use am_snapshot::load_bytes;
@@ -113,7 +113,7 @@ fn said_in(alloc: Global, message: &[u8], key: StateKey) -> Result<Answer<'_>, F
     match read_message(alloc, message)? {
         Said::States(states) => match row_in(alloc, states, key)? {
             Some(row) => Ok(Answer::Row(row)),
-            None => Err(Fault::NoState),
+            None => Err(Fault::Gossip(AnswerError::NoState)),
         },
         Said::Error(words) => Ok(Answer::Words(words)),
     }

@@ -73,12 +73,6 @@ pub enum Fault {
     /// In what a replica answered by gossip.
     #[error(fmt = lines::write_answer_error)]
     Gossip(#[from] AnswerError),
-    /// A replica has no such state.
-    #[error("Gossip NoState")]
-    NoState,
-    /// A replica told an error.
-    #[error("Gossip Error")]
-    GossipError,
     /// A peer is not NAME=ADDRESS:PORT.
     #[error("Peer")]
     Peer,
@@ -168,8 +162,7 @@ impl Fault {
                 fault,
             ),
             Fault::Server(fault) => status_of_server(fault),
-            Fault::Gossip(AnswerError::Memory) => status::MEMORY,
-            Fault::Gossip(_) | Fault::NoState | Fault::GossipError => status::REFUSED,
+            Fault::Gossip(error) => status_of_answer(error),
             Fault::Secret(fault) => status_of_secret(fault),
             _ => status::OUTSIDE,
         }
@@ -197,7 +190,8 @@ impl Fault {
             Fault::Unfinished(_) => 14,
             Fault::Gate(GateFault::Seal(_) | GateFault::Unsealed | GateFault::Cut) => 15,
             Fault::Gate(_) => 16,
-            Fault::Gossip(_) | Fault::NoState | Fault::GossipError => 17,
+            Fault::Gossip(AnswerError::Row(_) | AnswerError::Memory) => 18,
+            Fault::Gossip(_) => 17,
             _ => 18,
         }
     }
@@ -250,6 +244,17 @@ fn status_of_server(fault: ServerFault) -> u8
         }
         ServerFault::TooLarge | ServerFault::NoHead | ServerFault::Status(_) => status::REFUSED,
         ServerFault::Memory => status::MEMORY,
+    }
+}
+
+/// The exit status where what a replica answered is at fault.
+fn status_of_answer(error: AnswerError) -> u8
+    ensures { (1 ≤ result) × (result ≤ 4) }
+{
+    match error {
+        AnswerError::Row(error) => status_of_snapshot(SnapshotError::from(error)),
+        AnswerError::Memory => status::MEMORY,
+        _ => status::REFUSED,
     }
 }
 

@@ -1,15 +1,15 @@
-//! Why an answer is not read.
+//! Why an answer is not taken.
 
 ghost use Rattle.std.specs.Prelude.{◌≡◌};
 ghost use Rattle.am_memberlist.specs.Answers.{unpacking_fault, wire_fault};
 ghost use Rattle.am_memberlist.specs.declared.error.AnswerError.TheVariants.{Memory};
 
 use am_lzw::LzwError;
-use am_wire::WireError;
+use am_wire::{RowFault, WireError};
 use std::alloc::{AllocError, AllocFailed};
 use thiserror::Error;
 
-/// The first fault that stands.
+/// The first fault that stands. Nothing that stands behind it is taken.
 #[derive(Clone, Copy, Debug, PartialEq, Eq, Error)]
 pub enum AnswerError {
     /// The connection was closed before a byte came.
@@ -40,6 +40,15 @@ pub enum AnswerError {
     /// A state stands there twice.
     #[error("a state stands there twice")]
     Twice,
+    /// The replica told an error.
+    #[error("an error")]
+    Error,
+    /// A state that is wanted isn't there.
+    #[error("no such state")]
+    NoState,
+    /// A fault in the row of a state.
+    #[error("{0}")]
+    Row(RowFault),
     #[error("out of memory")]
     Memory,
 }

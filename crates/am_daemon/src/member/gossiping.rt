@@ -10,26 +10,14 @@ ghost use Rattle.am_refusals.specs.declared.error.StepError.{StepError};
 
 use super::clerk::Clerk;
 use super::desk::Desk;
-use am_beside::{BesideFault, Came};
+use am_beside::Came;
 use am_faults::Fault;
 use am_gossip::Frame;
 use am_instance::{Config, Event, Instance, Place};
 use am_peers::Fault as ConnectionFault;
 use am_reactor::PeerBytes;
-use am_snapshot::SnapshotError;
 use am_upkeep::Keeper;
 use std::time::{Duration, Instant};
-
-/// Why an answer isn't taken, as a fault.
-fn fault_of(fault: BesideFault) -> Fault {
-    match fault {
-        BesideFault::Answer(error) => Fault::Gossip(error),
-        BesideFault::Error => Fault::GossipError,
-        BesideFault::NoState => Fault::NoState,
-        BesideFault::Row(error) => Fault::Snapshot(SnapshotError::from(error)),
-        BesideFault::Memory => Fault::Snapshot(SnapshotError::Memory),
-    }
-}
 
 /// Makes the step of a frame that came from the replica at a place.
 fn take_from<U: Keeper>(upkeep: &mut U, instance: &mut Instance, place: usize, frame: Frame)
@@ -59,8 +47,8 @@ impl<U: Keeper> Desk<'_, U> {
             Came::Nothing | Came::Stretch => {}
             Came::Frame(place, frame) => take_from(&mut self.upkeep, instance, place, frame),
             Came::Whole(place, frame) => self.take_last(instance, place, frame),
-            Came::Fault(place, fault) => {
-                let fault = fault_of(fault);
+            Came::Fault(place, error) => {
+                let fault = Fault::Gossip(error);
                 self.upkeep
                     .tell_of(instance.config(), Some(place as Place), fault);
             }

@@ -4,6 +4,7 @@ use am_lzw::LzwError;
 use am_memberlist::AnswerError;
 use am_peers::AddressWord;
 use am_reactor::LinkFault;
+use am_snapshot::SnapshotError;
 use std::fmt::{self, Display, Formatter};
 use std::io::ErrorKind;
 use std::net::SocketAddr;
@@ -31,6 +32,9 @@ pub fn write_answer_error<W: fmt::Write>(error: &AnswerError, f: &mut Formatter<
         AnswerError::Unpacking(LzwError::TooLong) => f.write_str("Gossip Lzw TooLong"),
         AnswerError::Wire(error) => write!(f, "Gossip {error}"),
         AnswerError::Twice => f.write_str("Gossip Twice"),
+        AnswerError::Error => f.write_str("Gossip Error"),
+        AnswerError::NoState => f.write_str("Gossip NoState"),
+        AnswerError::Row(error) => write!(f, "{}", SnapshotError::from(error)),
         AnswerError::Unpacking(LzwError::Memory) | AnswerError::Memory => f.write_str("Memory"),
     }
 }

@@ -59,8 +59,6 @@ pub fn meaning_of(fault: &Fault) -> &'static str {
         Fault::Server(fault) => meaning_of_server(fault),
         Fault::List(error) => meaning_of_list(error),
         Fault::Gossip(error) => meaning_of_answer(error),
-        Fault::NoState => "the replica tells of no such state",
-        Fault::GossipError => "the replica told an error; am_tool pull prints it",
         Fault::Peer =>
             "a peer is NAME=ADDRESS:PORT, or NAME=PORT on 127.0.0.1, with a port from 1 to 65535",
         Fault::Config(error) => meaning_of_names(error),
@@ -214,6 +212,9 @@ fn meaning_of_answer(error: AnswerError) -> &'static str {
         AnswerError::Unpacking(error) => meaning_of_lzw(error),
         AnswerError::Wire(error) => meaning_of_wire(error),
         AnswerError::Twice => "the answer has the state twice",
+        AnswerError::Error => "the replica told an error; am_tool pull prints it",
+        AnswerError::NoState => "the replica tells of no such state",
+        AnswerError::Row(error) => meaning_of_snapshot(SnapshotError::from(error)),
         AnswerError::Memory => MEMORY,
     }
 }
