@@ -1,42 +1,37 @@
 //! A state of a running replica, as a snapshot.
 
 use crate::host::{Host, Streams};
-use crate::replica::held_by;
+use crate::replica::{answer_of, row_of};
 use crate::source::{ReadFault, report_read};
-use am_faults::status;
+use am_faults::{Fault, status};
 use am_jobs::{PullJob, StateName};
-use am_nflog::MeshEntry;
-use am_silence::MeshSilence;
-use am_snapshot::save;
-use am_version_order::Version;
-use am_wire::Message;
-use std::mem;
+use am_nflog::EntryText;
+use am_silence::SilenceText;
+use am_snapshot::{SnapshotError, sort_row};
 
 /// Writes a state of a replica to standard output, and answers the exit status of the program.
 pub fn run_pull<R: Host>(rt: &R, streams: Streams, job: &PullJob<'_>) -> u8 {
-    let pulled = match job.state {
-        StateName::Silences => pull::<R, MeshSilence>(rt, streams, job),
-        StateName::Log => pull::<R, MeshEntry>(rt, streams, job),
-    };
-    match pulled {
+    match pull(rt, streams, job) {
         Ok(()) => status::DONE,
         Err(fault) => report_read(rt, &fault),
     }
 }
 
-/// Writes what a replica holds to standard output. It is forgotten then: the process ends, and its memory with it.
-fn pull<'a, R: Host, V: Version + Message>(
-    rt: &R,
-    streams: Streams,
-    job: &PullJob<'a>,
-) -> Result<(), ReadFault<'a>> {
+/// Writes what a replica holds to standard output, in the order of the keys.
+fn pull<'a, R: Host>(rt: &R, streams: Streams, job: &PullJob<'a>) -> Result<(), ReadFault<'a>> {
     let Streams {
         input: _,
         mut output,
     } = streams;
-    let held = held_by::<R, V>(rt, job)?;
-    let written = save(rt.alloc(), &held, &mut output);
-    mem::forget(held);
-    written?;
-    Ok(())
+    let message = answer_of(rt, job, &[])?;
+    let row = row_of(rt.alloc(), job, &message)?;
+    let written = match job.state {
+        StateName::Silences => sort_row::<SilenceText<'_>, _>(rt.alloc(), row, &mut output),
+        StateName::Log => sort_row::<EntryText<'_>, _>(rt.alloc(), row, &mut output),
+    };
+    match written {
+        Ok(_) => Ok(()),
+        Err(error @ SnapshotError::Write { .. }) => Err(ReadFault::Fault(Fault::Snapshot(error))),
+        Err(error) => Err(ReadFault::Source(job.name, Fault::Snapshot(error))),
+    }
 }

@@ -65,7 +65,7 @@ pub fn exchange<'a, R: Host>(
 }
 
 /// Sends a replica states, and gives its message.
-fn answer_of<'a, R: Host>(
+pub fn answer_of<'a, R: Host>(
     rt: &R,
     job: &PullJob<'a>,
     states: &[u8],
@@ -85,7 +85,7 @@ fn message_of<R: Host>(rt: &R, job: &PullJob<'_>, states: &[u8]) -> Result<Vec<u
 }
 
 /// The row in a replica's message, which isn't copied.
-fn row_of<'a, 'm>(
+pub fn row_of<'a, 'm>(
     alloc: Global,
     job: &PullJob<'a>,
     message: &'m [u8],

@@ -1,5 +1,5 @@
 -- The canonical text of a version, passed part by part.
-use Rattle.std.proofs.Common.{◌≡◌, ℕ, ◌-◌, ◌^◌, ◌<◌, ◌≤◌, Bool, cond, eqb, true, false, List, [], ◌∷◌, ◌++◌, length, length-append, append-nil, drop, refl, sym, ap, subst, ◌∙◌, arith}
+use Rattle.std.proofs.Common.{◌≡◌, ℕ, ◌-◌, ◌^◌, ◌<◌, ◌≤◌, cond, eqb, true, false, List, [], ◌∷◌, ◌++◌, length, length-append, drop, refl, sym, ap, subst, ◌∙◌, arith}
 use Rattle.std.specs.Prelude.{All}
 use Rattle.std.proofs.lemmas.Bool.{eqb-true, eqb-false}
 use Rattle.std.proofs.lemmas.List.{flat_map_more}
@@ -11,14 +11,12 @@ use Rattle.am_wire.specs.Varint.{shortest}
 use Rattle.am_wire.specs.Writing.{tag, writes_number, writes_text, writes_delimited}
 use Rattle.am_wire.proofs.Passings.{both, nothing, whole as passed_whole}
 use Rattle.am_silence.specs.declared.matcher.Matcher.{Matcher}
-use Rattle.am_silence.specs.declared.matcher.MatcherKind.{MatcherKind}
 use Rattle.am_silence.specs.declared.matcher.MatcherKind.TheVariants as kinds
 use Rattle.am_silence.specs.declared.silence.Silence.{Silence}
 use Rattle.am_silence.specs.Kinds.{kind_code, kind_of}
 use Rattle.am_silence.specs.Matchers.{writes_matcher, IsMatcher}
 use Rattle.am_silence.specs.MatcherTexts.{writes_matchers, matchers_in, IsMatchersText}
 use Rattle.am_silence.specs.Mesh.{Mesh, writes_mesh_silence}
-use Rattle.am_silence.specs.Offsets.{StandsBetween}
 use Rattle.am_silence.specs.Silences.{writes_silence}
 use Rattle.am_silence.proofs.MatcherTexts.{is_text, matchers_spelled, tag_2}
 

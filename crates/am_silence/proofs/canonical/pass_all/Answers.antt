@@ -1,4 +1,4 @@
-use Rattle.std.proofs.Common.{rules, ◌≡◌, ◌≤◌, ◌<◌, ◌^◌, length, drop, ℕ, sym, subst, arith}
+use Rattle.std.proofs.Common.{rules, ◌≡◌, ◌<◌, ◌^◌, length, drop, ℕ, subst, arith}
 use Rattle.am_silence.specs.Matchers.{writes_matcher}
 use Rattle.am_silence.proofs.Passed.{none_passed, one_more, shrinks, begins_before, since_text, since_passed, since_values}
 use Rattle.am_silence.proofs.canonical.pass_all.Goals as goal

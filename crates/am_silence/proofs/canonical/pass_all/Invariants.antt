@@ -1,4 +1,4 @@
-use Rattle.std.proofs.Common.{◌≡◌, ◌-◌, length}
+use Rattle.std.proofs.Common.{◌-◌, length}
 use Rattle.am_silence.proofs.Passed.{HasPassed}
 use Rattle.am_silence.proofs.canonical.pass_all.Given as goal
 

@@ -1,4 +1,4 @@
-use Rattle.std.proofs.Common.{rules, arith, ◌≤◌}
+use Rattle.std.proofs.Common.{rules, ◌≤◌}
 use Rattle.am_silence.proofs.Passed.{matcher_passed}
 use Rattle.am_silence.proofs.canonical.pass_matcher_text.Goals as goal
 

@@ -1,4 +1,3 @@
-use Rattle.std.proofs.Common.{subst}
 use Rattle.am_wire.proofs.Offsets.{stands_grown}
 use Rattle.am_silence.specs.declared.silence.Silence.{Silence}
 use Rattle.am_silence.proofs.Passed.{silence_passed}

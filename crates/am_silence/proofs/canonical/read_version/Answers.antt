@@ -1,9 +1,9 @@
-use Rattle.std.proofs.Common.{rules, ◌≡◌, ◌-◌, ◌≤◌, ◌^◌, List, [], ℕ, ◌++◌, length, sym, ap, subst, ◌∙◌, arith}
+use Rattle.std.proofs.Common.{rules, ◌≡◌, ◌-◌, ◌≤◌, ◌^◌, List, [], ℕ, ◌++◌, length, sym, subst, ◌∙◌}
 use Rattle.am_wire.specs.Passing.{Passing, Passes}
 use Rattle.am_wire.specs.Timestamps.{writes_moment}
 use Rattle.am_wire.specs.Varint.{shortest}
 use Rattle.am_wire.specs.Writing.{tag, writes_delimited}
-use Rattle.am_silence.specs.Mesh.{Mesh, writes_mesh_silence}
+use Rattle.am_silence.specs.Mesh.{Mesh}
 use Rattle.am_silence.specs.Offsets.{StandIn}
 use Rattle.am_silence.proofs.Passed.{version_passed}
 use Rattle.am_silence.proofs.Standing.{stand_before}
