@@ -65,10 +65,11 @@ The toolchain, the C library, the statements of the kit's crates, the disk, and 
 - that `Memory` is answered only if an allocation was refused, or `Read` only if a read failed;
 - which patterns `regex` finds too big, or which ones are compiled before a step;
 - that an unfinished head of over 64 fields is refused at once;
+- which canonical texts are kept as they came, or that `sort_row` refuses a row over 64 MiB;
 - that `SystemDisk` and `LogFile` make the calls that they note, and that bytes outside of a write stay;
 - how long an answer takes.
 
-[wrong/README](../wrong/README.md) lists wrong bodies that contracts refuse, and those that they let through.
+[wrong/README](../wrong/README.md) lists wrong bodies, refused or let through.
 """
 
 
