@@ -18,7 +18,6 @@ import subprocess
 import sys
 import tempfile
 
-from lib.error_lines import bare, words_in
 from lib.tally import compare, count, finish, give_up
 from lib.versions import row, unescaped
 
@@ -182,11 +181,6 @@ def shortened(found, case):
     return found
 
 
-def bare_words(error):
-    """What stands on standard error, of faults the words alone: what a program says behind them is its own."""
-    return words_in(error.decode("utf-8", "backslashreplace"), bare).encode()
-
-
 def carried_out(program, case):
     """What comes of a command line in a folder that has its files: its output, behind `! ` its errors, and its status."""
     words = [unescaped(word) for word in case.words.partition(TO_FULL)[0].split(" ")]
@@ -202,7 +196,7 @@ def carried_out(program, case):
             ran = subprocess.run([program, *words], input=given, cwd=folder, check=False, timeout=PATIENCE, **streams)
         except (OSError, subprocess.TimeoutExpired) as error:
             return [f"> {case.words}", f"no end: {error}"]
-    found = [f"> {case.words}", *shown_lines(ran.stdout or b""), *shown_lines(bare_words(ran.stderr), "! "), f"status {ran.returncode}"]
+    found = [f"> {case.words}", *shown_lines(ran.stdout or b""), *shown_lines(ran.stderr, "! "), f"status {ran.returncode}"]
     return shortened(found, case)
 
 
@@ -258,10 +252,9 @@ def try_schedule(path, program):
         print(f"{short(path)}: {failed}", flush=True)
         count(False)
         return
-    said = bare_words(ran.stderr)
-    if not count((ran.returncode, ran.stdout, said) == (status, output, error)):
+    if not count((ran.returncode, ran.stdout, ran.stderr) == (status, output, error)):
         tell_replay(f"{short(stem)}.out", output, ran.stdout)
-        tell_replay(f"{short(stem)}.err", error + b"status %d\n" % status, said + b"status %d\n" % ran.returncode)
+        tell_replay(f"{short(stem)}.err", error + b"status %d\n" % status, ran.stderr + b"status %d\n" % ran.returncode)
 
 
 def tell_replay(name, wanted, found):

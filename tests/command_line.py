@@ -9,17 +9,22 @@ those of the command line as clap words them.
 """
 
 import os
-import pty
 import re
 import resource
 import signal
 import sys
 import tempfile
 
-from lib import members
-from lib.members import choose, run
+from lib.error_lines import EARLY
+from lib.members import choose, free_ports, run, run_at_terminal
+from lib.row_faults import fault_of
 from lib.samples import ENTRY, FIRST, ORDERS, ORDERS_OUTPUT, RESTARTED, RESTARTED_OUTPUT, SECOND
 from lib.tally import compare, finish
+from lib.versions import row
+
+# FIRST with an old comment, and ENTRY with its hashes one by one.
+COMMENTED = bytes.fromhex("2b0a240a0161120812036a6f621a01781a02080a220208642a02080a3a090a016f120268691a00120308c801")
+UNPACKED = ENTRY.replace(bytes.fromhex("32020102"), bytes.fromhex("30013002"))
 
 # Versions of two keys.
 TWO_KEYS = SECOND + SECOND.replace(b"\x01a", b"\x01b")
@@ -253,10 +258,6 @@ BAD_NOW = (
     "error: invalid value for '--now <MOMENT>': nanoseconds since 1970 are wanted, below 2^64 and in digits alone, or a moment as"
     " 2026-11-26T12:00:00Z\n" + FOLD_USAGE
 )
-EARLY = (
-    "am_tool: warning: --now is {}, before what was read; digits are nanoseconds since 1970, and a moment as"
-    " 2026-11-26T12:00:00Z is taken too\n"
-)
 BAD_SOURCES = "error: invalid values for '<SOURCE>...': {}\n" + DIFF_USAGE
 BAD_STATE = (
     "error: invalid value '{}' for '--state <STATE>'\n"
@@ -354,13 +355,13 @@ CASES = [
     (SHOW + ["50000000000"], SECOND, 0, b"sil a active\n", ""),
     (SHOW + ["200000000000"], SECOND, 0, b"", ""),
     (SHOW_LOG + ["50000000000"], ENTRY, 0, b"nfl g r w 0 1,2 -\n", ""),
-    (SHOW + ["9999999999"], SECOND, 0, b"sil a pending\n", EARLY.format("1970-01-01T00:00:09.999Z")),
+    (SHOW + ["9999999999"], SECOND, 0, b"sil a pending\n", ""),
     (SHOW + ["1970-01-01T00:00:50Z"], SECOND, 0, b"sil a active\n", ""),
     (SHOW + ["1970-01-01T01:01:39.999999999+01:00"], SECOND, 0, b"sil a active\n", ""),
     (SHOW + ["1970-01-01T00:01:40Z"], SECOND, 0, b"sil a expired\n", ""),
     (["show", "--state", "sil"], SECOND, 0, b"", ""),
     (["show", "--state", "nfl", "--json"], ENTRY, 0, b"[]\n", ""),
-    (SHOW + ["10000000000"], SECOND, 0, b"sil a active\n", EARLY.format("1970-01-01T00:00:10.000Z")),
+    (SHOW + ["10000000000"], SECOND, 0, b"sil a active\n", ""),
     (SHOW + ["20000000000"], SECOND, 0, b"sil a active\n", ""),
     (SHOW + ["99999999999"], SECOND, 0, b"sil a active\n", ""),
     (SHOW + ["100000000000"], SECOND, 0, b"sil a expired\n", ""),
@@ -454,31 +455,103 @@ def closing(number):
     return {"preexec_fn": lambda: os.close(number)}
 
 
-# What stands behind the words of a fault.
-SENTENCES = [
-    ([], b"", "Schedule Cluster 1: the cluster's line is missing, wrong, or a second one"),
-    (FOLD, SECOND + FIRST[:-1], "Wire Truncated 33: the input ends in what begins at this byte"),
-    (SHOW + ["0"], FIRST + SECOND, "DuplicateKey: a key comes twice; fold keeps of each key the version that counts"),
+# A server and a replica that aren't there.
+UNSERVED = f"http://127.0.0.1:{free_ports(1)[0]}"
+ABSENT = f"gossip://127.0.0.1:{free_ports(1)[0]}"
+
+# A member that doesn't begin, since its first file is none.
+MEMBER = ["instance", "--name", "m", "--listen", "1", "--sil", "/dev/null", "--nfl", "nowhere/n"]
+
+# Words and standard input; the status, the line of a fault, and what a person is told behind it.
+FAULTS = [
+    ([], b"", 1, "Schedule Cluster 1", "the cluster's line is missing, wrong, or a second one"),
+    (["replay"], b"cluster 1 1 a\nat 5 a tock\n", 1, "Schedule Words 2", "the line's verb is unknown, or has another number of words"),
+    (["replay", "--picture", "nowhere/p"], ORDERS, 3, "Picture File NotFound", "there is no such file or directory"),
+    (FOLD, bytes.fromhex("200a"), 1, "Wire Truncated 0", "the input ends in what begins at this byte"),
+    (FOLD, SECOND + FIRST[:-1], 1, "Wire Truncated 33", "the input ends in what begins at this byte"),
+    (FOLD + ["nowhere"], b"", 3, "nowhere File NotFound", "there is no such file or directory"),
+    (SHOW + ["0"], FIRST + SECOND, 1, "DuplicateKey", "a key comes twice; fold keeps of each key the version that counts"),
     (
         SHOW_LOG + ["0"],
         SECOND,
-        "Wire WrongType 13: the field at this byte has another type than its number; is this the other state?"
-        " (--state, --sil, --nfl)",
+        1,
+        "Wire WrongType 13",
+        "the field at this byte has another type than its number; is this the other state? (--state, --sil, --nfl)",
     ),
-    (["diff", "--state", "sil", "a=nowhere", "b=-"], b"", "a File NotFound: there is no such file or directory"),
+    (["diff", "--state", "sil", "a=nowhere", "b=-"], b"", 3, "a File NotFound", "there is no such file or directory"),
+    (["diff", "--state", "sil", "a=-", "b=/dev/null"], FIRST[:9], 1, "a Wire Truncated 0", "the input ends in what begins at this byte"),
     (
-        ["instance", "--name", "m", "--listen", "1", "--sil", "s", "--nfl", "n", "--peer", "m=2"],
+        ["diff", "--state", "sil", f"a={UNSERVED}", "b=/dev/null"],
         b"",
-        "SameName: two members have one name",
+        3,
+        "a Connect ConnectionRefused",
+        "nothing listens there",
+    ),
+    (["pull", "--state", "sil", ABSENT], b"", 3, f"{ABSENT} Connect ConnectionRefused", "nothing listens there"),
+    (["push", "--state", "sil", ABSENT], b"", 3, f"{ABSENT} Connect ConnectionRefused", "nothing listens there"),
+    (["push", "--state", "sil", ABSENT], FIRST[:9], 1, "Wire Truncated 0", "the input ends in what begins at this byte"),
+    (
+        [*MEMBER, "--peer", "b"],
+        b"",
+        2,
+        "Peer",
+        "a peer is NAME=ADDRESS:PORT, or NAME=PORT on 127.0.0.1, with a port from 1 to 65535",
+    ),
+    ([*MEMBER, "--peer", "m=2"], b"", 2, "SameName", "two members have one name"),
+    ([*MEMBER, "--secret", "nowhere/k"], b"", 3, "Secret File NotFound", "there is no such file or directory"),
+    (
+        MEMBER,
+        b"",
+        3,
+        "Silences NotAFile",
+        "a directory, a pipe, a socket or a device stands in the file's place",
     ),
 ]
 
+# Versions that are updated in 2001.
+LATER = row("sil", "x job=db 1000000000..1000000100 updated 1000000000 expires 1000000200")
+LATER_ENTRY = row("nfl", "g r/w/0 updated 1000000000 expires 1000000200 firing 1")
+PENDING = b"pending 2001-09-09T01:46:40.000Z 2001-09-09T01:48:20.000Z\n"
 
-def test_sentences():
-    """Behind its words a fault says what it means."""
-    for words, given, wanted in SENTENCES:
-        found = members.whole_outcome([members.program, *words], input=given)
-        compare(f"the whole line of {' '.join(words)}", found[2], f"am_tool: {wanted}\n")
+DIFF = ["diff", "--state", "sil", "a=-", "b=/dev/null", "--now"]
+
+# Words and standard input of commands that are done; the status, standard output, and what a person is told.
+WARNINGS = [
+    (SHOW + ["10000000000"], SECOND, 0, b"sil a active\n", EARLY.format("1970-01-01T00:00:10.000Z")),
+    (SHOW + ["20000000000"], SECOND, 0, b"sil a active\n", ""),
+    (SHOW + ["1999-12-31T23:59:59.999999999Z"], LATER, 0, b"sil x pending\n", EARLY.format("1999-12-31T23:59:59.999Z")),
+    (SHOW + ["2000-01-01T00:00:00Z"], LATER, 0, b"sil x pending\n", ""),
+    (SHOW_LOG + ["0"], LATER_ENTRY, 0, b"nfl g r w 0 1 -\n", EARLY.format("1970-01-01T00:00:00.000Z")),
+    (["show", "--state", "sil"], LATER, 0, b"", ""),
+    (DIFF + ["1"], LATER, 5, b"sil x greatest a " + PENDING + b"sil x missing b\n", EARLY.format("1970-01-01T00:00:00.000Z")),
+    (DIFF + ["2000-01-01T00:00:00Z"], LATER, 5, b"sil x greatest a " + PENDING + b"sil x missing b\n", ""),
+    (["diff", "--state", "sil", "--json", "--now", "1", "-", "b=/dev/null"], b"", 0, b"[]\n", ""),
+    (FOLD, FIRST + SECOND, 0, SECOND, ""),
+    ([], ORDERS, 0, ORDERS_OUTPUT, ""),
+]
+
+
+def test_terminal():
+    """A fault is told by its line alone, and to a person at a terminal with what it means. A warning is for people."""
+    for words, given, status, line, meaning in FAULTS:
+        told = f"am_tool {words}"
+        compare(f"{told}: the whole line", run(words, input=given), (status, b"", f"am_tool: {line}\n"))
+        compare(f"{told}: at a terminal", run_at_terminal(words, input=given), (status, b"", f"am_tool: {line}: {meaning}\n"))
+    for words, given, status, output, warning in WARNINGS:
+        told = f"am_tool {words}"
+        compare(f"{told}: all is well", run(words, input=given), (status, output, ""))
+        compare(f"{told}: well at a terminal", run_at_terminal(words, input=given), (status, output, warning))
+
+
+def test_flipped_bits():
+    """Whatever bit of a row is flipped, and wherever it is cut, all that stands on standard error is the line of its fault."""
+    for state, whole in [("sil", FIRST), ("sil", COMMENTED), ("nfl", ENTRY), ("nfl", UNPACKED)]:
+        flipped = [bytes([*whole[:at], whole[at] ^ 1 << bit, *whole[at + 1 :]]) for at in range(len(whole)) for bit in range(8)]
+        for given in [*flipped, *(whole[:length] for length in range(len(whole) + 1))]:
+            line = fault_of(state, given)
+            wanted = (1, f"am_tool: Wire {line}\n") if line else (0, "")
+            status, _, error = run(["fold", "--state", state, "--now", "0"], input=given)
+            compare(f"fold of {given.hex(' ')} of {state}", (status, error), wanted)
 
 
 def test_streams():
@@ -530,22 +603,6 @@ def test_cut_output():
 # So many settles of 16 members take over a second.
 LONG = 100_000
 
-# What a terminal gives at once at most.
-PIECE = 1 << 16
-
-
-def all_of(terminal):
-    """What was written to a terminal whose other end is closed, and which ends by a failed read."""
-    shown = b""
-    while True:
-        try:
-            piece = os.read(terminal, PIECE)
-        except OSError:
-            return shown.decode()
-        if not piece:
-            return shown.decode()
-        shown += piece
-
 
 def test_progress():
     """How far a long schedule is played is shown on a terminal, and taken away in the end; elsewhere nothing is."""
@@ -553,11 +610,8 @@ def test_progress():
     schedule = {"input": f"cluster 1 1 {' '.join(names)}\n".encode() + b"at 1 settle\n" * LONG}
     output = b"settled\n" * LONG + "".join(f"calm {name}\n" for name in names).encode()
     compare("a long schedule", run([], **schedule), (0, output, ""))
-    terminal, end = pty.openpty()
-    compare("a long schedule at a terminal", run([], **schedule, stderr=end), (0, output, None))
-    os.close(end)
-    shown = all_of(terminal)
-    os.close(terminal)
+    *ran, shown = run_at_terminal([], **schedule)
+    compare("a long schedule at a terminal", ran, [0, output])
     lines = re.fullmatch(rf"(\ram_tool: \d+ of {LONG} lines played)+\r\x1b\[K", shown)
     compare(f"what is shown of it, {shown!r}", lines is not None, True)
 
@@ -606,7 +660,8 @@ def test_memory():
 def main():
     choose("command line", sys.argv[1:])
     test_words()
-    test_sentences()
+    test_terminal()
+    test_flipped_bits()
     test_streams()
     test_cut_output()
     test_progress()

@@ -184,9 +184,6 @@ def some_row(draw, state):
 
 # ---- the program
 
-# What is said of a moment that is before what was read, and before the year 2000.
-EARLY = re.compile(r"\Aam_tool: warning: --now is [0-9TZ:.-]+, before what was read; [ -~]+\n\Z")
-
 
 def fault_of_row(words, given):
     """What is wrong in how a row is answered, or None."""
@@ -194,8 +191,7 @@ def fault_of_row(words, given):
     if status == 1:
         told = ROW_FAULT.fullmatch(error) and not (words[0] == "fold" and "DuplicateKey" in error)
         return None if told and not output else f"{words}: {status}, {output!r}, {error!r}"
-    said = EARLY.sub("", error) if words[0] == "show" else error
-    if status != 0 or said:
+    if status != 0 or error:
         return f"{words}: {status}, {output[:200]!r}, {error!r}"
     if words[0] == "show":
         wrong = [line for line in output.split(b"\n")[:-1] if not SHOWN.fullmatch(line)]
@@ -204,7 +200,7 @@ def fault_of_row(words, given):
     if again != (0, output, ""):
         return f"{words}, folded again: {again[0]}, {again[1][:200]!r}, {again[2]!r}"
     shown = run(["show", *words[1:]], input=output)
-    return None if shown[0] == 0 and not EARLY.sub("", shown[2]) else f"what was folded is not shown: {shown}"
+    return None if (shown[0], shown[2]) == (0, "") else f"what was folded is not shown: {shown}"
 
 
 def test_row(seed):

@@ -16,7 +16,8 @@ import tempfile
 import threading
 
 from lib import members
-from lib.members import Member, free_ports, run
+from lib.error_lines import EARLY
+from lib.members import Member, free_ports, run, run_at_terminal
 from lib.samples import silence_of_job
 from lib.tally import check, compare, finish
 from lib.versions import row
@@ -103,12 +104,12 @@ def test_paths():
 
 
 def test_early():
-    """A moment that may have been meant in seconds is told where a server shows what is later."""
+    """A moment that may have been meant in seconds is told at a terminal, where a server shows what is later."""
     one, none = Server(reply_of(json.dumps([gettable("a")]))), Server(reply_of("[]"))
-    status, output, error = run(["diff", "--state", "sil", "--now", "9", f"a=http://{one.host}", f"b=http://{none.host}"])
-    lines = ["sil a greatest a pending 1970-01-01T00:00:10.000Z 1970-01-01T00:01:40.000Z", "sil a missing b"]
-    start = "am_tool: warning: --now is 1970-01-01T00:00:00.000Z, before what was read; "
-    compare("an early moment", (status, output.decode().splitlines(), error[: len(start)]), (5, lines, start))
+    words = ["diff", "--state", "sil", "--now", "9", f"a=http://{one.host}", f"b=http://{none.host}"]
+    lines = b"sil a greatest a pending 1970-01-01T00:00:10.000Z 1970-01-01T00:01:40.000Z\nsil a missing b\n"
+    compare("an early moment", run(words), (5, lines, ""))
+    compare("at a terminal", run_at_terminal(words), (5, lines, EARLY.format("1970-01-01T00:00:00.000Z")))
 
 
 def test_faults():

@@ -3,6 +3,7 @@
 import contextlib
 import json
 import os
+import pty
 import random
 import shutil
 import signal
@@ -12,7 +13,7 @@ import threading
 import time
 
 from lib.api import request
-from lib.error_lines import words_in, words_of
+from lib.error_lines import words_of
 from lib.tally import check, give_up
 from lib.wire import greeting
 
@@ -65,14 +66,8 @@ def compiled(title, name, folder, why):
 
 
 def outcome(command, **how):
-    """A command's status, output and error, of faults the words: the status is 'no end' where it does not end in time, and the
-    others are None where they do not go to a pipe."""
-    status, output, error = whole_outcome(command, **how)
-    return status, output, None if error is None else words_in(error)
-
-
-def whole_outcome(command, **how):
-    """A command's status, output and error, as it stands."""
+    """A command's status, output and error: the status is 'no end' where it does not end in time, and the others are None where
+    they do not go to a pipe."""
     if "input" not in how:
         how.setdefault("stdin", subprocess.DEVNULL)
     how = {"stdout": subprocess.PIPE, "stderr": subprocess.PIPE, "timeout": PATIENCE, **how}
@@ -85,6 +80,24 @@ def whole_outcome(command, **how):
 
 def run(words, **how):
     return outcome([program, *words], **how)
+
+
+def outcome_at_terminal(command, **how):
+    """A command's status and output, and what a terminal shows of its errors."""
+    terminal, end = pty.openpty()
+    status, output, _ = outcome(command, stderr=end, **how)
+    os.close(end)
+    shown = b""
+    # (a terminal whose other end is closed ends by a failed read)
+    with contextlib.suppress(OSError):
+        while piece := os.read(terminal, 1 << 16):
+            shown += piece
+    os.close(terminal)
+    return status, output, shown.decode("utf-8", "backslashreplace").replace("\r\n", "\n")
+
+
+def run_at_terminal(words, **how):
+    return outcome_at_terminal([program, *words], **how)
 
 
 def free_ports(count):
@@ -176,8 +189,8 @@ def parted(reply):
 
 
 class Member:
-    """A process that runs a member, and the lines that it has printed on standard error: as they stand, and of faults the
-    words."""
+    """A process that runs a member, and the lines that it has printed on standard error: as they stand, and from when it listens
+    on of faults the words."""
 
     # what stands in front of its command
     front = ()
@@ -209,7 +222,7 @@ class Member:
             line = line.decode("utf-8", "backslashreplace").rstrip("\n")
             runs |= " listens on " in line
             self.whole_lines.append(line)
-            self.lines.append(words_of(line, runs))
+            self.lines.append(words_of(line) if runs else line)
             self.has_begun.set()
         self.has_begun.set()
 

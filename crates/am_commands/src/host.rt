@@ -1,14 +1,22 @@
 //! What a command takes of the system.
 
+use am_faults::HasAudience;
 use std::fs::File;
 use std::io::{Stdin, Stdout};
 use std::net::{Net, TcpStream};
 use std::rt::{Clock, Files};
 
 /// The parts of a runtime that a command uses. Its files are those of the system, as the logs beside them are.
-pub trait Host: AllocGlobal + Clock + Eprint + Files<File = File> + Net<Stream = TcpStream> {}
+pub trait Host: AllocGlobal
+    + Clock
+    + Eprint
+    + Files<File = File>
+    + HasAudience
+    + Net<Stream = TcpStream> {}
 
-impl<R: AllocGlobal + Clock + Eprint + Files<File = File> + Net<Stream = TcpStream>> Host for R {}
+impl<
+    R: AllocGlobal + Clock + Eprint + Files<File = File> + HasAudience + Net<Stream = TcpStream>,
+> Host for R {}
 
 /// The standard streams of the process.
 #[derive(Clone, Copy)]

@@ -1,7 +1,7 @@
 //! The moment of what is shown and compared.
 
 use crate::host::Host;
-use am_faults::Fault;
+use am_faults::{Audience, Fault};
 use am_peers::later_moment;
 use am_silence_json::moments::write_moment;
 use am_version_order::Moment;
@@ -20,10 +20,10 @@ pub fn moment_of<R: Host>(rt: &R, named: Option<Moment>) -> Result<Moment, Fault
     }
 }
 
-/// Says that the moment that the command line names is before what was read, where it is so early that it may have been meant in
-/// seconds.
+/// Says to a person that the moment that the command line names is before what was read, where it is so early that it may have
+/// been meant in seconds.
 pub fn warn<R: Host>(rt: &R, named: Option<Moment>) {
-    let Some(now) = named else {
+    let (Some(now), Audience::Person) = (named, rt.audience()) else {
         return;
     };
     let (seconds, _) = now.parts();

@@ -76,7 +76,8 @@ impl From<SnapshotError> for ReadFault<'_> {
     }
 }
 
-/// Prints a fault on standard error, behind the name of its source, or the path of its log. Gives the exit status of the program.
+/// Prints a fault on standard error, behind the name of its source, or the path of its log, and to a person what it means. Gives
+/// the exit status of the program.
 pub fn report_read<R: Host>(rt: &R, fault: &ReadFault<'_>) -> u8
     ensures { (1 ≤ result) × (result ≤ 4) }
 {
@@ -86,9 +87,8 @@ pub fn report_read<R: Host>(rt: &R, fault: &ReadFault<'_>) -> u8
         ReadFault::Log(path, fault) => report_source(rt, path.as_str(), Fault::File(*fault)),
         ReadFault::Words(name, words) => {
             let (name, words) = (Word(name.as_bytes()), Word(words));
-            let _ = eprintln!(rt;
-                "am_tool: {name} Gossip Error {words}: the replica told this error"
-            );
+            let remark = rt.audience().told("the replica told this error");
+            let _ = eprintln!(rt; "am_tool: {name} Gossip Error {words}{remark}");
             status::REFUSED
         }
     }

@@ -5,6 +5,7 @@ ghost use Rattle.std.specs.Prelude.{◌<◌, ◌≤◌};
 mod lines;
 mod meaning;
 
+use crate::audience::HasAudience;
 use crate::occasion::Occasion;
 use crate::status;
 use am_disk::FileFault;
@@ -23,7 +24,7 @@ use std::io::ErrorKind;
 use std::net::SocketAddr;
 use thiserror::Error;
 
-/// Prints a fault on standard error: its words, what it means, and when it is told.
+/// Prints a fault of a member that runs on standard error: its words, what it means, and when it is told.
 pub fn print<R: Eprint>(rt: &R, fault: &Fault, occasion: &Occasion<'_>) {
     let meaning = fault.meaning();
     let _ = eprintln!(rt; "am_tool: {fault}: {meaning}{occasion}");
@@ -34,21 +35,22 @@ pub fn print_count<R: Eprint>(rt: &R, count: u64, fault: &Fault, occasion: &Occa
     let _ = eprintln!(rt; "am_tool: .. and {count} more like {fault}{occasion}");
 }
 
-/// Prints a fault on standard error. Gives the exit status of the program.
-pub fn report<R: Eprint>(rt: &R, fault: Fault) -> u8
+/// Prints a fault on standard error: its words, and to a person what it means. Gives the exit status of the program.
+pub fn report<R: Eprint + HasAudience>(rt: &R, fault: Fault) -> u8
     ensures { (1 ≤ result) × (result ≤ 4) }
 {
-    let meaning = fault.meaning();
-    let _ = eprintln!(rt; "am_tool: {fault}: {meaning}");
+    let remark = rt.audience().told(fault.meaning());
+    let _ = eprintln!(rt; "am_tool: {fault}{remark}");
     fault.status()
 }
 
-/// Prints a fault on standard error, behind the name of the source that is at fault. Gives the exit status of the program.
-pub fn report_source<R: Eprint>(rt: &R, name: &str, fault: Fault) -> u8
+/// Prints a fault on standard error as [`report`] does, behind the name of the source that is at fault. Gives the exit status of
+/// the program.
+pub fn report_source<R: Eprint + HasAudience>(rt: &R, name: &str, fault: Fault) -> u8
     ensures { (1 ≤ result) × (result ≤ 4) }
 {
-    let (name, meaning) = (Word(name.as_bytes()), fault.meaning());
-    let _ = eprintln!(rt; "am_tool: {name} {fault}: {meaning}");
+    let (name, remark) = (Word(name.as_bytes()), rt.audience().told(fault.meaning()));
+    let _ = eprintln!(rt; "am_tool: {name} {fault}{remark}");
     fault.status()
 }
 

@@ -6,27 +6,26 @@ ghost use Rattle.am_replay.specs.Replays.{HasReplayed};
 use crate::picture::draw;
 use crate::progress::Display;
 use crate::schedule_fault::{ScheduleFault, report};
-use am_faults::status;
+use am_faults::{HasAudience, status};
 use am_replay::{Onlooker, run_shown};
 use std::alloc::Global;
 use std::io::{Read, Write};
 use std::rt::{Clock, Files};
 
 /// The parts of a runtime that a player uses.
-pub trait Host: AllocGlobal + Clock + Eprint + Files {}
+pub trait Host: AllocGlobal + Clock + Eprint + Files + HasAudience {}
 
-impl<H: AllocGlobal + Clock + Eprint + Files> Host for H {}
+impl<H: AllocGlobal + Clock + Eprint + Files + HasAudience> Host for H {}
 
 /// Plays the schedule that stands on the input, and answers the exit status of the program. Where a file is named it is drawn
-/// there. How far the playing is is shown on standard error, where that `is_terminal`.
+/// there. How far the playing is is shown to a person on standard error.
 pub fn run_replay<H: Host, R: Read, W: Write>(
     rt: &H,
     input: &mut R,
     output: &mut W,
     file: Option<&str>,
-    is_terminal: bool,
 ) -> u8 {
-    let mut display = Display::new(rt, is_terminal);
+    let mut display = Display::new(rt);
     let played = match file {
         Some(file) => draw(rt, input, output, file, &mut display),
         None => play(rt.alloc(), input, output, &mut display),

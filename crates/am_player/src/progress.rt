@@ -1,6 +1,7 @@
-//! How far the playing of a schedule is, on a terminal.
+//! The progress of a schedule that is played, for people.
 
 use crate::play::Host;
+use am_faults::Audience;
 use am_replay::Onlooker;
 use std::time::{Duration, Instant};
 
@@ -10,7 +11,7 @@ const FIRST: u64 = 1_000;
 /// After how many more it is shown anew.
 const NEXT: u64 = 200;
 
-/// Shows on standard error how far the playing is, where that is a terminal and the playing takes over a second.
+/// Shows a person on standard error how far the playing is, where it takes over a second.
 #[derive(Drop)]
 pub struct Display<'a, H> {
     rt: &'a H,
@@ -28,11 +29,10 @@ fn moment_after<H: Host>(rt: &H, millis: u64) -> Option<Instant> {
 }
 
 impl<'a, H: Host> Display<'a, H> {
-    pub fn new(rt: &'a H, is_terminal: bool) -> Display<'a, H> {
-        let due = if is_terminal {
-            moment_after(rt, FIRST)
-        } else {
-            None
+    pub fn new(rt: &'a H) -> Display<'a, H> {
+        let due = match rt.audience() {
+            Audience::Person => moment_after(rt, FIRST),
+            Audience::Program => None,
         };
         Display {
             rt,

@@ -3,7 +3,7 @@
 ghost use Rattle.std.specs.Prelude.{◌≤◌};
 
 use am_disk::FileFault;
-use am_faults::{Fault, status};
+use am_faults::{Fault, HasAudience, status};
 use am_replay::ReplayError;
 use am_schedule::FaultKind;
 use am_snapshot::SnapshotError;
@@ -27,12 +27,12 @@ pub enum ScheduleFault {
     Picture(FileFault),
 }
 
-/// Prints a fault on standard error. Gives the exit status of the program.
-pub fn report<R: Eprint>(rt: &R, fault: ScheduleFault) -> u8
+/// Prints a fault on standard error: its words, and to a person what it means. Gives the exit status of the program.
+pub fn report<R: Eprint + HasAudience>(rt: &R, fault: ScheduleFault) -> u8
     ensures { (1 ≤ result) × (result ≤ 4) }
 {
-    let meaning = fault.meaning();
-    let _ = eprintln!(rt; "am_tool: {fault}: {meaning}");
+    let remark = rt.audience().told(fault.meaning());
+    let _ = eprintln!(rt; "am_tool: {fault}{remark}");
     fault.status()
 }
 

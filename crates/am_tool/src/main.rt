@@ -7,13 +7,12 @@ use am_command_line::{job_of, words_of};
 use am_commands::{Streams, run_diff, run_fold, run_pull, run_push, run_show};
 use am_jobs::Job;
 use am_player::run_replay;
-use std::io::IsTerminal;
 use std::process::ExitCode;
 
 /// Does what the words ask for, and answers the exit status of the program.
 fn run<'a>(rt: &'a HostRuntime, job: Job<'a>) -> u8 {
     match job {
-        Job::Replay(file) => replay(rt, file),
+        Job::Replay(file) => run_replay(rt, &mut rt.stdin(), &mut rt.stdout(), file),
         Job::Fold(job) => run_fold(rt, streams_of(rt), &job),
         Job::Show(job) => run_show(rt, streams_of(rt), &job),
         Job::Diff(job) => run_diff(rt, streams_of(rt), &job),
@@ -29,13 +28,6 @@ fn streams_of(rt: &HostRuntime) -> Streams {
         input: rt.stdin(),
         output: rt.stdout(),
     }
-}
-
-/// Plays the schedule that stands on standard input, which is drawn where a file is named, and answers the exit status of the
-/// program.
-fn replay(rt: &HostRuntime, file: Option<&str>) -> u8 {
-    let is_terminal = rt.stderr().is_terminal();
-    run_replay(rt, &mut rt.stdin(), &mut rt.stdout(), file, is_terminal)
 }
 
 fn main(rt: HostRuntime) -> ExitCode {

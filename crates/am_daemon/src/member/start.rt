@@ -6,7 +6,7 @@ use super::guarding::{hosts_of, opening};
 use am_attendant::{Member, live};
 use am_beside::Replicas;
 use am_dialogue::{Intervals, Share, Timers, Turns};
-use am_faults::{Fault, report, status};
+use am_faults::{Fault, HasAudience, report, status};
 use am_instance::{Config, ConfigError, Instance, Place};
 use am_jobs::Options;
 use am_lines::signals;
@@ -31,7 +31,7 @@ const MOST_WAITING: usize = 134_217_728;
 const MOST_ANSWER: usize = 67_125_248;
 
 /// Runs a member, prints why it ends early, and answers the exit status of the program.
-pub fn run<'a, R: Host>(rt: &'a R, options: &'a Options<'a>) -> u8 {
+pub fn run<'a, R: Host + HasAudience>(rt: &'a R, options: &'a Options<'a>) -> u8 {
     match run_on(rt, options) {
         Ok(None) => status::DONE,
         // (no input is refused where a state is too large to be saved)
