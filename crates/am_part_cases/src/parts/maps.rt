@@ -62,10 +62,17 @@ fn take_pair(case: &Case, held: &mut Map, words: &str, now: Moment) {
     say_made(case, case.made(held.take_pair(one, other, now)));
 }
 
+/// Merges versions in; where memory runs out, says how many of them were taken, and what is held then.
 fn merge(case: &Case, map: &mut Map, words: &str, now: Moment) {
     let other = case.held(words);
-    given!(changed = case.made(map.merge(&other, now)));
-    say!(case; changed, " changed");
+    match map.merge(&other, now) {
+        Ok(changed) => say!(case; changed, " changed"),
+        Err(error) => {
+            say!(case; "MergeError { taken: ", error.taken, " }");
+            case.say_held(map);
+            case.fail(Fault::Memory);
+        }
+    }
 }
 
 fn say_bucket(case: &Case, held: &Map, pairs: &str) {
