@@ -21,8 +21,7 @@ pub struct CanonicalEntry<'a> {
     pub places: Offsets,
 }
 
-/// The entry of a version and the moment from which on it may be forgotten; none where the text is not canonical, or has
-/// a part behind 2^32 bytes or more.
+/// The entry of a version and the moment from which on it may be forgotten; none where the text is not canonical.
 pub fn read_version(text: &[u8]) -> Option<(CanonicalEntry<'_>, Moment)>
     ensures { IfSome result (λ it. IsCanonical text.now it.0 it.1) }
 {

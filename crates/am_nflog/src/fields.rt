@@ -83,7 +83,7 @@ impl<'a> EntryFields<'a> {
     ///
     /// # Errors
     ///
-    /// [`AllocError`] where memory runs out, or 2^32 bytes or more stand before a part. Some of the text may be left.
+    /// [`AllocError`] where memory runs out. Some of the text may be left.
     #[tactic(auto, unfolding(crate::specs::Entries::writes_entry))]
     pub fn write(&self, out: &mut Vec<u8>) -> Result<Offsets, AllocError>
         ensures written { OnOk result (out.new.items ≡ out.old.items ++ writes_entry (entry_in self.now)) }

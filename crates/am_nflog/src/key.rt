@@ -18,14 +18,13 @@ use std::marker::Model;
 /// Which group of alerts, and which receiver. Keys are ordered by group key, group name and
 /// integration, byte by byte, and then by index as a number.
 ///
-/// The three texts stand in one, one behind the other. One of 2^32 bytes or more is refused as one that memory is
-/// not enough for.
+/// The three texts stand in one, one behind the other.
 pub struct LogKey {
     text: Vec<u8>,
     // Where the group name begins.
-    group_name: u32,
+    group_name: usize,
     // Where the integration begins.
-    integration: u32,
+    integration: usize,
     idx: u32,
 }
 
@@ -80,20 +79,20 @@ impl LogKey {
           receiver = record { group_name = group_name.now; integration = integration.now; idx = idx };
         }) }
     {
-        let name_at = group_key.len();
-        let integration_at = name_at.saturating_add(group_name.len());
-        let length = integration_at.saturating_add(integration.len());
-        if length > u32::MAX as usize {
-            return Err(AllocError);
-        }
+        let length = group_key
+            .len()
+            .saturating_add(group_name.len())
+            .saturating_add(integration.len());
         let mut text = Vec::with_capacity(alloc, length)?;
         text.extend_from_slice(group_key)?;
+        let name_at = text.len();
         text.extend_from_slice(group_name.as_bytes())?;
+        let integration_at = text.len();
         text.extend_from_slice(integration.as_bytes())?;
         Ok(LogKey {
             text,
-            group_name: name_at as u32,
-            integration: integration_at as u32,
+            group_name: name_at,
+            integration: integration_at,
             idx,
         })
     }
@@ -102,7 +101,7 @@ impl LogKey {
     pub fn group_key(&self) -> &[u8]
         ensures { result.now ≡ self.now.group_key }
     {
-        &self.text[..self.group_name as usize]
+        &self.text[..self.group_name]
     }
 
     /// The name of the receiver.
@@ -110,7 +109,7 @@ impl LogKey {
         ensures bytes { result.now ≡ self.now.receiver.group_name }
         ensures utf8 { IsUtf8 self.now.receiver.group_name }
     {
-        let bytes = &self.text[self.group_name as usize..self.integration as usize];
+        let bytes = &self.text[self.group_name..self.integration];
         // (the bytes of a text were put there)
         unsafe { str::from_utf8_unchecked(bytes) }
     }
@@ -120,7 +119,7 @@ impl LogKey {
         ensures bytes { result.now ≡ self.now.receiver.integration }
         ensures utf8 { IsUtf8 self.now.receiver.integration }
     {
-        let bytes = &self.text[self.integration as usize..];
+        let bytes = &self.text[self.integration..];
         // (likewise)
         unsafe { str::from_utf8_unchecked(bytes) }
     }

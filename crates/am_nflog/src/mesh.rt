@@ -28,8 +28,7 @@ use std::marker::Model;
 /// A version of an entry: the entry, and the moment from which on it may be forgotten.
 ///
 /// Its canonical text is kept, so that comparing takes no memory; beside it stand its key and its moments, and the
-/// places of its other parts in that text. One with a part behind 2^32 bytes or more of the text is refused as one that
-/// memory is not enough for.
+/// places of its other parts in that text.
 pub struct MeshEntry {
     key: LogKey,
     timestamp: Moment,
@@ -137,8 +136,7 @@ impl MeshEntry {
         })
     }
 
-    // The version that a text is the canonical one of; none where it is not canonical, or has a part behind 2^32 bytes or
-    // more.
+    // The version that a text is the canonical one of; none where it is not canonical.
     fn of_canonical(alloc: Global, text: &[u8]) -> Result<Option<MeshEntry>, AllocError>
         ensures { IfOk result (λ found. IfSome found (λ m. (at : ℕ) → reads_mesh_entry at text.now ≡ Ok m)) }
     {

@@ -27,7 +27,7 @@ pub(crate) struct CanonicalSilence<'a> {
     pub places: Offsets,
 }
 
-/// The version that a canonical text spells; none where a text isn't canonical, or has 2^32 bytes or more.
+/// The version that a canonical text spells; none where a text isn't canonical.
 pub(crate) fn read_version(text: &[u8]) -> Option<CanonicalSilence<'_>>
     ensures { IfSome result (IsCanonical text.now) }
 {
@@ -39,7 +39,7 @@ pub(crate) fn read_version(text: &[u8]) -> Option<CanonicalSilence<'_>>
         return None;
     }
     let expires_at = reader.moment(2)?;
-    if !reader.is_over() || text.len() > u32::MAX as usize {
+    if !reader.is_over() {
         return None;
     }
     Some(CanonicalSilence {
@@ -86,8 +86,8 @@ fn pass_silence<'a>(
 /// Between which places matchers stand, and where their bucket.
 #[derive(Clone, Copy)]
 struct MatcherPlaces {
-    start: u32,
-    end: u32,
+    start: usize,
+    end: usize,
     bucket: Offset,
 }
 
@@ -98,12 +98,10 @@ fn pass_matchers<'a>(reader: &mut CanonicalReader<'a>) -> Option<(MatcherIter<'a
     ensures between { IfSome result (λ it. StandsBetween it.1.start it.1.end (writes_matchers it.0) reader.new.passed) }
     ensures bucket { IfSome result (λ it. StandsAt (bucket_of it.0) it.1.bucket reader.new.passed) }
 {
-    let start = u32::try_from(reader.at()).ok()?;
+    let start = reader.at();
     let matchers = pass_all(reader)?;
-    let end = u32::try_from(reader.at()).ok()?;
-    let Ok(bucket) = bucket_place(start, &matchers) else {
-        return None;
-    };
+    let end = reader.at();
+    let bucket = bucket_place(start, &matchers);
     Some((matchers, MatcherPlaces { start, end, bucket }))
 }
 
@@ -117,9 +115,6 @@ fn pass_all<'a>(reader: &mut CanonicalReader<'a>) -> Option<MatcherIter<'a>>
         pass_matcher(reader)?;
     }
     let text = reader.since(begun);
-    if text.len() > u32::MAX as usize {
-        return None;
-    }
     Some(MatcherIter::over(text))
 }
 

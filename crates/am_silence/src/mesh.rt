@@ -27,8 +27,7 @@ use std::marker::Model;
 /// A version of a silence: the silence, and the moment from which on it may be forgotten.
 ///
 /// Of a version its canonical text is kept, and beside it the identifier, the moments, and where the other parts stand
-/// in the text: they are read where they are asked for. One with a part behind 2^32 bytes or more of the text is refused
-/// as one that memory is not enough for.
+/// in the text: they are read where they are asked for.
 pub struct MeshSilence {
     id: Text,
     starts_at: Moment,
@@ -204,7 +203,7 @@ impl MeshSilence {
         ensures { result ≡ self.now.silence.matchers }
     {
         let places = self.places;
-        MatcherIter::over(&self.canonical[places.matchers as usize..places.matchers_end as usize])
+        MatcherIter::over(&self.canonical[places.matchers..places.matchers_end])
     }
 
     /// The moment from which on it is active.

@@ -1,6 +1,6 @@
 //! Silences written into a text, and where their parts then stand.
 
-ghost use Rattle.std.specs.Prelude.{◌≡◌, ℕ, List, ◌++◌, length, All, OnOk, IfOk};
+ghost use Rattle.std.specs.Prelude.{◌≡◌, ℕ, ◌+◌, ◌<◌, ◌^◌, List, ◌++◌, length, All, OnOk, IfOk};
 ghost use Rattle.am_wire.specs.Offsets.{StandsAt};
 ghost use Rattle.am_silence.specs.MatcherTexts.{writes_matchers};
 ghost use Rattle.am_silence.specs.Matchers.{IsMatcher};
@@ -19,8 +19,8 @@ use std::alloc::AllocError;
 /// bucket where their lengths are.
 #[derive(Clone, Copy)]
 pub struct Offsets {
-    pub matchers: u32,
-    pub matchers_end: u32,
+    pub matchers: usize,
+    pub matchers_end: usize,
     pub created_by: Offset,
     pub comment: Offset,
     pub bucket: Offset,
@@ -30,7 +30,7 @@ pub struct Offsets {
 ///
 /// # Errors
 ///
-/// [`AllocError`] where memory runs out, or 2^32 bytes or more stand before a part. Some of the text may be left.
+/// [`AllocError`] where memory runs out. Some of the text may be left.
 #[tactic(auto, unfolding(crate::specs::Silences::writes_silence))]
 pub fn write_silence<M: HasMatchers>(
     out: &mut Vec<u8>,
@@ -60,36 +60,29 @@ pub fn write_silence<M: HasMatchers>(
 fn write_matchers(
     out: &mut Vec<u8>,
     matchers: &MatcherIter<'_>,
-) -> Result<(u32, u32, Offset), AllocError>
+) -> Result<(usize, usize, Offset), AllocError>
     ensures written { OnOk result (out.new.items ≡ out.old.items ++ writes_matchers matchers.now) }
     ensures values { OnOk result (All IsMatcher matchers.now) }
     ensures between { IfOk result (λ places. StandsBetween places.0 places.1 (writes_matchers matchers.now) out.new.items) }
     ensures bucket { IfOk result (λ places. StandsAt (bucket_of matchers.now) places.2 out.new.items) }
 {
-    let start = place_behind(out)?;
+    let start = out.len();
     out.extend_from_slice(matchers.as_text())?;
-    let end = place_behind(out)?;
-    let bucket = bucket_place(start, matchers)?;
+    let end = out.len();
+    let bucket = bucket_place(start, matchers);
     Ok((start, end, bucket))
 }
 
 // Where the bucket of matchers stands, whose text begins at a place.
-pub(crate) fn bucket_place(start: u32, matchers: &MatcherIter<'_>) -> Result<Offset, AllocError>
-    ensures { IfOk result (λ place. (front : List ℕ) → length front ≡ start →
-        StandsAt (bucket_of matchers.now) place (front ++ writes_matchers matchers.now)) }
+pub(crate) fn bucket_place(start: usize, matchers: &MatcherIter<'_>) -> Offset
+    requires { start + length (writes_matchers matchers.now) < 2 ^ 64 }
+    ensures { (front : List ℕ) → length front ≡ start →
+        StandsAt (bucket_of matchers.now) result (front ++ writes_matchers matchers.now) }
 {
-    let Some(offset) = bucket_offset(matchers.lent()) else {
-        return Ok(Offset { start: 0 });
-    };
-    match u32::try_from(offset.saturating_add(start as usize)) {
-        Ok(start) => Ok(Offset { start }),
-        Err(_) => Err(AllocError),
+    match bucket_offset(matchers.lent()) {
+        Some(offset) => Offset {
+            start: start + offset,
+        },
+        None => Offset { start: 0 },
     }
-}
-
-// The end of a text as a place in it.
-fn place_behind(text: &Vec<u8>) -> Result<u32, AllocError>
-    ensures { IfOk result (λ place. place ≡ length text.now.items) }
-{
-    u32::try_from(text.len()).ok().ok_or(AllocError)
 }

@@ -90,8 +90,23 @@ short_tag n low =
     let one : ltb (n * 8 + 2) 128 ≡ true = lt-ltb _ _ (omega (arith, low)) in
     rw one refl
 
--- bytes that are written as a field stand behind its tag
-pub stands_written : (before part text : List ℕ) (n : ℕ) (offset : Offset) → n < 16 → length text < 2 ^ 64 → text ≡ before ++ writes_text n part
+-- bytes that are written as a field are short where the text is
+pub part_short : (before part text : List ℕ) (n : ℕ) → length text < 2 ^ 64 → text ≡ before ++ writes_text n part → length part < 2 ^ 64
+part_short before part text n small is =
+    elim (eqb (length part) 0) as (λ b. eqb (length part) 0 ≡ b → text ≡ before ++ cond b [] (writes_delimited n part) → length part < 2 ^ 64) [
+      | true ↦ λ e text_is. omega (arith, eqb-true (length part) 0 e)
+      | false ↦ λ e text_is. omega (
+        arith,
+        small,
+        ap length text_is,
+        length-append before (writes_delimited n part),
+        length-append (tag n 2) (shortest (length part) ++ part),
+        length-append (shortest (length part)) part,
+      )
+    ] refl is
+
+-- and they stand behind its tag
+pub stands_written : (before part text : List ℕ) (n : ℕ) (offset : Offset) → n < 16 → length part < 2 ^ 64 → text ≡ before ++ writes_text n part
     → offset.start ≡ cond (eqb (length part) 0) 0 (length before + 1) → StandsAt part offset text
 stands_written before part text n offset low small is start =
     elim (eqb (length part) 0) as (λ b. eqb (length part) 0 ≡ b → text ≡ before ++ cond b [] (writes_delimited n part)
@@ -109,7 +124,7 @@ stands_written before part text n offset low small is start =
             record {
               rest = [];
               within = omega (arith, at, one, long);
-              short = omega (arith, long, small);
+              short = small;
               is = rw (at, ← one, whole) (drop-append_seam front behind) ∙ ap (λ (l : List ℕ). shortest (length part) ++ l) (sym (append-nil part));
             },
           )

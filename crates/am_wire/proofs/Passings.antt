@@ -45,7 +45,7 @@ whole n size part old mid new front inner counts =
     }
 
 -- where a part that was passed stands
-pub stands : (n : ℕ) (part : List ℕ) (offset : Offset) (old new : Passing) → n < 16 → length new.passed < 2 ^ 64
+pub stands : (n : ℕ) (part : List ℕ) (offset : Offset) (old new : Passing) → n < 16 → length part < 2 ^ 64
     → Passes (writes_text n part) old new → offset.start ≡ cond (eqb (length part) 0) 0 (length old.passed + 1) → StandsAt part offset new.passed
 stands n part offset old new low small h at = stands_written old.passed part new.passed n offset low small h.passed at
 

@@ -1,6 +1,6 @@
 //! Canonical texts, read from the front: what is passed is what a writer of the same values writes.
 
-ghost use Rattle.std.specs.Prelude.{◌≡◌, ◌<◌, ◌≤◌, ◌-◌, ◌%◌, ◌∷◌, ◌++◌, [], true, false, take, drop, length, IfSome};
+ghost use Rattle.std.specs.Prelude.{◌≡◌, ◌<◌, ◌≤◌, ◌-◌, ◌^◌, ◌%◌, ◌∷◌, ◌++◌, [], true, false, take, drop, length, IfSome};
 ghost use Rattle.std.specs.Str.{IsUtf8};
 ghost use Rattle.am_version_order.specs.Moments.{greatest};
 ghost use Rattle.am_wire.specs.Offsets.{StandsAt};
@@ -48,6 +48,7 @@ impl<'a> CanonicalReader<'a> {
     pub fn at(&self) -> usize
         ensures at { result ≡ length self.now.passed }
         ensures within { result ≤ length self.now.text }
+        ensures most { result ≤ 2 ^ 63 }
     {
         self.at
     }
@@ -178,8 +179,7 @@ impl<'a> CanonicalReader<'a> {
         self.text.get(self.at) == Some(&((number * 8 + 2) as u8))
     }
 
-    /// Passes bytes as [`CanonicalReader::part`] does, and says where they stand; none also where they end behind 2^32
-    /// bytes or more.
+    /// Passes bytes as [`CanonicalReader::part`] does, and says where they stand.
     pub fn placed_part(&mut self, number: u32) -> Option<(&'a [u8], Offset)>
         requires { number < 16 }
         ensures passed { IfSome result (λ it. Passes (writes_text number it.0.now) self.old self.new) }
@@ -187,17 +187,11 @@ impl<'a> CanonicalReader<'a> {
     {
         let begun = self.at();
         let part = self.part(number)?;
-        if self.at() > u32::MAX as usize {
-            return None;
-        }
-        let Ok(place) = Offset::behind_tag(begun, part.is_empty()) else {
-            return None;
-        };
+        let place = Offset::behind_tag(begun, part.is_empty());
         Some((part, place))
     }
 
-    /// Passes numbers that are packed in one field, which is left out where there are none, and says where they stand; none
-    /// also where they end behind 2^32 bytes or more.
+    /// Passes numbers that are packed in one field, which is left out where there are none, and says where they stand.
     pub fn numbers(&mut self, number: u32) -> Option<Offset>
         requires { number < 16 }
         ensures { IfSome result (λ place. PassesNumbers number place self.old self.new) }
@@ -218,8 +212,7 @@ impl<'a> CanonicalReader<'a> {
         text_of(self.part(number)?).ok()
     }
 
-    /// Passes a text as [`CanonicalReader::text`] does, and says where it stands; none also where it ends behind 2^32 bytes
-    /// or more.
+    /// Passes a text as [`CanonicalReader::text`] does, and says where it stands.
     pub fn placed_text(&mut self, number: u32) -> Option<(&'a str, Offset)>
         requires { number < 16 }
         ensures passed { IfSome result (λ it. Passes (writes_text number it.0.now) self.old self.new) }

@@ -1,6 +1,6 @@
 //! Parts of a text that are kept as the offset of their length in it: protobuf's length-delimited fields.
 
-ghost use Rattle.std.specs.Prelude.{◌≡◌, ℕ, ◌+◌, ◌<◌, ◌^◌, ◌++◌, List, All, OnOk, IfOk, if◌then◌else◌};
+ghost use Rattle.std.specs.Prelude.{◌≡◌, ℕ, ◌+◌, ◌<◌, ◌≤◌, ◌^◌, ◌++◌, List, All, OnOk, IfOk, if◌then◌else◌};
 ghost use Rattle.std.specs.List.{flat_map};
 ghost use Rattle.std.specs.Str.{IsUtf8};
 ghost use Rattle.am_wire.specs.Offsets.{Follows, StandsAt};
@@ -11,27 +11,25 @@ use crate::lists::{write_bytes, write_numbers};
 use crate::varint::read_varint;
 use std::alloc::AllocError;
 
-/// Where a part of a text stands behind its length: how many bytes, fewer than 2^32, come before that length.
+/// Where a part of a text stands behind its length: how many bytes come before that length.
 ///
 /// 0 is the offset of an empty part.
 #[derive(Clone, Copy)]
 pub struct Offset {
-    pub start: u32,
+    pub start: usize,
 }
 
 impl Offset {
     // The offset of the bytes in a field that is left out where there are none, and whose tag, of one byte, stands
     // behind so many bytes.
-    pub(crate) fn behind_tag(count: usize, is_empty: bool) -> Result<Offset, AllocError>
-        ensures { IfOk result (λ offset. offset.start ≡ (if is_empty then 0 else count + 1)) }
+    pub(crate) fn behind_tag(count: usize, is_empty: bool) -> Offset
+        requires { count ≤ 2 ^ 63 }
+        ensures { result.start ≡ (if is_empty then 0 else count + 1) }
     {
         if is_empty {
-            return Ok(Offset { start: 0 });
+            return Offset { start: 0 };
         }
-        match u32::try_from(count) {
-            Ok(count) if count < u32::MAX => Ok(Offset { start: count + 1 }),
-            _ => Err(AllocError),
-        }
+        Offset { start: count + 1 }
     }
 
     /// The part that stands here.
@@ -42,7 +40,7 @@ impl Offset {
         if self.start == 0 {
             return &[];
         }
-        split_part(&text[self.start as usize..]).0
+        split_part(&text[self.start..]).0
     }
 
     /// The same of a part in UTF-8.
@@ -71,14 +69,13 @@ pub fn split_part(bytes: &[u8]) -> (&[u8], &[u8])
 ///
 /// # Errors
 ///
-/// [`AllocError`] where memory runs out, or 2^32 bytes or more come before their length. A part of the field may be
-/// left.
+/// [`AllocError`] where memory runs out. A part of the field may be left.
 pub fn write_part(out: &mut Vec<u8>, number: u32, bytes: &[u8]) -> Result<Offset, AllocError>
     requires { number < 16 }
     ensures written { OnOk result (out.new.items ≡ out.old.items ++ writes_text number bytes.now) }
     ensures offset { IfOk result (λ offset. StandsAt bytes.now offset out.new.items) }
 {
-    let offset = Offset::behind_tag(out.len(), bytes.is_empty())?;
+    let offset = Offset::behind_tag(out.len(), bytes.is_empty());
     write_bytes(out, number, bytes)?;
     Ok(offset)
 }
@@ -98,7 +95,7 @@ pub fn write_packed_part(
     ensures range { OnOk result (All (λ n. n < 2 ^ 64) numbers.now) }
     ensures offset { IfOk result (λ offset. StandsAt (flat_map shortest numbers.now) offset out.new.items) }
 {
-    let offset = Offset::behind_tag(out.len(), numbers.is_empty())?;
+    let offset = Offset::behind_tag(out.len(), numbers.is_empty());
     write_numbers(out, number, numbers)?;
     Ok(offset)
 }

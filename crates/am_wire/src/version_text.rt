@@ -27,7 +27,7 @@ pub trait VersionText: Sized + Drop {
 
 /// A version that is read of its canonical text.
 pub trait ReadText<'a>: VersionText {
-    /// The version of a text, where that is canonical; none where it isn't, or has a part behind 2^32 bytes or more.
+    /// The version of a text, where that is canonical; none where it isn't.
     fn read(text: &'a [u8]) -> Option<Self>
         ensures spelled { IfSome result (λ found. (at : ℕ) → Self.Owned.reads at text.now ≡ Ok (Self.version found)) }
         ensures canonical { IfSome result (λ found. (Self.Owned.seen (Self.version found)).content ≡ text.now) };
