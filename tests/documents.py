@@ -46,7 +46,7 @@ BUDGETS = {
     "docs/MAP.md": 1_300,
     "docs/CHANGING.md": 1_000,
     "docs/CASES.md": 800,
-    "docs/LIBRARY.md": 150,
+    "docs/LIBRARY.md": 1_000,
     "docs/library/am_merge.md": 400,
     "docs/library/am_snapshot.md": 400,
     "docs/library/am_instance.md": 400,
@@ -55,7 +55,7 @@ BUDGETS = {
     "bench/README.md": 250,
     "bench/RESULTS.md": 1_500,
 }
-WHOLE_BUDGET = 20_000
+WHOLE_BUDGET = 21_500
 
 # Words that carry every sense, and so none.
 CARRIERS = ["what", "where", "stands?", "(?:is|are) told", "tells?", "comes?", "goes?"]

@@ -9,7 +9,7 @@ ghost use Rattle.am_matcher.specs.Uses.{PatternsPass, TextsPass};
 use crate::cache::PatternCache;
 use crate::compiled::{BuildError, as_wanted};
 use crate::labels::{Label, value_of};
-use am_silence::{MatcherIter, MatcherRef, Matchers, Verdict};
+use am_silence::{Matcher, MatcherIter, MatcherRef, Matchers, Verdict};
 use std::alloc::{AllocError, Global};
 
 /// Whether the value of a matcher's label matches. Its pattern may be kept if `keeps` says so.
@@ -60,6 +60,22 @@ pub fn judge_all(
     Ok(all)
 }
 
+// Whether each of the matchers matches the empty text. All patterns are judged.
+fn judge_each(alloc: Global, matchers: &[Matcher]) -> Result<bool, BuildError>
+    ensures answer { IfOk result (λ yes. yes ≡ match_all matchers.now []) }
+    ensures sound { OnOk result (All IsSoundMatcher matchers.now) }
+    ensures broken { IsErrOf result BuildError.BadPattern → Any IsBrokenMatcher matchers.now }
+    ensures failed { OnErr result (has_regexp matchers.now ≡ true) }
+{
+    let mut patterns = PatternCache::new(alloc);
+    let mut all = true;
+    for matcher in matchers {
+        let matches = judge(&mut patterns, &matcher.borrowed(), &[], false)?;
+        all &= matches;
+    }
+    Ok(all)
+}
+
 impl PatternCache {
     /// As [`verdict`], by the patterns that are kept. It keeps none, since no silence has those that are posted yet.
     ///
@@ -87,9 +103,14 @@ impl PatternCache {
 /// # Errors
 ///
 /// [`AllocError`] where memory runs out. Without a regular expression no memory is needed.
-pub fn verdict(alloc: Global, matchers: &Matchers) -> Result<Verdict, AllocError>
+pub fn verdict(alloc: Global, matchers: &[Matcher]) -> Result<Verdict, AllocError>
     ensures verdict { IfOk result (IsVerdict matchers.now) }
     ensures memory { OnErr result (has_regexp matchers.now ≡ true) }
 {
-    PatternCache::new(alloc).verdict(matchers)
+    match judge_each(alloc, matchers) {
+        Ok(true) => Ok(Verdict::AllEmpty),
+        Ok(false) => Ok(Verdict::Fine),
+        Err(BuildError::BadPattern) => Ok(Verdict::Bad),
+        Err(BuildError::Memory) => Err(AllocError),
+    }
 }

@@ -93,7 +93,7 @@ fn done_with<V: Version + Message>(
         return Ok(take_row::<V, _>(alloc, reader)?.len() as u64);
     }
     if verb == "fold" {
-        return fold::<V, _, _>(alloc, reader, writer, now);
+        return Ok(fold::<V, _, _>(alloc, reader, writer, now)?);
     }
     let held: Held<V> = load(alloc, reader)?;
     match verb {
