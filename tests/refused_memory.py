@@ -156,8 +156,8 @@ class Lanes:
 # each kind of case many times.
 MOST_OF_A_FILE = 1_500
 
-# Files of whose requests each is refused: steps of an instance, requests of people and tools, and frames.
-IN_FULL = {"api", "frames", "instance"}
+# Longer files of whose requests each is refused all the same: steps of an instance, and requests of people and tools.
+IN_FULL = {"api", "instance"}
 
 # What memory.c says of a try: its request and the bytes that were printed before it, what is printed then, the status.
 TRY = re.compile(rb"\x01 (\d+) (\d+)\n(.*?)\x02 (\d+)\n", re.DOTALL)

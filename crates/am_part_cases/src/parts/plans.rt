@@ -3,7 +3,9 @@
 use crate::common::{Case, Printed, Spelled, behind, cut, first};
 use crate::parts::seals;
 use am_nflog::{Bytes, Hashes, make_entry};
-use am_silence::{MeshSilence, Plan, Posted, SilenceError, Verdict, plan_expire, plan_post};
+use am_silence::{
+    MeshSilence, Plan, Posted, Silence, SilenceError, Verdict, plan_expire, plan_post,
+};
 use am_wire::{Message, WireError};
 
 /// Cases of plans and of made entries. What is planned keeps silences for 100 s after their end.
@@ -26,18 +28,23 @@ fn held(case: &Case, words: &str) -> Option<MeshSilence> {
 
 /// What is posted: a silence in words, whose matchers are sound; its identifier is `-` where none is posted.
 fn posted(case: &Case, words: &str) -> Posted {
-    let silence = case.silence(words);
+    let Silence {
+        id,
+        matchers,
+        starts_at,
+        ends_at,
+        updated_at: _,
+        created_by,
+        comment,
+    } = case.silence(words);
+    let id = (first(words).0 != "-").then_some(id);
     Posted {
-        id: if first(words).0 == "-" {
-            None
-        } else {
-            Some(silence.id)
-        },
-        matchers: silence.matchers,
-        starts_at: silence.starts_at,
-        ends_at: silence.ends_at,
-        created_by: silence.created_by,
-        comment: silence.comment,
+        id,
+        matchers,
+        starts_at,
+        ends_at,
+        created_by,
+        comment,
     }
 }
 
@@ -45,17 +52,14 @@ fn posted(case: &Case, words: &str) -> Posted {
 fn post(case: &Case, rest: &str) {
     let (how, words) = cut(rest, ": ");
     let (words, version) = cut(words, " over ");
-    let (now, id_held) = (
-        case.moment(cut(behind(how, "at ", "-"), ",").0),
-        how.ends_with("held"),
-    );
+    let now = case.moment(cut(behind(how, "at ", "-"), ",").0);
+    let id_held = how.ends_with("held");
     let held = held(case, version);
     given!(retention = case.seconds("100"));
-    let posted = posted(case, words);
     let plan = plan_post(
         case.alloc,
         held.as_ref(),
-        posted,
+        posted(case, words),
         Verdict::Fine,
         now,
         0,
@@ -63,13 +67,14 @@ fn post(case: &Case, rest: &str) {
         retention,
     );
     given!(plan = planned(case, plan));
+    say_plan(case, &plan);
+}
+
+fn say_plan(case: &Case, plan: &Plan) {
     match plan {
         Plan::Update(version) => say!(case; "update ", @version),
         Plan::Create(version) => say!(case; "create ", @version),
-        Plan::Replace { new, old } => {
-            say!(case; "new ", @new);
-            say!(case; "old ", @old);
-        }
+        Plan::Replace { new, old } => say!(case; "new ", @new, "\nold ", @old),
     }
 }
 
