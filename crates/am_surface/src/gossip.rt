@@ -30,7 +30,7 @@ fn encodes(alloc: Global) -> Option<()> {
     holds(encoded.ok()?.len() == 42 && parts_in(&frame) == 1)
 }
 
-/// How many parts a frame has.
+/// Counts the parts of a frame.
 fn parts_in(frame: &Frame) -> usize {
     match frame {
         Frame::Delta(part) => match part.key {

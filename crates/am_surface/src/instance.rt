@@ -68,14 +68,14 @@ fn steps(alloc: Global) -> Option<()> {
     holds(count_in(&reply) == 1 && frames.is_empty() && unsent == (0, 0) && count_of(&made) == 0)
 }
 
-/// How many versions an event made.
+/// Counts the versions that an event made.
 fn count_of(made: &Made) -> usize {
     let silences: &Vec<MeshSilence> = &made.silences;
     let log: &Option<MeshEntry> = &made.log;
     if log.is_some() { 1 } else { silences.len() }
 }
 
-/// How many silences a reply has.
+/// Counts the silences of a reply.
 fn count_in(reply: &Reply) -> usize {
     match reply {
         Reply::Silences(rows) => count(rows),

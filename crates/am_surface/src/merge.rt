@@ -45,7 +45,7 @@ fn merges(alloc: Global) -> Option<()> {
     holds(count_in(changed) == 1)
 }
 
-/// How many versions were taken, or how many keys have another one.
+/// Counts the versions that were taken, or the keys that have another one.
 fn count_in(merged: Result<usize, MergeError>) -> usize {
     match merged {
         Ok(changed) => changed,

@@ -62,7 +62,7 @@ fn posts(alloc: Global) -> Option<()> {
     holds(made_by(&plan.ok()?) == 1)
 }
 
-/// How many versions a plan makes.
+/// Counts the versions that a plan makes.
 fn made_by(plan: &Plan) -> usize {
     match plan {
         Plan::Update(_) | Plan::Create(_) => 1,

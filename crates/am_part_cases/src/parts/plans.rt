@@ -1,4 +1,4 @@
-//! What a post of a silence and its end make, and the entry that a notification leaves.
+//! Plans of a post and of an end, and the entry that a notification leaves.
 
 use crate::common::{Case, Printed, Spelled, behind, cut, first};
 use crate::parts::seals;
@@ -26,7 +26,7 @@ fn held(case: &Case, words: &str) -> Option<MeshSilence> {
     }
 }
 
-/// What is posted: a silence in words, whose matchers are sound; its identifier is `-` where none is posted.
+/// Reads a post: a silence in words, whose matchers are sound; its identifier is `-` if none is posted.
 fn posted(case: &Case, words: &str) -> Posted {
     let Silence {
         id,
@@ -88,7 +88,7 @@ fn end(case: &Case, rest: &str) {
     say!(case; @ended);
 }
 
-/// What is planned; else says why it is refused.
+/// Returns the plan, or says why it is refused.
 fn planned<T: Drop>(case: &Case, plan: Result<T, SilenceError>) -> Option<T> {
     if let Err(SilenceError::Newer { held }) = plan {
         say!(case; "Newer ", @held);
