@@ -3,7 +3,7 @@
 /// The fields of the head that are about the page: its type, and what a browser is to let it do.
 pub const FIELDS: &str = "\
 content-type: text/html; charset=utf-8\r\n\
-content-security-policy: default-src 'none'; script-src 'sha256-zisAprPXxK6ZMMfVvI/r7EhS8N2O1bNEjzB55Adgfnw='; style-src 'sha256-RYxy6DFIbxLKQmnuijWAlB1YBZ3q8NWw+y4wrqfrKtc='; connect-src 'self'; img-src data:; base-uri 'none'; form-action 'none'; frame-ancestors 'none'; require-trusted-types-for 'script'; trusted-types 'none'\r\n\
+content-security-policy: default-src 'none'; script-src 'sha256-dvzl8qcC5mEOtHd1DpnOGvmODS6gEKeKWrjNUjYppTo='; style-src 'sha256-JJmNQnHSWA+BV3cxsapJZlhQy8wXh03Ivmxh4eKvpnU='; connect-src 'self'; img-src data:; base-uri 'none'; form-action 'none'; frame-ancestors 'none'; require-trusted-types-for 'script'; trusted-types 'none'\r\n\
 x-content-type-options: nosniff\r\n\
 referrer-policy: no-referrer\r\n\
 cache-control: no-cache\r\n\
@@ -51,6 +51,7 @@ small { display: block; }\n\
 #filter-hint { display: inline; }\n\
 input, select, textarea, button, .button { width: 100%; min-height: 2.25rem; padding: .25rem .75rem; border: 1px solid var(--edge); border-radius: .4rem; background: var(--ground); color: inherit; font: inherit; font-weight: 400; }\n\
 textarea { display: block; field-sizing: content; resize: vertical; }\n\
+#comment, #labels { min-height: 5.5rem; }\n\
 [aria-invalid=true] { border: 2px solid var(--bad); }\n\
 button, .button { display: inline-flex; align-items: center; justify-content: center; width: auto; background: var(--sheet); text-decoration: none; cursor: pointer; }\n\
 button:disabled, .off { color: var(--dim); cursor: default; }\n\
@@ -66,6 +67,7 @@ button:disabled, .off { color: var(--dim); cursor: default; }\n\
 #member { flex: 1 1 auto; }\n\
 #around { display: flex; flex-wrap: wrap; gap: 0 1.25rem; }\n\
 #around ul { display: contents; }\n\
+#around li { min-width: 10rem; }\n\
 #told { min-height: 1.75rem; padding: .1rem 0; }\n\
 #list-head { flex: 1 1 auto; }\n\
 #states { margin: 0; }\n\
@@ -75,7 +77,7 @@ button:disabled, .off { color: var(--dim); cursor: default; }\n\
 .rows > li { display: grid; gap: 0 1rem; padding: .4rem 0; border-top: 1px solid var(--rule); }\n\
 .rows p { overflow: clip; }\n\
 .rows .acts { display: flex; gap: .5rem; overflow: visible; }\n\
-.rows .said a { display: inline-block; min-height: 1.5rem; outline-offset: -3px; }\n\
+.rows .said a { padding: .15rem 0; outline-offset: -3px; }\n\
 .acts button, .acts .button { min-height: 1.75rem; padding: 0 .5rem; }\n\
 #facts { display: grid; grid-template-columns: max-content 1fr; gap: .25rem 1rem; margin: .75rem 0; }\n\
 #facts dt { color: var(--dim); }\n\
@@ -166,9 +168,9 @@ dialog::backdrop { background: rgb(0 0 0 / .55); }\n\
 \x20\x20\x20\x20<dl id=\"facts\"></dl>\n\
 \x20\x20\x20\x20<p class=\"line\">\n\
 \x20\x20\x20\x20\x20\x20<button id=\"extend\" type=\"button\">Extend …</button>\n\
-\x20\x20\x20\x20\x20\x20<a id=\"change\" class=\"button\">Edit</a>\n\
+\x20\x20\x20\x20\x20\x20<a id=\"edit-it\" class=\"button\">Edit</a>\n\
 \x20\x20\x20\x20\x20\x20<button id=\"expire\" class=\"end\" type=\"button\">Expire …</button>\n\
-\x20\x20\x20\x20\x20\x20<a id=\"again\" class=\"button main\">Recreate</a>\n\
+\x20\x20\x20\x20\x20\x20<a id=\"recreate\" class=\"button main\">Recreate</a>\n\
 \x20\x20\x20\x20</p>\n\
 \x20\x20\x20\x20<p><a id=\"back\" href=\"#/silences\">All silences</a></p>\n\
 \x20\x20</section>\n\
@@ -388,7 +390,7 @@ const short = (text) => (text.length > MOST_TEXT ? `${text.slice(0, MOST_TEXT).r
 // A text in which links of the web are followed.\n\
 const linked = (text) => text\n\
 \x20\x20.split(/(\\bhttps?:\\/\\/[^\\s<>\"]*[^\\s<>\"'.,;:!?()[\\]{}])/i)\n\
-\x20\x20.map((part, place) => (place % 2 ? make(\"a\", { href: part, rel: \"noreferrer\" }, part) : written(part)));\n\
+\x20\x20.map((part, place) => (place % 2 ? make(\"a\", { href: part, rel: \"noreferrer\" }, written(part)) : written(part)));\n\
 \n\
 const orNone = (text, words, ...parts) => (text.trim() ? parts : [make(\"span\", { class: \"dim\" }, words)]);\n\
 const creatorOf = (text) => orNone(text, \"no creator\", written(text));\n\
@@ -500,6 +502,7 @@ const isFilled = (form) => {\n\
 \n\
 // Does what a person asked for; while it runs its button can't be pressed again. A fault that is about a field stands below it.\n\
 const act = async (button, doing, fieldOf = () => null) => {\n\
+\x20\x20const hasFocus = document.activeElement === button;\n\
 \x20\x20button.disabled = true;\n\
 \x20\x20say(\"\");\n\
 \x20\x20hush();\n\
@@ -512,7 +515,7 @@ const act = async (button, doing, fieldOf = () => null) => {\n\
 \x20\x20\x20\x20(field ?? at(\"fault\")).focus();\n\
 \x20\x20} finally {\n\
 \x20\x20\x20\x20button.disabled = false;\n\
-\x20\x20\x20\x20if (document.activeElement === document.body) (drawnAgain(button) ?? at(`${route.view}-head`)).focus({ preventScroll: true });\n\
+\x20\x20\x20\x20if (hasFocus && document.activeElement === document.body) (drawnAgain(button) ?? at(`${route.view}-head`)).focus({ preventScroll: true });\n\
 \x20\x20}\n\
 };\n\
 \n\
@@ -571,7 +574,7 @@ const lookAtMember = async () => {\n\
 \x20\x20\x20\x20ask(\"api/v2/status\").catch(() => null),\n\
 \x20\x20\x20\x20askText(\"metrics\").catch(() => \"\"),\n\
 \x20\x20]);\n\
-\x20\x20drawReadiness(ready, status?.cluster?.name);\n\
+\x20\x20drawReadiness(status && ready, status?.cluster?.name);\n\
 \x20\x20if (!status) return;\n\
 \x20\x20const heard = heardOf(metrics), peers = (status.cluster.peers ?? []).filter(({ name }) => name !== status.cluster.name);\n\
 \x20\x20at(\"peers\").replaceChildren(...peers.map(({ name }) => neighbour(name, heardWords(heard.get(name)), heard.get(name) === 0 ? \"late\" : \"dim\")));\n\
@@ -603,7 +606,7 @@ const agreed = async (shown, go, another = \"\") => {\n\
 \x20\x20if (!ended && changes.length === 0) return now;\n\
 \x20\x20const since = spanWords(Date.now() - Date.parse(ended ? now.endsAt : now.updatedAt));\n\
 \x20\x20const what = ended\n\
-\x20\x20\x20\x20? [`It ended ${since} ago. To go on creates another silence, with another ID. Creator: `, ...creatorOf(now.createdBy)]\n\
+\x20\x20\x20\x20? [`It ended ${since} ago. If you go on, another silence is created, with another ID. Creator: `, ...creatorOf(now.createdBy)]\n\
 \x20\x20\x20\x20: [`It was updated ${since} ago. What you didn't change stays as it is now. Creator: `, ...creatorOf(now.createdBy)];\n\
 \x20\x20const goes = await asks({ head: ended ? \"This silence has ended meanwhile\" : \"This silence was changed meanwhile\", what, changes, go: ended ? another : go });\n\
 \x20\x20return goes ? now : null;\n\
@@ -640,7 +643,7 @@ const expire = async (silence, button) => {\n\
 const settled = async (id, words) => {\n\
 \x20\x20if (route.view === \"list\" || (route.view === \"one\" && route.id === id)) await look(true);\n\
 \x20\x20else {\n\
-\x20\x20\x20\x20history.replaceState(null, \"\", linkOf(id));\n\
+\x20\x20\x20\x20history[route.view === \"edit\" ? \"replaceState\" : \"pushState\"](null, \"\", linkOf(id));\n\
 \x20\x20\x20\x20await shown();\n\
 \x20\x20}\n\
 \x20\x20if (route.view === \"one\") at(\"one-head\").focus();\n\
@@ -883,16 +886,16 @@ const drawOne = (silence, forced) => {\n\
 \x20\x20\x20\x20[\"ID\", make(\"a\", { href: linkOf(id) }, id)],\n\
 \x20\x20];\n\
 \x20\x20at(\"facts\").replaceChildren(...facts.flatMap(([name, ...what]) => [make(\"dt\", {}, name), make(\"dd\", {}, ...what)]));\n\
-\x20\x20for (const button of [\"extend\", \"change\", \"expire\"]) at(button).hidden = ended;\n\
-\x20\x20at(\"again\").hidden = !ended;\n\
-\x20\x20at(\"change\").href = at(\"again\").href = editLinkOf(id);\n\
+\x20\x20for (const button of [\"extend\", \"edit-it\", \"expire\"]) at(button).hidden = ended;\n\
+\x20\x20at(\"recreate\").hidden = !ended;\n\
+\x20\x20at(\"edit-it\").href = at(\"recreate\").href = editLinkOf(id);\n\
 };\n\
 \n\
 const openOne = () => {\n\
 \x20\x20Object.assign(one, { silence: null, drawn: \"\" });\n\
 \x20\x20at(\"facts\").replaceChildren();\n\
 \x20\x20at(\"one-head\").textContent = \"Silence\";\n\
-\x20\x20for (const id of [\"extend\", \"change\", \"expire\", \"again\"]) at(id).hidden = true;\n\
+\x20\x20for (const id of [\"extend\", \"edit-it\", \"expire\", \"recreate\"]) at(id).hidden = true;\n\
 \x20\x20at(\"back\").href = listLink();\n\
 };\n\
 \n\
@@ -909,6 +912,7 @@ const put = (field, text, shown = text) => {\n\
 };\n\
 const isKept = (field) => field.value === begun.get(field)[0];\n\
 const textOf = (field) => (isKept(field) ? begun.get(field)[1] : field.value);\n\
+const nameOf = (field) => (isKept(field) ? textOf(field) : field.value.trim());\n\
 const stateOf = (field) => [...begun.get(field).slice(1), field.value];\n\
 const restore = (field, [text, shown, value]) => {\n\
 \x20\x20put(field, text, shown);\n\
@@ -991,8 +995,8 @@ const paste = (event, row) => {\n\
 };\n\
 \n\
 const matchersOfForm = () => [...at(\"matchers\").children].map((row) => {\n\
-\x20\x20const [name, operator, value] = fieldsOf(row).map(textOf);\n\
-\x20\x20return { name, value, isRegex: operator.endsWith(\"~\"), isEqual: !operator.startsWith(\"!\") };\n\
+\x20\x20const [label, { value: operator }, field] = fieldsOf(row);\n\
+\x20\x20return { name: nameOf(label), value: textOf(field), isRegex: operator.endsWith(\"~\"), isEqual: !operator.startsWith(\"!\") };\n\
 });\n\
 \n\
 // What the form begins with: a silence that is updated or created again, or the matchers of a new one.\n\
@@ -1090,9 +1094,9 @@ const momentsOfForm = () => {\n\
 };\n\
 \n\
 const silenceOfForm = () => ({\n\
-\x20\x20matchers: matchersOfForm().map((matcher) => ({ ...matcher, name: matcher.name.trim() })),\n\
+\x20\x20matchers: matchersOfForm(),\n\
 \x20\x20...momentsOfForm(),\n\
-\x20\x20createdBy: textOf(at(\"author\")),\n\
+\x20\x20createdBy: nameOf(at(\"author\")),\n\
 \x20\x20comment: textOf(at(\"comment\")),\n\
 });\n\
 \n\
@@ -1136,15 +1140,15 @@ const updated = async (former, mine) => {\n\
 };\n\
 \n\
 const openForm = async (query) => {\n\
-\x20\x20const here = route, begun = draft();\n\
+\x20\x20const here = route, saved = draft();\n\
 \x20\x20at(\"form\").hidden = true;\n\
 \x20\x20at(\"edit-head\").textContent = \"Silence\";\n\
 \x20\x20const matchers = filtersOf(query.get(\"filter\") ?? \"\").map(matcherOf);\n\
-\x20\x20const state = begun ?? beginning(route.id ? await ask(pathOf(route.id)) : null, matchers);\n\
+\x20\x20const state = saved ?? beginning(route.id ? await ask(pathOf(route.id)) : null, matchers);\n\
 \x20\x20if (here !== route) return;\n\
 \x20\x20at(\"form\").hidden = false;\n\
 \x20\x20fillForm(state);\n\
-\x20\x20if (begun) say(\"This is what you had begun; Cancel drops it\");\n\
+\x20\x20if (saved) say(\"This is what you had begun; Cancel drops it\");\n\
 };\n\
 \n\
 // ---- what is shown\n\
@@ -1191,17 +1195,19 @@ const shown = async () => {\n\
 \x20\x20document.title = \"Silences\";\n\
 \x20\x20mouse.later = null;\n\
 \x20\x20const opens = { list: openList, alert: openAlert, one: openOne, edit: openForm }[route.view];\n\
+\x20\x20const here = route;\n\
 \x20\x20await Promise.resolve(opens(route.query)).catch(tell);\n\
 \x20\x20scrollTo(0, scroll);\n\
+\x20\x20const isShort = scrollY < scroll;\n\
 \x20\x20await look(true);\n\
-\x20\x20if (scrollY < scroll) scrollTo(0, scroll);\n\
+\x20\x20if (isShort && here === route) scrollTo(0, scroll);\n\
 };\n\
 \n\
 // Where somebody comes back to the list, the row that they came from has the focus.\n\
 const moved = async () => {\n\
-\x20\x20const from = route, shows = shown();\n\
+\x20\x20const from = route, { page } = list, shows = shown();\n\
 \x20\x20const row = route.view === \"list\" && history.state && drawnAgain({ dataset: { key: from.id } });\n\
-\x20\x20if (from.view !== route.view || from.id !== route.id || from.page !== list.page) (row || at(`${route.view}-head`)).focus({ preventScroll: true });\n\
+\x20\x20if (from.view !== route.view || from.id !== route.id || page !== list.page) (row || at(`${route.view}-head`)).focus({ preventScroll: true });\n\
 \x20\x20await shows;\n\
 };\n\
 \n\
@@ -1209,6 +1215,7 @@ const moved = async () => {\n\
 const mouse = { over: null, moved: 0, place: \"\", later: null };\n\
 const pointsAt = (id) => at(id).contains(mouse.over) && performance.now() - mouse.moved < RESTING;\n\
 const waits = (id, later) => {\n\
+\x20\x20if (at(\"asking\").open) return true;\n\
 \x20\x20if (!pointsAt(id)) return false;\n\
 \x20\x20Object.assign(mouse, { place: id, later });\n\
 \x20\x20return true;\n\
