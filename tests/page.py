@@ -399,7 +399,7 @@ def filters(page):
     finds(page, "one more", ['job="web"'])
     check("the fault is gone", page.wait("document.querySelector('#filter-fault').textContent === ''"))
     check("its address has the filter", page.wait("location.hash === '#/silences?state=active&filter=job%3Dweb'"))
-    page.call("Page.reload")
+    page.reload()
     finds(page, "the same behind a reload", ['job="web"'])
     page.click("link", "New silence")
     check("a new one begins with its matchers", page.wait("document.querySelector('input[name=value]')?.value === 'web'"))
@@ -655,7 +655,7 @@ def edited_meanwhile(page, a, b):
     page.click("button", "Update")
     check("who changed it", eventually(lambda: "Creator: ann → ann, changed by cleo" in asked(page)), asked(page))
     page.press("Escape")
-    check("the form stays", page.wait("document.querySelector('#comment').value === 'mine'"))
+    check("the form stays", page.wait("document.querySelector('#comment')?.value === 'mine'"))
     compare("nothing was posted", held(a, first)["comment"], "of edited")
     page.click("button", "Update")
     page.click("button", "Update it all the same")
@@ -743,15 +743,15 @@ def test_draft(folder):
         page.evaluate("history.back()")
         finds(page, "its silence", ['job="db"'])
         page.evaluate("history.forward()")
-        check("forward brings it back", page.wait("document.querySelector('#comment').value === 'half a'"), values_of(page, FORM))
+        check("forward brings it back", page.wait("document.querySelector('#comment')?.value === 'half a'"), values_of(page, FORM))
         compare("all of it", values_of(page, FORM), wanted)
         check("the page says so", page.text("#said").startswith("This is what you had begun"), page.text("#said"))
-        page.call("Page.reload")
-        check("a reload, too", page.wait("document.querySelector('#comment').value === 'half a'"), values_of(page, FORM))
+        page.reload()
+        check("a reload, too", page.wait("document.querySelector('#comment')?.value === 'half a'"), values_of(page, FORM))
         compare("all of it again", values_of(page, FORM), wanted)
         page.click("link", "Cancel")
         page.click("link", "New silence")
-        check("it is dropped", page.wait("document.querySelector('#comment').value === '' && !document.querySelector('#edit').hidden"))
+        check("it is dropped", page.wait("document.querySelector('#comment')?.value === '' && !document.querySelector('#edit').hidden"))
         begins(page, "whole")
         page.click("button", "Remove matcher 2")
         page.fill("textbox", "Creator", "ann")
@@ -762,8 +762,8 @@ def test_draft(folder):
         compare("and dropped", values_of(page, "#comment, [name=label]"), ["", ""])
         page.go(url_of(a, f"#/silences/edit/{first}"))
         page.fill("textbox", "Comment", "edited")
-        page.call("Page.reload")
-        check("so where one is edited", page.wait("document.querySelector('#comment').value === 'edited'"), values_of(page, FORM))
+        page.reload()
+        check("so where one is edited", page.wait("document.querySelector('#comment')?.value === 'edited'"), values_of(page, FORM))
         page.click("button", "Update")
         check("it is updated", said(page, "The silence is updated"), seen(page))
         compare("in place", (held(a, first)["comment"], len(a.listed())), ("edited", 2))
@@ -841,7 +841,7 @@ def sorts(page, rest):
         check(f"its address has {key}", page.wait(f"location.hash === '#/silences?state=active&sort={key}'"), page.evaluate("location.hash"))
         if key != "start":
             finds(page, f"rows by {key}", [f'job="{it}"{rest}' for it in wanted])
-    page.call("Page.reload")
+    page.reload()
     finds(page, "rows behind a reload", [f'job="{it}"{rest}' for it in ("web", "db", "mail")])
 
 
@@ -902,7 +902,7 @@ def test_back(folder):
         check("all is as it was", eventually(lambda: page.evaluate(found) == before), (page.evaluate(found), before))
         compare("the page of the list", page.text(".range"), "101 to 200 of 250")
         compare("the filter", values_of(page, "#filter, #sort"), ['instance=~"host.*", maintenance', "creator"])
-        page.call("Page.reload")
+        page.reload()
         check("so behind a reload", eventually(lambda: page.evaluate("[location.hash, scrollY]") == before[:2]), (page.evaluate(found), before))
         page.evaluate("document.querySelectorAll('.pages')[1].querySelector('a').click()")
         check("the pager below leads on", page.wait("document.querySelector('.range').innerText.startsWith('1 ')"), page.text(".range"))
@@ -954,7 +954,7 @@ def filter_stays(page, a):
     page.wait("!!document.querySelector('#rows li')")
     top = "document.querySelector('#filter').getBoundingClientRect().top"
     before = page.evaluate(top)
-    for text, words in [('job=~"("', 'The regular expression "(" can\'t be read: Unterminated group.'), ("1job=x", "The member can't read this filter.")]:
+    for text, words in [('job=~"("', 'The regular expression "(" can\'t be read: Unterminated group.'), ('job=~"(?i)x", job=~"[b"', 'The regular expression "[b" can\'t be read'), ('job=~"(?=x)"', "The regular expressions can't be read, or are too large."), ("1job=x", "The member can't read this filter.")]:
         page.fill("searchbox", "Filter", text)
         check(f"{text} is told below", below(page, "filter", words), seen(page))
         compare("nothing is listed", (rows(page), page.text("#list-head")), ([], "No silences"))
@@ -1003,17 +1003,21 @@ def test_steady(folder):
         page.point("#rows li .acts button")
         post(b, silence("sooner", "of sooner", 60))
         check("a has it", eventually(lambda: len(a.listed()) == 2))
-        page.evaluate("window.fetched = 0; new PerformanceObserver((it) => { fetched += it.getEntries().filter(({ name }) => name.includes('silences')).length; }).observe({ type: 'resource' })")
         refresh(page)
-        check("it is asked", page.wait("window.fetched > 0"))
+        check("what came waits", page.wait("!!mouse.later"))
         compare("the row below the mouse stays", [it[0] for it in rows(page)], ['job="db"'])
         page.point("h1")
         finds(page, "what came, then", ['job="sooner"', 'job="db"'])
         page.point("#rows li .acts button")
         page.click("button", 'Extend job="sooner"')
         asked(page)
+        post(b, silence("last", "of last", 90_000))
+        check("a has that, too", eventually(lambda: len(a.listed()) == 3))
+        refresh(page)
+        check("it is asked", page.wait("list.all.length === 3"))
+        compare("nothing is drawn behind a question", [it[0] for it in rows(page)], ['job="sooner"', 'job="db"'])
         page.click("button", "Extend")
-        finds(page, "at once what a person did", ['job="db"', 'job="sooner"'])
+        finds(page, "at once what a person did", ['job="db"', 'job="sooner"', 'job="last"'])
         a.kill()
         page.click("button", 'Extend job="db"')
         asked(page)
@@ -1111,7 +1115,7 @@ def test_keyboard(folder):
         check("it has ended", eventually(lambda: held(b, first)["status"]["state"] == "expired"), held(b, first))
         compare("the focus is at the head", page.wait("document.activeElement.id === 'one-head'"), True)
         goes_to(page, "Recreate", "Enter")
-        check("the form is there", page.wait("document.querySelector('#comment').value === 'by keys'"))
+        check("the form is there", page.wait("document.querySelector('#comment')?.value === 'by keys'"))
         goes_to(page, "Cancel", "Enter")
         check("and left", page.wait("document.querySelector('#edit').hidden"))
         page.press("shift+Tab")
@@ -1160,7 +1164,7 @@ def test_sight(folder):
                 ("#/silences/new", "#matchers input"),
             ]:
                 page.go(url_of(a, place))
-                page.call("Page.reload")
+                page.reload()
                 check(f"{place} is drawn", page.wait(f"!!document.querySelector('{drawn}')"), seen(page))
                 sees_well(page, f"{place} {scheme} {width}")
         quiet(page, "sight")
@@ -1215,32 +1219,47 @@ def many(now):
 
 
 def pictures(folder):
-    """Draws those of docs/pictures."""
-    a, b = pair(folder)
+    """Draws those of docs/pictures: large and small, light and dark."""
+    a, b = pair(folder, ["--gossip", f"am1={free_ports(1)[0]}"])
     for value, comment, who, seconds in [
-        ("DiskFull", "larger disks are on their way", "ann", 86400 * 3),
+        ("DiskFull", "larger disks are on their way, https://tickets.example.org/4711", "ann", 86400 * 3),
         ("Down", "kernel update of rack 4", "ben", 5400),
         ("LatencyHigh", "load test until noon", "cleo", 9000),
     ]:
-        posted = silence("x", comment, seconds, createdBy=who)
-        more = {"name": "instance", "value": "db[1-4].*", "isRegex": True, "isEqual": True}
-        posted["matchers"] = [{"name": "alertname", "value": value, "isRegex": False, "isEqual": True}, more]
-        first = post(a, posted)
+        matchers = [matcher("alertname", value), matcher("instance", "db[1-4].*", True)]
+        first = post(a, silence("x", comment, seconds, createdBy=who, matchers=matchers))
     post(b, silence("later", "of later", starts=3600))
     ended = post(b, silence("old", "of old"))
     b.ask("DELETE", f"/api/v2/silence/{ended}")
     eventually(lambda: a.listed() == b.listed())
     with browser.Browser(folder) as chromium:
-        page = chromium.page(url_of(a), width=900, height=640)
+        page = chromium.page(url_of(a), width=1200, height=420)
         page.wait("document.querySelectorAll('#rows > li').length === 3 && / heard \\d/.test(document.querySelector('#peers').innerText)")
-        page.picture(f"{members.TOP}/docs/pictures/page.png")
+        drawn(page, "page")
+        page.look(1200, 640, "dark")
+        page.go(url_of(a, f"#/silences/edit/{first}"))
+        page.fill("textbox", "Comment", "load test until two")
+        later_by(b, first, 7200, createdBy="cleo, changed by ben")
+        eventually(lambda: is_near(lasts(held(a, first)), 16200))
+        page.click("button", "Update")
+        asked(page)
+        drawn(page, "page_dark")
+        page.press("Escape")
         page.look(390, 760, "dark")
-        page.go(url_of(a, f"#/silence/{first}"))
+        page.go(url_of(a, f"#/silences/{first}"))
         shown_id(page)
-        page.picture(f"{members.TOP}/docs/pictures/page_narrow.png")
+        drawn(page, "page_narrow_dark")
+        page.look(390, 560)
+        page.go(url_of(a, '#/alert?labels=alertname="Down",instance="db2:9100"'))
+        page.wait("document.querySelector('#muting li')?.innerText")
+        drawn(page, "page_narrow")
         page.close()
     for member in (a, b):
         member.kill()
+
+
+def drawn(page, name):
+    page.picture(f"{members.TOP}/docs/pictures/{name}.png")
 
 
 def main():

@@ -1,6 +1,7 @@
 """A headless Chromium, driven by its DevTools protocol: a pair of pipes, with a zero byte behind each message."""
 
 import base64
+import contextlib
 import fcntl
 import itertools
 import json
@@ -121,6 +122,16 @@ class Page:
     def go(self, url):
         self.call("Page.navigate", url=url)
         self.wait("document.readyState === 'complete'")
+
+    def reload(self):
+        """Reloads the page, and waits until the new one stands there."""
+        self.evaluate("window.isOld = true")
+        self.call("Page.reload")
+        eventually(self.is_new)
+
+    def is_new(self):
+        with contextlib.suppress(RuntimeError):
+            return self.evaluate("!window.isOld && document.readyState === 'complete'")
 
     def close(self):
         self.browser.call("Target.closeTarget", targetId=self.target)

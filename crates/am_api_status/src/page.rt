@@ -3,7 +3,7 @@
 /// The fields of the head that are about the page: its type, and what a browser is to let it do.
 pub const FIELDS: &str = "\
 content-type: text/html; charset=utf-8\r\n\
-content-security-policy: default-src 'none'; script-src 'sha256-dvzl8qcC5mEOtHd1DpnOGvmODS6gEKeKWrjNUjYppTo='; style-src 'sha256-JJmNQnHSWA+BV3cxsapJZlhQy8wXh03Ivmxh4eKvpnU='; connect-src 'self'; img-src data:; base-uri 'none'; form-action 'none'; frame-ancestors 'none'; require-trusted-types-for 'script'; trusted-types 'none'\r\n\
+content-security-policy: default-src 'none'; script-src 'sha256-YY8zJnMSY1OxlVNUiP5X1OGIF8Z3HjpK92TPKehV8co='; style-src 'sha256-JJmNQnHSWA+BV3cxsapJZlhQy8wXh03Ivmxh4eKvpnU='; connect-src 'self'; img-src data:; base-uri 'none'; form-action 'none'; frame-ancestors 'none'; require-trusted-types-for 'script'; trusted-types 'none'\r\n\
 x-content-type-options: nosniff\r\n\
 referrer-policy: no-referrer\r\n\
 cache-control: no-cache\r\n\
@@ -453,10 +453,10 @@ const labelsIn = (text) => {\n\
 \x20\x20return Object.fromEntries(matchers.map(({ name, value }) => [name, value]));\n\
 };\n\
 \n\
-// Why a regular expression can't be read, as far as the browser can say it.\n\
+// Why a regular expression can't be read, as far as the browser can say it: flags and names of groups are written otherwise here.\n\
 const reasonOf = (pattern) => {\n\
 \x20\x20try {\n\
-\x20\x20\x20\x20new RegExp(pattern, \"u\");\n\
+\x20\x20\x20\x20new RegExp(pattern.replace(/\\(\\?[imsU]+\\)/g, \"\").replaceAll(\"(?P<\", \"(?<\"));\n\
 \x20\x20\x20\x20return \"\";\n\
 \x20\x20} catch ({ message }) {\n\
 \x20\x20\x20\x20return message.replace(/^.*: /s, \"\");\n\
@@ -709,8 +709,8 @@ const loadList = async (mine, forced) => {\n\
 \n\
 // Says below the filter why it can't be read, and lists nothing.\n\
 const refuseFilter = (filters, fault) => {\n\
-\x20\x20const broken = filters.every(isMatcher) && brokenOf(filters.map(matcherOf));\n\
-\x20\x20blame(at(\"filter\"), broken ? broken.words : fault.message);\n\
+\x20\x20const matchers = filters.map(matcherOf), isRead = filters.every(isMatcher) && matchers.some(({ isRegex }) => isRegex);\n\
+\x20\x20blame(at(\"filter\"), isRead ? brokenOf(matchers)?.words ?? REFUSALS[\"bad pattern\"] : fault.message);\n\
 \x20\x20clearList(\"No silences\");\n\
 };\n\
 \n\
