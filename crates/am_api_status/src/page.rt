@@ -3,7 +3,7 @@
 /// The fields of the head that are about the page: its type, and what a browser is to let it do.
 pub const FIELDS: &str = "\
 content-type: text/html; charset=utf-8\r\n\
-content-security-policy: default-src 'none'; script-src 'sha256-YY8zJnMSY1OxlVNUiP5X1OGIF8Z3HjpK92TPKehV8co='; style-src 'sha256-JJmNQnHSWA+BV3cxsapJZlhQy8wXh03Ivmxh4eKvpnU='; connect-src 'self'; img-src data:; base-uri 'none'; form-action 'none'; frame-ancestors 'none'; require-trusted-types-for 'script'; trusted-types 'none'\r\n\
+content-security-policy: default-src 'none'; script-src 'sha256-iXe2IulcpE2WRDeX5RYwKllatwciww6iaecxli9DKj4='; style-src 'sha256-AVZGnS2QOhhFd8sEJaR8CHArex1rcFLfvaMCskM1bNw='; connect-src 'self'; img-src data:; base-uri 'none'; form-action 'none'; frame-ancestors 'none'; require-trusted-types-for 'script'; trusted-types 'none'\r\n\
 x-content-type-options: nosniff\r\n\
 referrer-policy: no-referrer\r\n\
 cache-control: no-cache\r\n\
@@ -56,6 +56,7 @@ textarea { display: block; field-sizing: content; resize: vertical; }\n\
 button, .button { display: inline-flex; align-items: center; justify-content: center; width: auto; background: var(--sheet); text-decoration: none; cursor: pointer; }\n\
 button:disabled, .off { color: var(--dim); cursor: default; }\n\
 .main { border-color: var(--link); background: var(--link); color: var(--on); }\n\
+.main:disabled { border-color: var(--edge); background: var(--sheet); }\n\
 .end { border-color: var(--bad); color: var(--bad); }\n\
 .line { display: flex; flex-wrap: wrap; align-items: start; gap: .25rem .75rem; margin: .5rem 0; }\n\
 #list > .line { margin: .25rem 0; }\n\
@@ -76,6 +77,7 @@ button:disabled, .off { color: var(--dim); cursor: default; }\n\
 .chip { display: inline-block; max-width: 100%; margin: .1rem 0; padding: 0 .4rem; border: 1px solid var(--rule); border-radius: .3rem; overflow: clip; background: var(--sheet); vertical-align: top; }\n\
 .rows > li { display: grid; gap: 0 1rem; padding: .4rem 0; border-top: 1px solid var(--rule); }\n\
 .rows p { overflow: clip; }\n\
+.rows time { white-space: nowrap; }\n\
 .rows .acts { display: flex; gap: .5rem; overflow: visible; }\n\
 .rows .said a { padding: .15rem 0; outline-offset: -3px; }\n\
 .acts button, .acts .button { min-height: 1.75rem; padding: 0 .5rem; }\n\
@@ -529,7 +531,7 @@ const drawnAgain = (element) => {\n\
 const asks = ({ head, what, changes = [], go, kind = \"main\", keeps = \"Cancel\", hasLength = false }) => new Promise((done) => {\n\
 \x20\x20const asking = at(\"asking\");\n\
 \x20\x20at(\"asking-head\").textContent = head;\n\
-\x20\x20at(\"asking-what\").replaceChildren(...[what].flat());\n\
+\x20\x20at(\"asking-what\").replaceChildren(...what);\n\
 \x20\x20at(\"asking-changes\").replaceChildren(...changes.map((words) => make(\"li\", {}, written(words))));\n\
 \x20\x20at(\"asking-changes\").hidden = changes.length === 0;\n\
 \x20\x20at(\"asking-length\").hidden = !hasLength;\n\
@@ -606,9 +608,10 @@ const agreed = async (shown, go, another = \"\") => {\n\
 \x20\x20if (!ended && changes.length === 0) return now;\n\
 \x20\x20const since = spanWords(Date.now() - Date.parse(ended ? now.endsAt : now.updatedAt));\n\
 \x20\x20const what = ended\n\
-\x20\x20\x20\x20? [`It ended ${since} ago. If you go on, another silence is created, with another ID. Creator: `, ...creatorOf(now.createdBy)]\n\
-\x20\x20\x20\x20: [`It was updated ${since} ago. What you didn't change stays as it is now. Creator: `, ...creatorOf(now.createdBy)];\n\
-\x20\x20const goes = await asks({ head: ended ? \"This silence has ended meanwhile\" : \"This silence was changed meanwhile\", what, changes, go: ended ? another : go });\n\
+\x20\x20\x20\x20? `It ended ${since} ago. If you go on, another silence is created, with another ID.`\n\
+\x20\x20\x20\x20: `It was updated ${since} ago. What you didn't change stays as it is now.`;\n\
+\x20\x20const creator = isSame(\"createdBy\", shown, now) ? [\" Creator: \", ...creatorOf(now.createdBy)] : [];\n\
+\x20\x20const goes = await asks({ head: ended ? \"This silence has ended meanwhile\" : \"This silence was changed meanwhile\", what: [what, ...creator], changes, go: ended ? another : go });\n\
 \x20\x20return goes ? now : null;\n\
 };\n\
 \n\
