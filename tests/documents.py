@@ -38,7 +38,7 @@ BUDGETS = {
     "README.md": 600,
     "docs/NIGHT.md": 450,
     "docs/MEND.md": 1_200,
-    "docs/MEMBERS.md": 2_600,
+    "docs/MEMBERS.md": 2_500,
     "docs/FORMATS.md": 5_300,
     "docs/MODEL.md": 3_000,
     "docs/PROOFS.md": 3_000,
