@@ -18,3 +18,4 @@ pub mod Re2Runs
 pub mod Re2Nestings
 pub mod Re2Names
 pub mod Re2Readings
+pub mod Meant

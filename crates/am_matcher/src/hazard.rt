@@ -1,4 +1,4 @@
-//! Whether an Alertmanager can hold a silence.
+//! Hazards: why an Alertmanager can't hold a silence.
 
 ghost use Rattle.std.specs.Prelude.{◌≡◌, ◌==◌, ◌||◌, true, Any, IfOk, MatchOption};
 ghost use Rattle.std.specs.List.{list_all};
@@ -7,7 +7,7 @@ ghost use Rattle.am_silence.specs.Kinds.{is_regexp};
 ghost use Rattle.am_matcher.specs.Re2.{IsRe2};
 ghost use Rattle.am_matcher.specs.Hazards.{is_label, IsMeant, AreMeant, IsRefusedMatcher, are_labels, IsHazard};
 
-use crate::judged::verdict;
+use crate::cache::PatternCache;
 use crate::re2::{Re2Error, re2_of};
 use am_silence::{Matcher, MatcherIter, MatcherRef, Matchers, MeshSilence, Verdict};
 use am_wire::Text;
@@ -22,28 +22,28 @@ pub enum Hazard {
     Matcher,
 }
 
-/// Whether the byte begins the name of a label.
+/// Tells whether the byte begins the name of a label.
 fn begins_label(byte: u8) -> bool
     ensures { result ≡ (is_ascii_alphabetic byte || (byte == 0x5F)) }
 {
     byte.is_ascii_alphabetic() || byte == b'_'
 }
 
-/// Whether the byte may stand in the name of a label.
+/// Tells whether the byte may stand in the name of a label.
 fn is_in_label(byte: u8) -> bool
     ensures { result ≡ (is_ascii_alphanumeric byte || (byte == 0x5F)) }
 {
     byte.is_ascii_alphanumeric() || byte == b'_'
 }
 
-/// Whether each byte may stand in the name of a label.
+/// Tells whether each byte may stand in the name of a label.
 fn are_in_label(bytes: &[u8]) -> bool
     ensures { result ≡ list_all (λ d. is_ascii_alphanumeric d || (d == 0x5F)) bytes.now }
 {
     bytes.iter().all(|byte| is_in_label(*byte))
 }
 
-/// Whether the bytes are the name of a label.
+/// Tells whether the bytes are the name of a label.
 fn is_label(name: &[u8]) -> bool
     ensures { result ≡ is_label name.now }
 {
@@ -53,7 +53,7 @@ fn is_label(name: &[u8]) -> bool
     }
 }
 
-/// Whether each matcher has the name of a label.
+/// Tells whether each matcher has the name of a label.
 fn are_labels(matchers: MatcherIter<'_>) -> bool
     ensures { result ≡ are_labels matchers.entry }
 {
@@ -112,10 +112,10 @@ fn hazard_of_meant(
     matchers: MatcherIter<'_>,
     meant: &Matchers,
 ) -> Result<Option<Hazard>, AllocError>
-    requires { AreMeant matchers.entry meant.now }
+    requires { AreMeant matchers meant.now }
     ensures { IfOk result (IsHazard matchers.entry) }
 {
-    match verdict(alloc, meant)? {
+    match PatternCache::new(alloc).verdict(meant)? {
         Verdict::Bad => Ok(Some(Hazard::Pattern)),
         Verdict::AllEmpty => Ok(Some(Hazard::Matcher)),
         Verdict::Fine if are_labels(matchers) => Ok(None),

@@ -11,7 +11,7 @@ use std::marker::Model;
 /// A part is repeated so many times at most, also by what is round it.
 pub const MOST_TIMES: u32 = 1000;
 
-/// How often a part is repeated, and what follows.
+/// A repetition: how often a part may come, and what follows.
 #[derive(Drop)]
 struct Bounds<'a> {
     least: u32,
@@ -49,7 +49,7 @@ fn number(digits: &[char]) -> u32
         .fold(0, |number, digit| with_digit(number, *digit))
 }
 
-/// Whether the digits are those of a number: there are some, and none is a zero before others.
+/// Tells whether the digits are those of a number: there are some, and none is a zero before others.
 #[tactic(auto, unfolding(crate::specs::Re2Pieces::is_number))]
 fn is_number(digits: &[char]) -> bool
     ensures { result ≡ is_number digits.now }
@@ -88,7 +88,7 @@ fn bounded(least: u32, text: &[char]) -> Option<Bounds<'_>>
     }
 }
 
-/// What stands behind the least number of a count.
+/// The rest of a count, behind its least number.
 #[tactic(auto, unfolding(crate::specs::Re2Pieces::count_behind))]
 fn count_behind(least: u32, text: &[char]) -> Option<Bounds<'_>>
     ensures value { result ≡ count_behind least text.now }
@@ -117,7 +117,7 @@ fn count_at(text: &[char]) -> Option<Bounds<'_>>
     }
 }
 
-/// What follows the sign that as little as possible is to be matched, if it is there.
+/// Returns what follows the sign for the shortest match, if it is there.
 #[tactic(auto, unfolding(crate::specs::Re2Pieces::skip_lazy))]
 fn skip_lazy(text: &[char]) -> &[char]
     ensures value { result.now ≡ skip_lazy text.now }
@@ -153,7 +153,7 @@ fn counted<'a>(text: &'a [char], count: Bounds<'a>) -> Option<Piece<'a>>
     }
 }
 
-/// What a brace at the front of the text is: a count, or a character.
+/// Reads the brace at the front of the text: a count, or a character.
 #[tactic(auto, unfolding(crate::specs::Re2Pieces::brace, crate::specs::Re2Spelling::spelled))]
 pub fn brace<'a>(text: &'a [char], behind: &'a [char]) -> Option<Piece<'a>>
     ensures value { result ≡ brace text.now behind.now }

@@ -57,7 +57,7 @@ pub fn property_at(negated: bool, text: &[char]) -> Option<(Spelling<'_>, &[char
     }
 }
 
-/// Whether a hyphen is at the front that doesn't end the class.
+/// Tells whether a hyphen is at the front that doesn't end the class.
 #[tactic(auto, unfolding(crate::specs::Re2Pieces::is_range))]
 fn is_range(text: &[char]) -> bool
     ensures { result ≡ is_range text.now }
@@ -69,7 +69,7 @@ fn is_range(text: &[char]) -> bool
     }
 }
 
-/// What follows a circumflex, if one is there.
+/// Returns what follows a circumflex, if one is there.
 fn skip_negation(text: &[char]) -> &[char]
     ensures value { result.now ≡ skip_negation text.now }
     ensures shorter { length result.now ≤ length text.now }
@@ -80,7 +80,7 @@ fn skip_negation(text: &[char]) -> &[char]
     }
 }
 
-/// What follows the end of a class of POSIX, if it is there.
+/// Returns what follows the end of a class of POSIX, if it is there.
 fn behind_class(text: &[char]) -> Option<&[char]>
     ensures value { MatchOption result (begins ":]" text.now ≡ false)
         (λ rest. (begins ":]" text.now ≡ true) × (rest.now ≡ drop 2 text.now)) }
@@ -157,7 +157,7 @@ fn range_from<'a>(low: char, behind: &'a [char]) -> Option<Piece<'a>>
     }
 }
 
-/// What a character in brackets begins: a range, or it stands alone.
+/// Reads what a character in brackets begins: a range, or itself alone.
 #[tactic(auto, unfolding(crate::specs::Re2Pieces::range, crate::specs::Re2Pieces::is_range, crate::specs::Re2Spelling::spelled))]
 fn range<'a>(low: char, text: &'a [char]) -> Option<Piece<'a>>
     ensures value { result ≡ range low text.now }
@@ -207,7 +207,7 @@ fn property_in_class(negated: bool, text: &[char]) -> Option<Piece<'_>>
     }
 }
 
-/// What the backslash at the front of the text stands for in brackets.
+/// Reads what the backslash at the front of the text stands for in brackets.
 #[tactic(auto, unfolding(crate::specs::Re2Pieces::escape_in_class, crate::specs::Re2Spelling::spelled))]
 fn escape_in_class<'a>(text: &'a [char], behind: &'a [char]) -> Option<Piece<'a>>
     requires { length behind.now < length text.now }
@@ -223,7 +223,7 @@ fn escape_in_class<'a>(text: &'a [char], behind: &'a [char]) -> Option<Piece<'a>
     }
 }
 
-/// What stands at the front at the start of brackets.
+/// Reads the piece at the start of brackets.
 #[tactic(auto, unfolding(crate::specs::Re2Pieces::class_item))]
 pub fn class_item(text: &[char]) -> Option<Piece<'_>>
     ensures value { result ≡ class_item text.now }
@@ -236,7 +236,7 @@ pub fn class_item(text: &[char]) -> Option<Piece<'_>>
     }
 }
 
-/// What stands at the front further on in brackets.
+/// Reads the next piece in brackets.
 #[tactic(auto, unfolding(crate::specs::Re2Pieces::later_item, crate::specs::Re2Spelling::spelled))]
 pub fn later_item(text: &[char]) -> Option<Piece<'_>>
     ensures value { result ≡ later_item text.now }

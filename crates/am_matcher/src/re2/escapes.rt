@@ -1,4 +1,4 @@
-//! What a backslash stands for.
+//! Escapes: characters behind a backslash.
 
 ghost use Rattle.std.specs.Prelude.{◌≡◌, ◌<◌, None, Some, length, MatchOption, IfSome, if◌then◌else◌, nat_lt, ◌+◌, ◌*◌, true};
 ghost use Rattle.std.specs.Char.{digit_value, is_ascii_hexdigit};
@@ -117,7 +117,7 @@ pub fn escaped_character(text: &[char]) -> Option<(char, &[char])>
     }
 }
 
-/// Whether the letter behind a backslash stands for a class of Perl.
+/// Tells whether the letter behind a backslash stands for a class of Perl.
 pub fn is_perl(letter: char) -> bool
     ensures { result ≡ is_perl letter }
 {

@@ -7,14 +7,14 @@ ghost use Rattle.am_matcher.specs.Re2Pieces.{has_twice, are_flags, is_name, name
 use crate::re2::pieces::{Part, Piece, Place, Spelling, outside};
 use crate::re2::runs::{before, split_flags, split_word};
 
-/// Whether the letter is among them.
+/// Tells whether the letter is among them.
 fn contains(letters: &[char], letter: char) -> bool
     ensures { result ≡ list_any (λ other. other == letter) letters.now }
 {
     letters.iter().any(|other| *other == letter)
 }
 
-/// Whether one of them comes twice.
+/// Tells whether one of them comes twice.
 #[tactic(auto, unfolding(crate::specs::Re2Pieces::has_twice))]
 fn has_twice(letters: &[char]) -> bool
     ensures { result ≡ has_twice letters.now }
@@ -25,7 +25,7 @@ fn has_twice(letters: &[char]) -> bool
     }
 }
 
-/// Whether these are flags: some, none of them twice, and something behind the hyphen.
+/// Tells whether these are flags: some, none of them twice, and something behind the hyphen.
 #[tactic(auto, unfolding(crate::specs::Re2Pieces::are_flags))]
 fn are_flags(letters: &[char]) -> bool
     ensures { result ≡ are_flags letters.now }
@@ -36,7 +36,7 @@ fn are_flags(letters: &[char]) -> bool
         && !matches!(letters, [.., '-'])
 }
 
-/// Whether these characters of a word are the name of a group.
+/// Tells whether these characters of a word are the name of a group.
 #[tactic(auto, unfolding(crate::specs::Re2Pieces::is_name))]
 fn is_name(word: &[char]) -> bool
     ensures { result ≡ is_name word.now }
@@ -84,7 +84,7 @@ fn flagged_group<'a>(text: &'a [char], behind: &'a [char]) -> Option<Piece<'a>>
     }
 }
 
-/// What the parenthesis at the front of the text begins: a group, or flags.
+/// Reads what the parenthesis at the front of the text begins: a group, or flags.
 #[tactic(auto, unfolding(crate::specs::Re2Pieces::group, crate::specs::Re2Spelling::spelled))]
 pub fn group<'a>(text: &'a [char], behind: &'a [char]) -> Option<Piece<'a>>
     ensures value { result ≡ group text.now behind.now }

@@ -29,7 +29,7 @@ const SCRIPTS: [&str; 14] = [
     "Thai",
 ];
 
-/// Whether the text is this word of ASCII.
+/// Tells whether the text is this word of ASCII.
 fn spells(text: &[char], word: &[u8]) -> bool
     ensures { result ≡ pointwise nat_eq text.now word.now }
 {
@@ -42,28 +42,28 @@ fn spells(text: &[char], word: &[u8]) -> bool
     }
 }
 
-/// Whether the text is one of the words.
+/// Tells whether the text is one of the words.
 fn is_one_of(words: &[&str], text: &[char]) -> bool
     ensures { result ≡ list_any (λ word. pointwise nat_eq text.now word.now) words.now }
 {
     words.iter().any(|word| spells(text, word.as_bytes()))
 }
 
-/// Whether the text is the name of a class of POSIX.
+/// Tells whether the text is the name of a class of POSIX.
 pub fn is_class(text: &[char]) -> bool
     ensures { result ≡ is_one_of class_names text.now }
 {
     is_one_of(&CLASSES, text)
 }
 
-/// Whether the text is the name of a script.
+/// Tells whether the text is the name of a script.
 fn is_script(text: &[char]) -> bool
     ensures { result ≡ is_one_of script_names text.now }
 {
     is_one_of(&SCRIPTS, text)
 }
 
-/// Whether the letter behind another one names a general category.
+/// Tells whether the letter behind another one names a general category.
 #[tactic(auto, unfolding(crate::specs::Re2Pieces::is_subcategory))]
 fn is_subcategory(category: char, letter: char) -> bool
     ensures { result ≡ is_subcategory category letter }
@@ -80,7 +80,7 @@ fn is_subcategory(category: char, letter: char) -> bool
     }
 }
 
-/// Whether the text is the name of a general category.
+/// Tells whether the text is the name of a general category.
 #[tactic(auto, unfolding(crate::specs::Re2Pieces::is_category))]
 fn is_category(text: &[char]) -> bool
     ensures { result ≡ is_category text.now }
@@ -92,7 +92,7 @@ fn is_category(text: &[char]) -> bool
     }
 }
 
-/// Whether the text is the name of a property.
+/// Tells whether the text is the name of a property.
 #[tactic(auto, unfolding(crate::specs::Re2Pieces::is_property))]
 pub fn is_property(text: &[char]) -> bool
     ensures { result ≡ is_property text.now }

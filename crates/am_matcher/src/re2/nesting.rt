@@ -12,12 +12,12 @@ use std::marker::Model;
 /// So many groups may stand in one another.
 const MOST_GROUPS: usize = 100;
 
-/// What is known of a place of a pattern from what follows it.
+/// The needs of what follows a place of a pattern.
 #[derive(Drop)]
 struct Nesting {
-    /// How often what is before the place is repeated in all, where a repetition is next.
+    /// The times that the part before the place is repeated in all, if a repetition is next.
     waiting: Option<u32>,
-    /// How often a part at the place is repeated in all, by the groups round it.
+    /// The times that a part at the place is repeated in all, by the groups round it.
     times: u32,
     /// The same of what is round these groups, the innermost last.
     outer: Vec<u32>,
@@ -32,7 +32,7 @@ impl Model for Nesting {
     ghost view = { λ n. record { waiting = n.waiting; times = n.times; outer = reverse n.outer.items } };
 }
 
-/// What is known at the end of a pattern.
+/// Returns the needs at the end of a pattern.
 fn at_end(alloc: Global) -> Nesting
     ensures { result ≡ at_end }
 {
@@ -43,7 +43,7 @@ fn at_end(alloc: Global) -> Nesting
     }
 }
 
-/// Whether all groups are closed and opened, and no repetition is next.
+/// Tells whether all groups are closed and opened, and no repetition is next.
 fn is_whole(nesting: &Nesting) -> bool
     ensures { MatchBool result ((nesting.now.waiting ≡ None) × (nesting.now.outer ≡ [])) (¬ ((nesting.now.waiting ≡ None) × (nesting.now.outer ≡ []))) }
 {

@@ -10,7 +10,7 @@ use crate::re2::groups::group;
 use crate::re2::pieces::{Part, Piece, Place, Spelling, outside};
 use crate::re2::runs::before;
 
-/// What a character is outside of classes that begins nothing longer.
+/// Reads a character outside of classes that begins nothing longer.
 #[tactic(auto, unfolding(crate::specs::Re2Pieces::sign, crate::specs::Re2Spelling::spelled))]
 fn sign<'a>(text: &'a [char], first: char, rest: &'a [char]) -> Piece<'a>
     ensures value { result ≡ sign text.now first rest.now }
@@ -65,7 +65,7 @@ fn quotation(rest: &[char]) -> Piece<'_>
     }
 }
 
-/// What the backslash at the front of the text stands for with what is behind it.
+/// Reads what the backslash at the front of the text stands for with what is behind it.
 #[tactic(auto, unfolding(crate::specs::Re2Pieces::escape, crate::specs::Re2Spelling::spelled))]
 fn escape<'a>(text: &'a [char], behind: &'a [char]) -> Option<Piece<'a>>
     ensures value { result ≡ escape text.now behind.now }
@@ -86,7 +86,7 @@ fn escape<'a>(text: &'a [char], behind: &'a [char]) -> Option<Piece<'a>>
     }
 }
 
-/// What stands at the front outside of classes.
+/// Reads the first piece outside of classes.
 #[tactic(auto, unfolding(crate::specs::Re2Pieces::outside_piece))]
 fn outside_piece(text: &[char]) -> Option<Piece<'_>>
     ensures value { result ≡ outside_piece text.now }
@@ -130,7 +130,7 @@ fn quotation_end(rest: &[char]) -> Piece<'_>
     }
 }
 
-/// What stands at the front between `\Q` and `\E`.
+/// Reads the first piece between `\Q` and `\E`.
 #[tactic(auto, unfolding(crate::specs::Re2Pieces::quoted))]
 fn quoted(text: &[char]) -> Option<Piece<'_>>
     ensures value { result ≡ quoted text.now }
@@ -143,7 +143,7 @@ fn quoted(text: &[char]) -> Option<Piece<'_>>
     }
 }
 
-/// What stands at the front of a text.
+/// Reads the first piece of a text.
 #[tactic(auto, unfolding(crate::specs::Re2Pieces::first_piece))]
 pub fn first_piece(place: Place, text: &[char]) -> Option<Piece<'_>>
     ensures value { result ≡ first_piece place text.now }

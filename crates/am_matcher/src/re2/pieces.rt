@@ -19,7 +19,7 @@ pub enum Place {
     Quotation,
 }
 
-/// What a piece is to those beside it.
+/// The part that a piece plays beside others.
 #[derive(Clone, Copy)]
 pub enum Part {
     /// A character or a class, which may be repeated.
@@ -33,7 +33,7 @@ pub enum Part {
     Bar,
 }
 
-/// How a piece is written for `regex`.
+/// The spelling of a piece for `regex`.
 #[derive(Clone, Copy)]
 pub enum Spelling<'a> {
     /// As in the pattern.
@@ -51,10 +51,10 @@ pub enum Spelling<'a> {
     Nothing,
 }
 
-/// What stands at the front of a text. Contracts see what is written for it.
+/// A piece at the front of a text. Contracts see what is written for it.
 #[derive(Drop)]
 pub struct Piece<'a> {
-    /// What it is to those beside it, where it is not a part of a class or of a quotation.
+    /// The part that it plays beside others, if it is not inside of a class or of a quotation.
     pub part: Option<Part>,
     pub spelling: Spelling<'a>,
     /// The name of the group that it opens.

@@ -1,4 +1,4 @@
-//! What is read of a pattern.
+//! Reading of a pattern, piece by piece.
 
 ghost use Rattle.std.specs.Prelude.{◌≡◌, ◌++◌, ℕ, List, map, option_map, string_bytes, encode_utf8_all, OnOk, IfOk, MatchOption, MatchResult};
 ghost use Rattle.am_matcher.specs.declared.re2.pieces.Place.TheVariants as places;
@@ -13,15 +13,15 @@ use crate::re2::spelling::push_spelling;
 use std::alloc::{AllocError, Global};
 use std::marker::Model;
 
-/// What was read of a pattern. Contracts see its contents.
+/// The pieces that were read of a pattern. Contracts see its contents.
 #[derive(Drop)]
 struct Reading {
     parts: Vec<Part>,
-    /// How many characters stand before each part.
+    /// The count of characters before each part.
     places: Vec<usize>,
     written: Vec<char>,
     names: Vec<String>,
-    /// How many characters stand before each name's group.
+    /// The count of characters before each name's group.
     name_places: Vec<usize>,
 }
 
@@ -34,7 +34,7 @@ impl Model for Reading {
     ghost view = { λ r. record { parts = r.parts.items; written = r.written.items; names = map string_bytes r.names.items } };
 }
 
-/// What is read before the first piece.
+/// Returns a reading before its first piece.
 fn at_start(alloc: Global) -> Reading
     ensures { result ≡ no_contents }
 {
@@ -135,7 +135,7 @@ fn fault_of(alloc: Global, reading: &Reading) -> Result<Option<usize>, AllocErro
     }
 }
 
-/// What is written for what was read of these characters, or how many of them stand before a fault.
+/// Returns the pattern of `regex` for these characters, or how many of them stand before a fault.
 fn written_of(
     alloc: Global,
     characters: &[char],

@@ -5,7 +5,7 @@ ghost use Rattle.std.specs.Char.{is_ascii_digit, is_ascii_hexdigit};
 ghost use Rattle.am_matcher.specs.Re2Spelling.{before};
 ghost use Rattle.am_matcher.specs.Re2Pieces.{run, behind, is_word, is_flag};
 
-/// What stands before the rest of a text.
+/// Returns what stands before the rest of a text.
 #[tactic(auto, unfolding(crate::specs::Re2Spelling::before))]
 pub fn before<'a>(text: &'a [char], rest: &[char]) -> &'a [char]
     ensures { result.now ≡ before text.now rest.now }
@@ -14,7 +14,7 @@ pub fn before<'a>(text: &'a [char], rest: &[char]) -> &'a [char]
     front
 }
 
-/// How many digits stand at the front.
+/// Counts the digits at the front.
 fn digit_count(text: &[char]) -> usize
     ensures { result ≡ length (run is_ascii_digit text.now) }
 {
@@ -31,7 +31,7 @@ pub fn split_digits(text: &[char]) -> (&[char], &[char])
     text.split_at(digit_count(text))
 }
 
-/// How many digits of base 16 stand at the front.
+/// Counts the digits of base 16 at the front.
 fn hex_count(text: &[char]) -> usize
     ensures { result ≡ length (run is_ascii_hexdigit text.now) }
 {
@@ -54,7 +54,7 @@ fn is_word(character: char) -> bool
     character.is_ascii_alphanumeric() || character == '_'
 }
 
-/// How many letters, digits and `_` stand at the front.
+/// Counts the letters, digits and `_` at the front.
 fn word_len(text: &[char]) -> usize
     ensures { result ≡ length (run is_word text.now) }
 {
@@ -77,7 +77,7 @@ fn is_flag(character: char) -> bool
     matches!(character, 'i' | 'm' | 's' | 'U' | '-')
 }
 
-/// How many letters of flags and hyphens stand at the front.
+/// Counts the letters of flags and hyphens at the front.
 fn flag_count(text: &[char]) -> usize
     ensures { result ≡ length (run is_flag text.now) }
 {

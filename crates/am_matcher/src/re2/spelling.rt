@@ -1,4 +1,4 @@
-//! How pieces are written for `regex`.
+//! Spellings of pieces for `regex`.
 
 ghost use Rattle.std.specs.Prelude.{◌≡◌, ◌++◌, ◌∷◌, OnOk};
 ghost use Rattle.am_matcher.specs.Re2Spelling.{is_meta, literal, perl, property, spelled};
@@ -6,7 +6,7 @@ ghost use Rattle.am_matcher.specs.Re2Spelling.{is_meta, literal, perl, property,
 use crate::re2::pieces::Spelling;
 use std::alloc::AllocError;
 
-/// Whether the character means more than itself, somewhere in a pattern.
+/// Tells whether the character means more than itself, somewhere in a pattern.
 #[tactic(auto, unfolding(crate::specs::Re2Spelling::is_meta))]
 fn is_meta(character: char) -> bool
     ensures { result ≡ is_meta character }

@@ -32,7 +32,7 @@ impl From<AllocError> for Re2Error {
     }
 }
 
-/// How many bytes the first characters of a text have.
+/// Counts the bytes of the first characters of a text.
 fn offset_of(text: &str, count: usize) -> usize
     ensures { result ≤ length text.now }
 {

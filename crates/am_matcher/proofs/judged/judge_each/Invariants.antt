@@ -5,6 +5,6 @@ use Rattle.am_matcher.proofs.judged.judge_each.Given as goal
 -- those so far were judged
 abbrev pub invariant-loop-matcher : goal.invariant-loop-matcher
 invariant-loop-matcher l = record {
-  answer : l.all ≡ match_all (take l.matcher-index l.matchers) [];
+  answer : l.every ≡ match_all (take l.matcher-index l.matchers) [];
   sound : All IsSoundMatcher (take l.matcher-index l.matchers);
 }
