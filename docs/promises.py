@@ -29,7 +29,7 @@ PARTS = {
     "Replicas": ["am_collect", "am_refusals", "am_instance", "am_runs", "am_cluster", "am_client"],
     "Members, from bytes to bytes": [
         "am_http", "am_silence_json", "am_api_silences", "am_decision_json", "am_api_decisions", "am_api_status", "am_metrics",
-        "am_figures", "am_gossip", "am_seal", "am_gate", "am_peers", "am_member", "am_reactor", "am_living", "am_attendant",
+        "am_figures", "am_gossip", "am_seal", "am_gate", "am_peers", "am_member", "am_connection", "am_reactor", "am_living", "am_attendant",
         "am_dialogue", "am_upkeep", "am_self", "am_daemon",
     ],
     "Files, comparing and mending": ["am_snapshot", "am_report", "am_lzw", "am_memberlist", "am_mend", "am_beside", "am_commands", "am_disk", "am_journal", "am_files"],

@@ -14,6 +14,7 @@ use Rattle.am_api_silences.specs.Replies.{IsReplyBytes, Says, line_bytes}
 use Rattle.am_instance.specs.OneStep.{IsStep}
 use Rattle.am_api_silences.specs.Table.{clock_line, memory_line}
 use Rattle.am_api_silences.specs.PendingReply.{Makes}
+use Rattle.am_api_silences.specs.declared.answering.Answered.{Answered as Whole}
 use Rattle.am_api_silences.specs.declared.answering.PendingAnswer.{PendingAnswer}
 use Rattle.am_api_silences.specs.declared.replies.ReplyBytes.{ReplyBytes}
 
@@ -21,6 +22,13 @@ use Rattle.am_api_silences.specs.declared.replies.ReplyBytes.{ReplyBytes}
 pub record Answered : Type 0 where
   pub reply : ReplyBytes
   pub sent : Sent
+
+-- what the code returns
+abbrev pub answer_in : Whole → Answered
+answer_in whole = record {
+  reply = whole.reply;
+  sent = record { frames = whole.frames.items; memory = whole.unsent.memory; limit = whole.unsent.limit };
+}
 
 -- what is told of a step that was refused: a request names no peer and brings no rows, so it is the moment or else memory
 abbrev pub IsErrorBytes : StepError → List ℕ → Type 0

@@ -4,3 +4,4 @@ pub mod Table
 pub mod Replies
 pub mod PendingReply
 pub mod Answers
+pub mod Serving

@@ -1,6 +1,7 @@
 -- The bytes of replies (API v2, in HTTP/1.1 and JSON).
-use Rattle.std.specs.Prelude.{◌≡◌, ℕ, List, [], length, None, Result, Ok, Err, if◌then◌else◌}
+use Rattle.std.specs.Prelude.{◌≡◌, ℕ, List, [], ◌++◌, length, Option, None, Result, Ok, Err, if◌then◌else◌}
 use Rattle.std.specs.Borrow.{Bor}
+use Rattle.http.specs.StatusCode.{IsStatusCode}
 use Rattle.serde_json.specs.Data.{Data, array, string}
 use Rattle.serde_json.specs.View.{items_of}
 use Rattle.serde_json.specs.Written.{compact_text}
@@ -42,6 +43,18 @@ IsReplyBytes _ bytes = bytes ≡ good_bytes []
 abbrev pub IsSaid : Result (Bor Reply) (Bor Refusal) → List ℕ → Type 0
 IsSaid (Ok reply) bytes = IsReplyBytes reply.now bytes
 IsSaid (Err refusal) bytes = bytes ≡ line_bytes (line_seen refusal.now)
+
+-- the bytes begin with the head of a reply with this status
+pub record HasStatus (status : ℕ) (bytes : List ℕ) : Type 0 where
+  pub code : IsStatusCode status
+  pub allow : Option (List ℕ)
+  pub count : ℕ
+  pub body : List ℕ
+  pub bytes_are : bytes ≡ head_bytes status allow count ++ body
+
+-- so they do with some status
+abbrev pub HasSomeStatus : List ℕ → Type 0
+HasSomeStatus bytes = (status : ℕ) × HasStatus status bytes
 
 -- ---- bytes that go out
 

@@ -3,8 +3,8 @@
 ghost use Rattle.std.specs.Prelude.{◌≡◌};
 ghost use Rattle.am_instance.specs.Sendings.{nothing_sent, sent_by};
 ghost use Rattle.am_instance.specs.InstanceStates.{InstanceState};
-ghost use Rattle.am_api_silences.specs.Answers.{WhenMade, IsErrorBytes, IsRefusalAnswer, IsRequestAnswer, IsStepAnswer};
-ghost use Rattle.am_api_silences.specs.PendingReply.{Makes};
+ghost use Rattle.am_api_silences.specs.Answers.{WhenMade, IsErrorBytes, IsRefusalAnswer, IsRequestAnswer, IsStepAnswer, answer_in};
+ghost use Rattle.am_api_silences.specs.PendingReply.{IsMadeOf, Makes};
 ghost use Rattle.am_api_silences.specs.Replies.{IsReplyBytes, Says};
 ghost use Rattle.am_api_silences.specs.declared.pending_reply.PendingReply.TheVariants as makings;
 
@@ -12,8 +12,9 @@ use crate::events::event_by;
 use crate::pending_reply::{PendingReply, make};
 use crate::replies::{ReplyBytes, no_memory, tell};
 use crate::table;
+use am_gossip::Frame;
 use am_http::{Refusal, Request};
-use am_instance::{Event, FrameSender, Instance, Outcome, StepError};
+use am_instance::{Event, FrameSender, Instance, Outcome, Place, StepError, Unsent};
 use am_version_order::Moment;
 use std::alloc::Global;
 
@@ -22,6 +23,31 @@ use std::alloc::Global;
 pub struct PendingAnswer {
     pub making: PendingReply,
     pub outbox: FrameSender,
+}
+
+/// The whole answer to a request, and what its step sends.
+#[derive(Drop)]
+pub struct Answered {
+    pub reply: ReplyBytes,
+    /// The frames to be sent, in order, each with the place of the peer that it goes to.
+    pub frames: Vec<(Place, Frame)>,
+    /// How many frames were left out.
+    pub unsent: Unsent,
+}
+
+impl PendingAnswer {
+    /// The whole answer: what is left of a list is written.
+    pub(crate) fn finish(self, alloc: Global) -> Answered
+        ensures reply { IsMadeOf self.making (answer_in result).reply }
+        ensures sent { (answer_in result).sent ≡ self.outbox }
+    {
+        let FrameSender { frames, unsent } = self.outbox;
+        Answered {
+            reply: self.making.finish(alloc),
+            frames,
+            unsent,
+        }
+    }
 }
 
 /// An answer whose reply is whole already, and with which nothing is sent.
@@ -97,4 +123,20 @@ pub fn begin_answer(
         Ok(event) => step(alloc, instance, event, now),
         Err(refusal) => refuse(alloc, &refusal),
     }
+}
+
+/// Answers a request by one step at `now`. `bits` are random: a silence that it makes gets its identifier by them.
+///
+/// Where no step is made the instance is as it was, and nothing is sent. Where memory runs out, that is what is answered; the
+/// step may stand then, and its frames are answered.
+pub fn answer(
+    alloc: Global,
+    instance: &mut Instance,
+    request: &Request,
+    bits: u128,
+    now: Moment,
+) -> Answered
+    ensures { IsRequestAnswer instance.old request.now bits now (answer_in result) instance.new }
+{
+    begin_answer(alloc, instance, request, bits, now).finish(alloc)
 }

@@ -8,11 +8,13 @@ mod filters;
 mod patterns;
 mod pending_reply;
 mod replies;
+mod serving;
 mod table;
 
 pub use am_http::{Read, Refusal, Request, read_request};
-pub use answering::{PendingAnswer, begin_answer, refuse};
+pub use answering::{Answered, PendingAnswer, answer, begin_answer, refuse};
 pub use events::to_event;
 pub use patterns::patterns_of;
 pub use pending_reply::PendingReply;
 pub use replies::{ReplyBytes, to_bytes};
+pub use serving::{ServeFault, Served, serve};

@@ -3,14 +3,15 @@
 use crate::events::fed;
 use crate::members::{copied, name_at, print_held};
 use crate::steps::print_error;
-use am_gossip::FrameError;
-use am_http::session::Session;
-use am_instance::{FrameSender, Instance, StepError};
-use am_member::apply_session_output;
-use am_part_cases::common::{Brittle, Call, Case, Cut, Fault, Pieces, cut, phrase};
+use am_api_silences::{ServeFault, Served, serve};
+use am_connection::{Ended, SendError, connection, send};
+use am_gossip::{Frame, FrameError};
+use am_instance::{Instance, StepError};
+use am_part_cases::common::{Brittle, Call, Case, Cut, Fault, How, Pieces, cut, phrase};
 use am_part_cases::{given, put, say};
-use am_peers::{Fault as Cause, frames_text, greeting};
+use am_peers::Fault as Cause;
 use am_version_order::Moment;
+use std::io::Read;
 
 /// A connection that comes to a copy of a member.
 #[derive(Clone, Copy)]
@@ -18,92 +19,103 @@ struct Coming<'a> {
     instance: &'a Instance,
     now: Moment,
     bits: u128,
-    /// How many bytes come at first, where these are not 0.
-    first: usize,
-    /// No more is told than the reply where nothing else comes of it.
+    /// One request comes. No more is told than the reply where nothing else comes of it.
     is_request: bool,
+    /// The status is told too.
+    has_status: bool,
 }
 
 /// What is told of a connection beside the reply.
 #[derive(Drop)]
 struct Seen {
-    sent: FrameSender,
-    ticked: bool,
-    stop: Option<Cause>,
+    ended: Ended,
+    status: Option<u16>,
+}
+
+/// What came of a request, as what came of its connection.
+fn served(served: Served) -> Seen {
+    let Served {
+        status,
+        frames,
+        unsent,
+        fault,
+    } = served;
+    let fault = fault.map(|fault| match fault {
+        ServeFault::Read { at } => Cause::Read { at },
+        ServeFault::Write { written } => Cause::Write { written },
+    });
+    let ended = Ended {
+        frames,
+        unsent,
+        ticked: false,
+        fault,
+    };
+    Seen { ended, status }
 }
 
 impl Coming<'_> {
-    /// Comes to the member until no more is heard, and then the end. What is written is put behind `reply`.
-    fn come(
+    /// Comes to the member.
+    fn come<R: Read>(
         &self,
         case: &Case,
         member: &mut Instance,
-        reader: &mut Pieces<'_>,
-        reply: &mut Vec<u8>,
+        reader: &mut R,
+        writer: &mut Brittle,
     ) -> Seen {
-        let mut session = Session::new(case.alloc);
-        let (mut sent, mut ticked, mut stop) = (FrameSender::new(case.alloc), false, None);
-        for number in 0..=reader.left.len() {
-            if session.is_over() {
-                break;
-            }
-            let is_first = number == 0 && self.first > 0;
-            let most = if is_first { self.first } else { reader.step };
-            let said = reader.feed(&mut session, most);
-            let came = apply_session_output(
-                case.alloc,
-                member,
-                &mut session,
-                said,
-                self.bits,
-                self.now,
-            );
-            ticked |= came.effects.ticked;
-            sent.add(came.effects.outbox);
-            stop = stop.or(came.fault);
-            if let Some(making) = came.reply {
-                case.append(reply, making.finish(case.alloc).as_slice());
-            }
+        let (bits, now) = (self.bits, self.now);
+        if self.is_request {
+            return served(serve(case.alloc, member, reader, writer, bits, now));
         }
-        Seen { sent, ticked, stop }
+        Seen {
+            ended: connection(case.alloc, member, reader, writer, bits, now),
+            status: None,
+        }
+    }
+
+    fn print_seen(&self, case: &Case, member: &Instance, seen: &Seen) {
+        if let (true, Some(status)) = (self.has_status, seen.status) {
+            put!(case; status, ", ");
+        }
+        print_held(case, "holds ", member);
+        let frames = seen.ended.frames.as_slice();
+        if let Some((place, _)) = frames.first() {
+            put!(case; ", sends ", frames.len(), ", first to ", name_at(member.config(), *place));
+        }
+        case.put(if seen.ended.ticked { ", ticked" } else { "" });
+        match &seen.ended.fault {
+            Some(Cause::Step(error)) => {
+                case.put(", ");
+                print_error(case, error);
+            }
+            Some(Cause::Read { .. } | Cause::Write { .. }) => case.put(", "),
+            Some(other) => put!(case; ", ", ?other),
+            None => {}
+        }
     }
 }
 
 /// Fails where memory ran out for a step, for frames to peers, or for the reply.
 fn fail_without_memory(case: &Case, seen: &Seen, reply: &[u8]) {
-    let is_memory = match seen.stop {
+    let is_memory = match seen.ended.fault {
         Some(Cause::Frame(FrameError::Memory) | Cause::Step(StepError::Memory { .. })) => true,
-        _ => seen.sent.unsent.memory > 0 || reply.ends_with(b"\"out of memory\""),
+        _ => seen.ended.unsent.memory > 0 || reply.ends_with(b"\"out of memory\""),
     };
     if is_memory {
         case.fail(Fault::Memory);
     }
 }
 
-fn print_seen(case: &Case, member: &Instance, seen: &Seen) {
-    print_held(case, "holds ", member);
-    let frames = seen.sent.frames.as_slice();
-    if let Some((place, _)) = frames.first() {
-        put!(case; ", sends ", frames.len(), ", first to ", name_at(member.config(), *place));
-    }
-    case.put(if seen.ticked { ", ticked" } else { "" });
-    match &seen.stop {
-        Some(Cause::Step(error)) => {
-            case.put(", ");
-            print_error(case, error);
-        }
-        Some(other) => put!(case; ", ", ?other),
-        None => {}
-    }
-}
-
 impl Call for Coming<'_> {
     fn make(&self, case: &Case, reader: &mut Pieces<'_>, writer: &mut Brittle) -> Option<Cut> {
         let mut member = copied(case, self.instance)?;
-        let seen = self.come(case, &mut member, reader, &mut writer.taken);
+        let seen = self.come(case, &mut member, reader, writer);
         fail_without_memory(case, &seen, writer.taken.as_slice());
-        print_seen(case, &member, &seen);
-        None
+        self.print_seen(case, &member, &seen);
+        match seen.ended.fault {
+            Some(Cause::Read { at }) => Some(("Read", at)),
+            Some(Cause::Write { written }) => Some(("Write", written)),
+            _ => None,
+        }
     }
 }
 
@@ -123,21 +135,21 @@ pub fn connect(case: &Case, instance: &mut Instance, is_whole: bool, verb: &str,
             "all ones" => u128::MAX,
             word => word.parse::<u128>().unwrap_or(0),
         },
-        first: 0,
         is_request: verb == "ask",
+        has_status: phrases.contains("status"),
     };
     let how = case.how(phrases, bytes.as_slice());
     if !how.each.is_empty() {
         return case.say_text(case.make(&coming, &how).taken.as_slice());
     }
     let mut reader = Pieces::new(how.input, how.step, 0);
-    given!((answer, member) = tried(case, &coming, &mut reader));
+    given!((answer, member) = tried(case, &coming, &how, &mut reader));
     case.put(answer.as_str());
     if phrases.contains("counted") {
         say!(case; reader.calls, " reads, ", reader.left.len(), " bytes left");
     }
     if !is_whole {
-        say_differences(case, &coming, how.input, answer.as_str());
+        say_differences(case, &coming, &how, answer.as_str());
     }
     if case.is_fine() {
         *instance = member;
@@ -152,16 +164,25 @@ fn post(case: &Case, body: &str) -> Vec<u8> {
 }
 
 /// What a copy of the member answers, and how it stands then.
-fn tried(case: &Case, coming: &Coming<'_>, reader: &mut Pieces<'_>) -> Option<(String, Instance)> {
+fn tried<R: Read>(
+    case: &Case,
+    coming: &Coming<'_>,
+    how: &How<'_>,
+    reader: &mut R,
+) -> Option<(String, Instance)> {
     let part = Case::new(case.alloc);
     let mut member = copied(case, coming.instance)?;
-    let mut reply = Vec::new(case.alloc);
-    let seen = coming.come(&part, &mut member, reader, &mut reply);
-    fail_without_memory(&part, &seen, reply.as_slice());
-    part.say_text(reply.as_slice());
-    let is_quiet = seen.sent.frames.is_empty() && seen.stop.is_none();
-    if !coming.is_request || reply.is_empty() || !is_quiet {
-        print_seen(&part, &member, &seen);
+    let mut writer = part.writer(how, 0);
+    let seen = coming.come(&part, &mut member, reader, &mut writer);
+    let reply = writer.taken.as_slice();
+    fail_without_memory(&part, &seen, reply);
+    if matches!(seen.ended.fault, Some(Cause::Write { .. })) {
+        part.fail(Fault::Memory);
+    }
+    part.say_text(reply);
+    let is_quiet = seen.ended.frames.is_empty() && seen.ended.fault.is_none();
+    if !coming.is_request || coming.has_status || reply.is_empty() || !is_quiet {
+        coming.print_seen(&part, &member, &seen);
         part.put("\n");
     }
     case.fail_as(&part);
@@ -169,29 +190,47 @@ fn tried(case: &Case, coming: &Coming<'_>, reader: &mut Pieces<'_>) -> Option<(S
 }
 
 /// Says where copies answer otherwise to the bytes in two pieces, or byte by byte (place 0); over 600 bytes at a few places.
-fn say_differences(case: &Case, coming: &Coming<'_>, bytes: &[u8], whole: &str) {
+fn say_differences(case: &Case, coming: &Coming<'_>, how: &How<'_>, whole: &str) {
+    let bytes = how.input;
     let few = bytes.len() / 7;
     let every = if bytes.len() > 600 { few } else { 1 };
     for first in (0..bytes.len()).step_by(every.max(1)) {
         let step = if first == 0 { 1 } else { usize::MAX };
-        let coming = Coming { first, ..*coming };
-        given!((answer, _member) = tried(case, &coming, &mut Pieces::new(bytes, step, 0)));
+        let (front, rest) = bytes.split_at(first);
+        let front = Pieces::new(front, usize::MAX, 0);
+        let mut reader = front.chain(Pieces::new(rest, step, 0));
+        given!((answer, _member) = tried(case, coming, how, &mut reader));
         if answer.as_str() != whole {
             say!(case; "in pieces: at ", first, " ", answer);
         }
     }
 }
 
-/// `send NAME: FRAMES`: what goes out to a peer, the greeting of a name and frames behind it.
-pub fn send(case: &Case, rest: &str) {
-    let (name, digits) = cut(rest, ": ");
-    let Some(mut out) = case.got(greeting(case.alloc, name), FrameError::Memory) else {
-        return case.say_bytes(&[]);
-    };
+/// What goes out to a peer.
+#[derive(Clone, Copy)]
+struct Sending<'a> {
+    name: &'a str,
+    frames: &'a [Frame],
+}
+
+impl Call for Sending<'_> {
+    fn make(&self, case: &Case, _reader: &mut Pieces<'_>, writer: &mut Brittle) -> Option<Cut> {
+        match send(case.alloc, self.name, self.frames, writer) {
+            Ok(count) => put!(case; count, " bytes"),
+            Err(SendError::Write { written }) => return Some(("Write", written)),
+            Err(SendError::Length) => case.put("Length"),
+            Err(SendError::Memory) => case.fail(Fault::Memory),
+        }
+        None
+    }
+}
+
+/// `send NAME: FRAMES` and `send NAME, PHRASES: FRAMES`
+pub fn say_sent(case: &Case, rest: &str) {
+    let (phrases, digits) = cut(rest, ": ");
+    let (name, phrases) = cut(phrases, ", ");
     given!(fed = fed(case, digits));
-    let text = frames_text(case.alloc, fed.frames.as_slice());
-    given!(text = case.got(text, FrameError::Memory));
-    case.append(&mut out, text.as_slice());
-    say!(case; out.len(), " bytes");
-    case.say_bytes(out.as_slice());
+    let frames = fed.frames.as_slice();
+    let sent = case.make(&Sending { name, frames }, &case.how(phrases, &[]));
+    case.say_bytes(sent.taken.as_slice());
 }

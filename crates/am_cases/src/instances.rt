@@ -2,7 +2,7 @@
 
 use crate::calls::call;
 use crate::clusters::{carried, cluster, refused, replay, settle, steps};
-use crate::connections::{connect, send};
+use crate::connections::{connect, say_sent};
 use crate::events::{asks, say_event};
 use crate::members::{begin, hold, say_config, say_state};
 use crate::steps::happen;
@@ -45,7 +45,7 @@ pub fn answer(case: &Case, member: &mut Option<Instance>, is_whole: bool, verb: 
 fn alone(case: &Case, verb: &str, rest: &str) {
     match verb {
         "whole" => {}
-        "send" if !rest.starts_with("in pieces of ") => send(case, rest),
+        "send" if !rest.starts_with("in pieces of ") => say_sent(case, rest),
         "reply" if rest == "too large" => say_reply(case, &Reply::Refused(SilenceError::TooLarge)),
         "reply" if rest == "no silence" => {
             say_reply(case, &Reply::Silences(Vec::new(case.alloc)));

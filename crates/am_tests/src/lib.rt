@@ -1,5 +1,5 @@
 //! Tests of what no case of text reaches: impls at types of a test's own, lists in blocks, versions of 64 MiB, connections of
-//! 128 MiB, random runs, a log in a file, and a member's clock. What they see is public, so they stand here, and no other proof
+//! 128 MiB, random runs, a log in a file, a member's clock, and a connection over a socket. What they see is public, so they stand here, and no other proof
 //! waits for them.
 #![tactic(auto)]
 
@@ -21,3 +21,5 @@ mod notes;
 mod runs;
 #[cfg(test)]
 mod sizes;
+#[cfg(test)]
+mod turns;

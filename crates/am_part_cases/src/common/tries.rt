@@ -147,7 +147,8 @@ impl Case {
         }
     }
 
-    fn writer(&self, how: &How<'_>, stops_at: usize) -> Brittle {
+    /// The writer of a try.
+    pub fn writer(&self, how: &How<'_>, stops_at: usize) -> Brittle {
         let taken = self.made(Vec::with_capacity(self.alloc, ROOM));
         Brittle {
             taken: taken.unwrap_or(Vec::new(self.alloc)),

@@ -1,0 +1,60 @@
+//! What came of a connection.
+
+ghost use Rattle.std.specs.Prelude.{◌≡◌};
+ghost use Rattle.am_connection.specs.Connections.{AddsAll, effects_of};
+ghost use Rattle.am_member.specs.Incoming.{no_effects};
+
+use am_gossip::Frame;
+use am_instance::{FrameSender, Place, Unsent};
+use am_member::StepEffects;
+use am_peers::Fault;
+use std::alloc::Global;
+
+/// What came of a connection that has ended.
+#[derive(Drop)]
+pub struct Ended {
+    /// The frames to be sent, in order, each with the place of the peer that it goes to.
+    pub frames: Vec<(Place, Frame)>,
+    /// How many frames were left out.
+    pub unsent: Unsent,
+    /// A Tick was among the steps that were made.
+    pub ticked: bool,
+    /// Why it ended before its input did.
+    pub fault: Option<Fault>,
+}
+
+impl Ended {
+    /// A connection whose steps had these effects.
+    pub(crate) fn new(effects: StepEffects, fault: Option<Fault>) -> Ended
+        ensures effects { effects_of result ≡ effects }
+        ensures fault { result.fault ≡ fault }
+    {
+        let StepEffects { outbox, ticked } = effects;
+        let FrameSender { frames, unsent } = outbox;
+        Ended {
+            frames,
+            unsent,
+            ticked,
+            fault,
+        }
+    }
+}
+
+/// No step was made. It takes no memory.
+pub fn no_effects(alloc: Global) -> StepEffects
+    ensures { result ≡ no_effects }
+{
+    StepEffects {
+        outbox: FrameSender::new(alloc),
+        ticked: false,
+    }
+}
+
+/// Adds the effects of more steps. Frames that there is no memory for are counted.
+pub fn add(effects: &mut StepEffects, more: StepEffects)
+    ensures { AddsAll more effects.old effects.new }
+{
+    let StepEffects { outbox, ticked } = more;
+    effects.ticked |= ticked;
+    effects.outbox.add(outbox);
+}
