@@ -10,15 +10,15 @@ use Rattle.am_beside.specs.Sieves.AreChosen.{nothing, chosen, left_out}
 module _ {X : Type 0} (passes : X → Bool → Type 0) where
   -- one more that passes is chosen, too
   pub chosen_behind : (v : X) (looked some : List X) → passes v true → AreChosen passes looked some → AreChosen passes (looked ++ v ∷ []) (some ++ v ∷ [])
-  chosen_behind v [] [] yes nothing = chosen yes nothing
-  chosen_behind v (w ∷ looked) (w ∷ some) yes (chosen it rest) = chosen it (chosen_behind v looked some yes rest)
-  chosen_behind v (w ∷ looked) some yes (left_out it rest) = left_out it (chosen_behind v looked some yes rest)
+  chosen_behind v _ _ does nothing = chosen does nothing
+  chosen_behind v _ _ does (chosen it rest) = chosen it (chosen_behind v _ _ does rest)
+  chosen_behind v _ _ does (left_out it rest) = left_out it (chosen_behind v _ _ does rest)
 
   -- one more that doesn't is left out
   pub left_out_behind : (v : X) (looked some : List X) → passes v false → AreChosen passes looked some → AreChosen passes (looked ++ v ∷ []) some
-  left_out_behind v [] [] no nothing = left_out no nothing
-  left_out_behind v (w ∷ looked) (w ∷ some) no (chosen it rest) = chosen it (left_out_behind v looked some no rest)
-  left_out_behind v (w ∷ looked) some no (left_out it rest) = left_out it (left_out_behind v looked some no rest)
+  left_out_behind v _ _ fails nothing = left_out fails nothing
+  left_out_behind v _ _ fails (chosen it rest) = chosen it (left_out_behind v _ _ fails rest)
+  left_out_behind v _ _ fails (left_out it rest) = left_out it (left_out_behind v _ _ fails rest)
 
 module _ {K X : Type 0} (seen : X → Version K) (passes : X → Bool → Type 0) where
   -- the row is that of the versions that pass, of those before the ones that are left
@@ -37,11 +37,11 @@ module _ {K X : Type 0} (seen : X → Version K) (passes : X → Bool → Type 0
 
   -- one that passes stands behind those before it
   pub sifting_takes : (all : List X) (v : X) (left : List X) (row : List ℕ) → passes v true → IsSifting all (v ∷ left) row → IsSifting all left (row ++ delimited (seen v).content)
-  sifting_takes all v left row yes so_far = record {
+  sifting_takes all v left row does so_far = record {
     looked = so_far.looked ++ v ∷ [];
     parts = one_behind so_far.looked v left all so_far.parts;
     some = so_far.some ++ v ∷ [];
-    are = chosen_behind passes v so_far.looked so_far.some yes so_far.are;
+    are = chosen_behind passes v so_far.looked so_far.some does so_far.are;
     text = sym (
         flat_map-append (λ w. delimited (seen w).content) so_far.some (v ∷ [])
         ∙ ap (λ bytes. row_text seen so_far.some ++ bytes) (append-nil (delimited (seen v).content))
@@ -51,11 +51,11 @@ module _ {K X : Type 0} (seen : X → Version K) (passes : X → Bool → Type 0
 
   -- one that doesn't is left out
   pub sifting_skips : (all : List X) (v : X) (left : List X) (row : List ℕ) → passes v false → IsSifting all (v ∷ left) row → IsSifting all left row
-  sifting_skips all v left row no so_far = record {
+  sifting_skips all v left row fails so_far = record {
     looked = so_far.looked ++ v ∷ [];
     parts = one_behind so_far.looked v left all so_far.parts;
     some = so_far.some;
-    are = left_out_behind passes v so_far.looked so_far.some no so_far.are;
+    are = left_out_behind passes v so_far.looked so_far.some fails so_far.are;
     text = so_far.text;
   }
 

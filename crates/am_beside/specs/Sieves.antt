@@ -1,6 +1,6 @@
 -- Versions that are looked for in stretches.
 -- X is the type of versions, and `seen` is what the merge sees of one.
-use Rattle.std.specs.Prelude.{◌≡◌, ◌⊎◌, ℕ, ◌<◌, Bool, true, false, List, [], ◌∷◌, ◌++◌, length, Option, Some, None}
+use Rattle.std.specs.Prelude.{◌≡◌, ◌⊎◌, ℕ, Bool, true, false, List, [], ◌∷◌, ◌++◌, Option, Some, None}
 use Rattle.std.specs.declared.cmp.Ordering.{Ordering}
 use Rattle.am_version_order.specs.Versions.{Version}
 use Rattle.am_matcher.specs.declared.hazard.Hazard.{Hazard}
@@ -26,8 +26,8 @@ module _ {K X : Type 0} (seen : X → Version K) where
 
     -- a version that passes is lacked by a map, or is handed to a replica
     abbrev pub Passes : Sieve X K → X → Bool → Type 0
-    Passes (Lacked held) v yes = yes ≡ replaces seen cmp held.now v
-    Passes (Given held now) v yes = IsHanded now held.now v yes
+    Passes (Lacked held) v b = b ≡ replaces seen cmp held.now v
+    Passes (Given held now) v b = IsHanded now held.now v b
 
   -- the key of the first version, where there is one
   abbrev pub first_key : List X → Option K

@@ -17,6 +17,7 @@ use std::alloc::{AllocError, Global};
 /// # Errors
 ///
 /// [`AllocError`] where memory runs out.
+#[tactic(auto, using(crate::proofs::Sifted::sifting_begins))]
 pub fn sift<V: Handed>(
     alloc: Global,
     sieve: &Sieve<'_, V>,
