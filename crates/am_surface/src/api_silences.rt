@@ -14,7 +14,7 @@ pub fn calls(alloc: Global) -> Option<()> {
     refusals(alloc)
 }
 
-/// A request for the list of all silences.
+/// Returns a request for the list of all silences.
 pub fn request(alloc: Global) -> Option<Request> {
     let read: Read = read_request(alloc, b"GET /api/v2/silences HTTP/1.1\r\n\r\n", true);
     match read {

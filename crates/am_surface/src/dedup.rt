@@ -13,7 +13,7 @@ pub fn calls(alloc: Global) -> Option<()> {
     holds(number_of(decision) == 2 && due == Some(at(12)))
 }
 
-/// The place of a decision in the table of decisions; 0 for none to notify.
+/// Returns the place of a decision in the table of decisions; 0 for none to notify.
 fn number_of(decision: Decision) -> usize {
     match decision {
         Decision::Skip => 0,

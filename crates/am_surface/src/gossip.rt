@@ -50,7 +50,7 @@ fn feeds(alloc: Global) -> Option<()> {
     holds(frames.len() == 1 && fault.is_none() && waiting == 1)
 }
 
-/// The fault in a payload, if it is one.
+/// Returns the fault in a payload, if it is one.
 fn fault_in(error: FrameError) -> Option<WireError> {
     match error {
         FrameError::Wire(fault) => Some(fault),

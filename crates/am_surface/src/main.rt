@@ -2,10 +2,14 @@
 //! type changes, this no longer compiles. Says of each crate whether its calls answered as they should.
 #![tactic(auto)]
 
+mod answers;
 mod api_silences;
+mod collect;
+mod connection;
 mod dedup;
 mod gossip;
 mod instance;
+mod laws;
 mod matcher;
 mod merge;
 mod nflog;
@@ -16,10 +20,6 @@ mod silence;
 mod snapshot;
 mod version_order;
 mod wire;
-// (to be built with am_collect's Keeper, `answer` and `serve`, and am_connection, and called below)
-// mod answers;
-// mod collect;
-// mod connection;
 
 use std::io;
 use std::process::ExitCode;
@@ -32,6 +32,7 @@ fn main(rt: HostRuntime) -> ExitCode {
 }
 
 fn say_all(rt: &HostRuntime) -> io::Result<()> {
+    laws::calls();
     say_versions(rt)?;
     say_rules(rt)?;
     say_members(rt)
@@ -48,7 +49,7 @@ fn say_versions(rt: &HostRuntime) -> io::Result<()> {
 
 fn say_rules(rt: &HostRuntime) -> io::Result<()> {
     let alloc = rt.alloc();
-    // say(rt, "am_collect", collect::calls(alloc))?;
+    say(rt, "am_collect", collect::calls(alloc))?;
     say(rt, "am_snapshot", snapshot::calls(alloc))?;
     say(rt, "am_dedup", dedup::calls(alloc))?;
     say(rt, "am_matcher", matcher::calls(alloc))?;
@@ -59,8 +60,8 @@ fn say_members(rt: &HostRuntime) -> io::Result<()> {
     let alloc = rt.alloc();
     say(rt, "am_instance", instance::calls(alloc))?;
     say(rt, "am_api_silences", api_silences::calls(alloc))?;
-    // say(rt, "am_api_silences, with a step", answers::calls(alloc))?;
-    // say(rt, "am_connection", connection::calls(alloc))?;
+    say(rt, "am_api_silences, with a step", answers::calls(alloc))?;
+    say(rt, "am_connection", connection::calls(alloc))?;
     say(rt, "am_schedule", schedule::calls(alloc))?;
     say(rt, "am_replay", replay::calls(alloc))
 }

@@ -41,7 +41,7 @@ fn filters(alloc: Global) -> Option<()> {
     holds(answer.ok()?)
 }
 
-/// The labels of an alert of that job.
+/// Returns the labels of an alert of that job.
 pub fn labels(alloc: Global) -> Option<Labels> {
     let name = text(alloc, "job")?;
     let value = text(alloc, "x")?;

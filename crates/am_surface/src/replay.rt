@@ -50,7 +50,7 @@ fn runs(alloc: Global) -> Option<()> {
     }
 }
 
-/// The count that an error of a replay has; 0 where it has none.
+/// Returns the count that an error of a replay has; 0 where it has none.
 fn place_in(error: ReplayError) -> u64 {
     match error {
         ReplayError::Read { at } => at as u64,

@@ -15,27 +15,27 @@ pub const ROW: [u8; 33] = [
     0x01,
 ];
 
-/// Goes on where a test holds.
+/// Goes on if a test holds.
 pub fn holds(test: bool) -> Option<()> {
     test.then_some(())
 }
 
-/// The moment of so many seconds since 1970.
+/// Makes the moment of so many seconds since 1970.
 pub fn at(seconds: u32) -> Moment {
     Moment::from_parts(i64::from(seconds), 0).unwrap_or(Moment::LEAST)
 }
 
-/// A second.
+/// Makes an interval of a second.
 pub fn second() -> Option<Interval> {
     Interval::from_nanos(1_000_000_000)
 }
 
-/// A text of its own.
+/// Makes a text of its own.
 pub fn text(alloc: Global, text: &str) -> Option<Text> {
     Text::copied(alloc, text).ok()
 }
 
-/// The matcher job="x".
+/// Makes the matcher job="x".
 pub fn matcher(alloc: Global) -> Option<Matcher> {
     let name = text(alloc, "job")?;
     let pattern = text(alloc, "x")?;
@@ -46,20 +46,20 @@ pub fn matcher(alloc: Global) -> Option<Matcher> {
     })
 }
 
-/// A list of that matcher.
+/// Makes a list of that matcher.
 pub fn matcher_list(alloc: Global) -> Option<Vec<Matcher>> {
     let mut list = Vec::new(alloc);
     list.push(matcher(alloc)?).ok()?;
     Some(list)
 }
 
-/// That matcher, as those of a silence.
+/// Makes that matcher, as those of a silence are kept.
 pub fn matchers(alloc: Global) -> Option<Matchers> {
     let list = matcher_list(alloc)?;
     Matchers::new(alloc, &list).ok()
 }
 
-/// The silence of [`ROW`].
+/// Makes the silence of [`ROW`].
 pub fn silence(alloc: Global) -> Option<Silence> {
     let id = text(alloc, "a")?;
     let matchers = matchers(alloc)?;
@@ -76,13 +76,13 @@ pub fn silence(alloc: Global) -> Option<Silence> {
     })
 }
 
-/// The version of [`ROW`].
+/// Makes the version of [`ROW`].
 pub fn version(alloc: Global) -> Option<MeshSilence> {
     let silence = silence(alloc)?;
     MeshSilence::new(alloc, silence, at(200)).ok()
 }
 
-/// The same silence as it is posted, under no identifier.
+/// Makes the same silence as it is posted, under no identifier.
 pub fn posted(alloc: Global) -> Option<Posted> {
     let matchers = matchers(alloc)?;
     let created_by = text(alloc, "")?;
@@ -97,19 +97,19 @@ pub fn posted(alloc: Global) -> Option<Posted> {
     })
 }
 
-/// The map of that version.
+/// Makes the map of that version.
 pub fn held(alloc: Global) -> Option<Held<MeshSilence>> {
     let mut held = Held::new(alloc);
     held.take(version(alloc)?, at(10)).ok()?;
     Some(held)
 }
 
-/// The key of a group.
+/// Makes the key of a group.
 pub fn group_key(alloc: Global) -> Option<Bytes> {
     Bytes::copied(alloc, b"g").ok()
 }
 
-/// A receiver.
+/// Makes a receiver.
 pub fn receiver(alloc: Global) -> Option<Receiver> {
     let group_name = text(alloc, "r")?;
     let integration = text(alloc, "w")?;
@@ -120,7 +120,7 @@ pub fn receiver(alloc: Global) -> Option<Receiver> {
     })
 }
 
-/// The hashes 1 and 2.
+/// Makes the hashes 1 and 2.
 pub fn hashes(alloc: Global) -> Option<Hashes> {
     let mut hashes = Vec::new(alloc);
     hashes.push(1).ok()?;
@@ -128,7 +128,7 @@ pub fn hashes(alloc: Global) -> Option<Hashes> {
     Some(Hashes::new(hashes))
 }
 
-/// An entry of the log, made at 10.
+/// Makes an entry of the log, made at 10.
 pub fn entry(alloc: Global) -> Option<Entry> {
     let key = LogKey::new(alloc, b"g", &receiver(alloc)?).ok()?;
     let firing_alerts = hashes(alloc)?;
@@ -142,27 +142,27 @@ pub fn entry(alloc: Global) -> Option<Entry> {
     })
 }
 
-/// Its version, kept until 200.
+/// Makes its version, kept until 200.
 pub fn logged(alloc: Global) -> Option<MeshEntry> {
     let entry = entry(alloc)?;
     MeshEntry::new(alloc, entry, at(200)).ok()
 }
 
-/// The names of the peers of `a`: `b` alone.
+/// Makes the names of the peers of `a`: `b` alone.
 pub fn peers(alloc: Global) -> Option<Vec<Text>> {
     let mut peers = Vec::new(alloc);
     peers.push(text(alloc, "b")?).ok()?;
     Some(peers)
 }
 
-/// The configuration of the member `a`.
+/// Makes the configuration of the member `a`.
 pub fn config(alloc: Global) -> Option<Config> {
     let name = text(alloc, "a")?;
     let peers = peers(alloc)?;
     Config::new(alloc, name, peers, second()?, second()?).ok()
 }
 
-/// The member `a`, which holds the version of [`ROW`].
+/// Makes the member `a`, which holds the version of [`ROW`].
 pub fn instance(alloc: Global) -> Option<Instance> {
     let config = config(alloc)?;
     let silences = held(alloc)?;

@@ -45,7 +45,7 @@ fn number_of(kind: FaultKind) -> usize {
     }
 }
 
-/// The step of a line, if it is one.
+/// Returns the step of a line, if it is one.
 pub fn step_of(line: &Line) -> Option<&Step> {
     match line {
         Line::Step(step) => Some(step),

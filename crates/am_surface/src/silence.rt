@@ -82,7 +82,7 @@ fn expires(alloc: Global) -> Option<()> {
     holds(ended.ends_at() == at(20))
 }
 
-/// The moment that a refusal has.
+/// Returns the moment that a refusal has.
 fn moment_in(refusal: SilenceError) -> Option<Moment> {
     match refusal {
         SilenceError::Newer { held } => Some(held),

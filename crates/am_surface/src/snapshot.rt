@@ -41,7 +41,7 @@ fn folds(alloc: Global) -> Option<()> {
     holds(folded.ok()? == 33 && row.as_slice() == ROW.as_slice())
 }
 
-/// The count that a fault has; 0 where it has none.
+/// Returns the count that a fault has; 0 where it has none.
 fn place_in(fault: SnapshotError) -> u64 {
     match fault {
         SnapshotError::Read { at } => at as u64,
@@ -53,7 +53,7 @@ fn place_in(fault: SnapshotError) -> u64 {
     }
 }
 
-/// The same of a fold.
+/// Returns the same of a fold.
 fn place_in_fold(fault: FoldError) -> u64 {
     match fault {
         FoldError::Read { at } => at as u64,

@@ -34,7 +34,7 @@ fn fields() -> Option<()> {
     holds(number == 1 && at == 0 && number_in(field.value) == 5)
 }
 
-/// The number of a value, or how many bytes it has.
+/// Returns the number of a value, or how many bytes it has.
 fn number_in(value: Value<'_>) -> u64 {
     match value {
         Value::Varint(number) | Value::Eight(number) => number,
@@ -66,7 +66,7 @@ fn read_rows(alloc: Global) -> Option<()> {
     holds(matches!(first, Ok(Some(_))) && matches!(end, Ok(None)))
 }
 
-/// The place that a fault of a row has; 0 where it has none.
+/// Returns the place that a fault of a row has; 0 where it has none.
 fn place_in(fault: RowFault) -> usize {
     match fault {
         RowFault::Read { at } => at,
@@ -75,7 +75,7 @@ fn place_in(fault: RowFault) -> usize {
     }
 }
 
-/// The place, or the field's number, that a fault has; 0 where it has none.
+/// Returns the place, or the field's number, that a fault has; 0 where it has none.
 fn place_of(fault: WireError) -> usize {
     match fault {
         WireError::Truncated { at }
