@@ -3,7 +3,7 @@
 /// The fields of the head that are about the page: its type, and what a browser is to let it do.
 pub const FIELDS: &str = "\
 content-type: text/html; charset=utf-8\r\n\
-content-security-policy: default-src 'none'; script-src 'sha256-iXe2IulcpE2WRDeX5RYwKllatwciww6iaecxli9DKj4='; style-src 'sha256-AVZGnS2QOhhFd8sEJaR8CHArex1rcFLfvaMCskM1bNw='; connect-src 'self'; img-src data:; base-uri 'none'; form-action 'none'; frame-ancestors 'none'; require-trusted-types-for 'script'; trusted-types 'none'\r\n\
+content-security-policy: default-src 'none'; script-src 'sha256-Fufr/AvKFkwy9rpRklzbTo8Lsa2cW1fG2ysveQptAL8='; style-src 'sha256-AVZGnS2QOhhFd8sEJaR8CHArex1rcFLfvaMCskM1bNw='; connect-src 'self'; img-src data:; base-uri 'none'; form-action 'none'; frame-ancestors 'none'; require-trusted-types-for 'script'; trusted-types 'none'\r\n\
 x-content-type-options: nosniff\r\n\
 referrer-policy: no-referrer\r\n\
 cache-control: no-cache\r\n\
@@ -527,9 +527,19 @@ const drawnAgain = (element) => {\n\
 \x20\x20return element?.isConnected ? element : [...document.querySelectorAll(\"[data-key]\")].find((it) => key && it.dataset.key === key);\n\
 };\n\
 \n\
+// Who waits for a person's answer; a question that another one takes the place of is answered no.\n\
+let answered = null;\n\
+const answer = (goes) => {\n\
+\x20\x20const done = answered;\n\
+\x20\x20answered = null;\n\
+\x20\x20if (at(\"asking\").open) at(\"asking\").close();\n\
+\x20\x20done?.(goes);\n\
+};\n\
+\n\
 // Asks a person whether to go on.\n\
 const asks = ({ head, what, changes = [], go, kind = \"main\", keeps = \"Cancel\", hasLength = false }) => new Promise((done) => {\n\
-\x20\x20const asking = at(\"asking\");\n\
+\x20\x20answer(false);\n\
+\x20\x20answered = done;\n\
 \x20\x20at(\"asking-head\").textContent = head;\n\
 \x20\x20at(\"asking-what\").replaceChildren(...what);\n\
 \x20\x20at(\"asking-changes\").replaceChildren(...changes.map((words) => make(\"li\", {}, written(words))));\n\
@@ -538,9 +548,7 @@ const asks = ({ head, what, changes = [], go, kind = \"main\", keeps = \"Cancel\
 \x20\x20at(\"keep\").textContent = keeps;\n\
 \x20\x20at(\"go\").textContent = go;\n\
 \x20\x20at(\"go\").className = kind;\n\
-\x20\x20asking.returnValue = \"\";\n\
-\x20\x20asking.addEventListener(\"close\", () => done(asking.returnValue === \"go\"), { once: true });\n\
-\x20\x20asking.showModal();\n\
+\x20\x20at(\"asking\").showModal();\n\
 \x20\x20at(hasLength ? \"longer\" : \"keep\").focus();\n\
 });\n\
 \n\
@@ -644,12 +652,11 @@ const expire = async (silence, button) => {\n\
 \n\
 // Shows what was done: in the list in its row, and else on the page of the silence.\n\
 const settled = async (id, words) => {\n\
-\x20\x20if (route.view === \"list\" || (route.view === \"one\" && route.id === id)) await look(true);\n\
-\x20\x20else {\n\
-\x20\x20\x20\x20history[route.view === \"edit\" ? \"replaceState\" : \"pushState\"](null, \"\", linkOf(id));\n\
-\x20\x20\x20\x20await shown();\n\
-\x20\x20}\n\
+\x20\x20const stays = route.view === \"list\" || (route.view === \"one\" && route.id === id);\n\
+\x20\x20if (!stays) history[route.view === \"edit\" ? \"replaceState\" : \"pushState\"](null, \"\", linkOf(id));\n\
+\x20\x20const shows = stays ? look(true) : shown();\n\
 \x20\x20if (route.view === \"one\") at(\"one-head\").focus();\n\
+\x20\x20await shows;\n\
 \x20\x20say(words);\n\
 };\n\
 \n\
@@ -1261,8 +1268,9 @@ hear(\"sort\", \"change\", search);\n\
 hear(\"judge\", \"submit\", sent(find));\n\
 hear(\"extend\", \"click\", () => extend(one.silence, at(\"extend\")));\n\
 hear(\"expire\", \"click\", () => expire(one.silence, at(\"expire\")));\n\
-hear(\"keep\", \"click\", () => at(\"asking\").close());\n\
-hear(\"go\", \"click\", () => at(\"asking\").close(\"go\"));\n\
+hear(\"keep\", \"click\", () => answer(false));\n\
+hear(\"go\", \"click\", () => answer(true));\n\
+hear(\"asking\", \"close\", () => { if (!at(\"asking\").open) answer(false); });\n\
 hear(\"add\", \"click\", () => {\n\
 \x20\x20fieldsOf(addMatcher(EMPTY))[0].focus();\n\
 \x20\x20keepDraft();\n\
