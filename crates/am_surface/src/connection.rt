@@ -20,7 +20,7 @@ pub fn calls(alloc: Global) -> Option<()> {
 fn sends(alloc: Global) -> Option<()> {
     let mut out: Vec<u8> = Vec::new(alloc);
     let sent: Result<u64, SendError> = send(alloc, "a", &[Frame::Tick], &mut out);
-    holds(sent.ok()? == 5 && out.as_slice() == b"\x00\x01a\x04\x00")
+    holds(sent.ok()? == 5 && out.as_slice() == b"\x00\x01a\x04\x00".as_slice())
 }
 
 fn connects(alloc: Global) -> Option<()> {
