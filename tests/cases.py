@@ -29,7 +29,7 @@ TOOL = f"{TOP}/crates/am_tool/out/am_tool"
 # The subjects of texts: each has its file.
 SUBJECTS = (
     "api calls carried clusters connections decisions events figures frames gossip hashes instance instance_large json log maps matchers"
-    " messages moments plans replays requests rows rows_large schedules seals sessions silences snapshots views wire"
+    " messages moments plans re2 replays requests rows rows_large schedules seals sessions silences snapshots views wire"
 ).split()
 
 # The files of all cases.

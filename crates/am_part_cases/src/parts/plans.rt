@@ -1,7 +1,7 @@
 //! Plans of a post and of an end, and the entry that a notification leaves.
 
 use crate::common::{Case, Printed, Spelled, behind, cut, first};
-use crate::parts::seals;
+use crate::parts::patterns;
 use am_nflog::{Bytes, Hashes, make_entry};
 use am_silence::{
     MeshSilence, Plan, Posted, Silence, SilenceError, Verdict, plan_expire, plan_post,
@@ -14,7 +14,7 @@ pub fn answer(case: &Case, verb: &str, rest: &str) {
         "plan-post" => post(case, rest),
         "plan-end" => end(case, rest),
         "made-entry" => made(case, rest),
-        _ => seals::answer(case, verb, rest),
+        _ => patterns::answer(case, verb, rest),
     }
 }
 

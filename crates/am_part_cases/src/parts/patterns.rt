@@ -1,0 +1,70 @@
+//! Patterns of RE2, and silences that no Alertmanager can hold.
+
+use crate::common::{Case, Spelled, first};
+use crate::parts::seals;
+use am_matcher::{BuildError, Compiled, Re2Error, hazard_of, re2_of};
+use am_silence::{MatcherKind, MatcherRef, MeshSilence};
+use am_wire::Text;
+
+/// Cases of patterns of RE2, and of hazards.
+pub fn answer(case: &Case, verb: &str, rest: &str) {
+    match verb {
+        "re2" => translate(case, rest),
+        "re2-matches" => matches(case, rest),
+        "hazard" => hazard(case, rest),
+        _ => seals::answer(case, verb, rest),
+    }
+}
+
+/// A word with escapes; `""` is the empty text.
+fn text_of(case: &Case, word: &str) -> Text {
+    let bytes = case.unescaped(if word == "\"\"" { "" } else { word });
+    case.text(str::from_utf8(bytes.as_slice()).unwrap_or("no text"))
+}
+
+/// The pattern of `regex` for one of RE2; else says that it is refused, and where if that is asked.
+fn translated(case: &Case, word: &str, is_where: bool) -> Option<Text> {
+    let pattern = text_of(case, word);
+    match re2_of(case.alloc, pattern.as_str()) {
+        Err(Re2Error::Refused(at)) if is_where => say!(case; "refused at ", at),
+        Err(Re2Error::Refused(_)) => say!(case; "refused"),
+        translated => return case.made(translated),
+    }
+    None
+}
+
+/// `re2 PATTERN`: the pattern of `regex`, or behind how many bytes it is refused.
+fn translate(case: &Case, word: &str) {
+    given!(pattern = translated(case, word, true));
+    case.print_text(pattern.as_str().as_bytes());
+    case.put("\n");
+}
+
+/// `re2-matches PATTERN TEXT ..`: which of the texts match, counted from 1.
+fn matches(case: &Case, rest: &str) {
+    let (word, texts) = first(rest);
+    given!(pattern = translated(case, word, false));
+    let matcher = MatcherRef::new(MatcherKind::Regexp, "label", pattern.as_str());
+    given!(matcher = case.made(matcher.copied(case.alloc)));
+    let compiled = Compiled::build(case.alloc, &matcher);
+    given!(mut compiled = case.got(compiled, BuildError::Memory));
+    let mut before = "";
+    for (place, word) in texts.split(' ').enumerate() {
+        let text = text_of(case, word);
+        if case.made(compiled.matches(text.as_str())).unwrap_or(false) {
+            put!(case; before, place.saturating_add(1));
+            before = " ";
+        }
+    }
+    say!(case; if before.is_empty() { "none" } else { "" });
+}
+
+/// `hazard SILENCE`: why an Alertmanager can't hold it, or `none`.
+fn hazard(case: &Case, words: &str) {
+    given!(silence = MeshSilence::spelled(case, words));
+    given!(hazard = case.made(hazard_of(case.alloc, &silence)));
+    match hazard {
+        Some(hazard) => say!(case; ?hazard),
+        None => say!(case; "none"),
+    }
+}
