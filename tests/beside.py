@@ -22,7 +22,7 @@ from lib.members import Member, eventually, free_ports, run
 from lib.tally import check, compare, finish, try_each
 from lib.api import silence
 from lib.versions import row
-from lib.wire import greeting, items
+from lib.wire import delta, greeting, items
 
 HOUR = 3600
 
@@ -144,6 +144,40 @@ def test_not_given(folder):
     check("it is asked again", eventually(lambda: one.asked > 3), one.asked)
     compare("and nothing else", [len(it) for _, it in one.pushed], [1, 1])
     compare("the tie stays", version_of(one.held["sil"][(b"t", b"")])[2] // 10**9, NOW + HOUR)
+    stop(member)
+
+
+# Patterns that a member takes, and RE2 refuses.
+REFUSED = [r"db(?<n>[0-9]+)", "a{1001}", "(?x) a b", r"\p{Alphabetic}+", "[a&&b]"]
+
+
+def hazards(name, count):
+    """Silences of a name that no Alertmanager can be handed: by their patterns, without a matcher, and of a wrong label name."""
+    words = [f"job=~{it}".replace("\\", "\\\\").replace(" ", r"\x20") for it in REFUSED] + ["", "1job=x"]
+    times = f"{NOW - 100}..{NOW + HOUR} updated {NOW - 10} expires {NOW + HOUR}"
+    return [f"{name}{it:03} {words[it % len(words)]} {times} by me saying c" for it in range(count)]
+
+
+def test_hazards(folder):
+    """Silences that would hurt an Alertmanager stay here, however they came: 200 of them, and one beside each that goes."""
+    one = Alive()
+    with open(f"{folder}/m.sil", "wb") as file:
+        file.write(row("sil", ", ".join([*hazards("f", 60), of("file")])))
+    member = started("m", folder, {"am": one}, peers=[("b", free_ports(1)[0])])
+    of_peer = b"".join(delta("sil", next(items(row("sil", it)))) for it in [*hazards("p", 60), of("peer")])
+    member.send(greeting("b") + of_peer)
+    for count in range(80):
+        matcher = {"name": "job", "value": REFUSED[count % len(REFUSED)], "isRegex": True, "isEqual": True}
+        status, _ = member.post({**silence("x"), "matchers": [matcher]})
+        compare(f"a post of {matcher['value']}", status, 200)
+    posted = post(member, "web")
+    wanted = sorted(["file", "peer", posted])
+    check("what is harmless comes", eventually(lambda: one.keys() == wanted), one.keys())
+    compare("it holds all", len(listed(member)), 203)
+    asked = one.asked
+    check("it is asked again", eventually(lambda: one.asked > asked + 2), one.asked)
+    told = {version_of(it)[0][0].decode() for _, came in one.pushed for it in came}
+    compare("and nothing else was ever sent", (sorted(told), one.keys(), one.faults), (wanted, wanted, []))
     stop(member)
 
 
@@ -274,7 +308,7 @@ def test_pull_first(folder):
     stop(member)
 
 
-TESTS = [test_holds, test_given_back, test_at_once, test_not_given, test_liars, test_nobody, test_names, test_kept, test_pull_first]
+TESTS = [test_holds, test_given_back, test_at_once, test_not_given, test_hazards, test_liars, test_nobody, test_names, test_kept, test_pull_first]
 
 
 def main():

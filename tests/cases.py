@@ -4,7 +4,7 @@
     tests/cases.py [FILE ..]
     tests/cases.py --program PATH [FILE ..]
 
-FILE is a cases/SUBJECT.txt, a cases/replay/NAME.schedule, a cases/diff/NAME.txt or a cases/show/NAME.txt; all of them if none is
+FILE is a cases/SUBJECT.txt, a cases/replay/NAME.schedule, or command lines, as a cases/diff/NAME.txt; all of them if none is
 given. Those of texts go to am_cases, and schedules and command lines to am_tool; rt ci builds both. With --program all go to
 PATH, another implementation: texts to its standard input, schedules to that of `PATH replay`, and command lines as they are.
 Prints each difference with its file and line, and at the end how many cases passed.
@@ -29,14 +29,14 @@ TOOL = f"{TOP}/crates/am_tool/out/am_tool"
 # The subjects of texts: each has its file.
 SUBJECTS = (
     "api calls carried clusters connections decisions events figures frames gossip hashes instance instance_large json log maps matchers"
-    " messages moments replays requests rows rows_large schedules seals sessions silences snapshots views wire"
+    " messages moments plans replays requests rows rows_large schedules seals sessions silences snapshots views wire"
 ).split()
 
 # The files of all cases.
-ALL = ["*.txt", "replay/*.schedule", "diff/*.txt", "show/*.txt"]
+ALL = ["*.txt", "replay/*.schedule", "diff/*.txt", "fold/*.txt", "show/*.txt"]
 
 # The folders of command lines.
-OF_WORDS = {"diff", "show"}
+OF_WORDS = {"diff", "fold", "show"}
 
 # Files whose cases take inputs of many MiB.
 LARGE = {"instance_large", "rows_large"}

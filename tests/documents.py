@@ -10,8 +10,8 @@ that the documents speak of. Status 5 of `am_tool diff`, that something differs,
 nothing. The ports of members are free ones. Blocks with curl or amtool are left out where these are not there. Each command of
 README.md has to stand in a block that is run, and samples/ has to be what tests/lib/samples.py has. Each block of Rust in
 docs/library/ has to stand in a source of crates/, whose crates the gate proves, and docs/PROOFS.md has to be what
-docs/promises.py makes. Each page has a budget of words, and links to what is there; no carrier, a word for every sense, is
-more frequent in it than once in a hundred words. The last line says how many passed.
+docs/promises.py makes. Each page links to what is there; no carrier, a word for every sense, is more frequent in it than once in a
+hundred words. The last line says how many passed.
 """
 
 import glob
@@ -33,29 +33,10 @@ from lib.versions import row
 
 DOCUMENTS = ["README.md", "docs/MEND.md", "docs/MEMBERS.md"]
 
-# How many words each page may have, as `wc -w` counts them, and all of docs/ and bench/ together.
-BUDGETS = {
-    "README.md": 600,
-    "docs/NIGHT.md": 450,
-    "docs/MEND.md": 1_200,
-    "docs/MEMBERS.md": 2_500,
-    "docs/FORMATS.md": 5_300,
-    "docs/MODEL.md": 3_000,
-    "docs/PROOFS.md": 3_000,
-    "docs/DECISIONS.md": 2_500,
-    "docs/MAP.md": 1_300,
-    "docs/CHANGING.md": 1_000,
-    "docs/CASES.md": 800,
-    "docs/LIBRARY.md": 150,
-    "docs/library/am_merge.md": 400,
-    "docs/library/am_snapshot.md": 400,
-    "docs/library/am_instance.md": 400,
-    "docs/library/am_member.md": 400,
-    "docs/library/am_cluster.md": 400,
-    "bench/README.md": 250,
-    "bench/RESULTS.md": 1_500,
-}
-WHOLE_BUDGET = 20_000
+# The pages that are looked at, and the most words of README, as `wc -w` counts them.
+PAGES = ["README.md", *(f"docs/{it}.md" for it in "NIGHT MEND MEMBERS FORMATS MODEL PROOFS DECISIONS MAP CHANGING CASES LIBRARY".split())]
+PAGES += [*(f"docs/library/{it}.md" for it in "am_merge am_snapshot am_instance am_member am_cluster".split()), "bench/README.md", "bench/RESULTS.md"]
+MOST_OF_README = 900
 
 # Words that carry every sense, and so none.
 CARRIERS = ["what", "where", "stands?", "(?:is|are) told", "tells?", "comes?", "goes?"]
@@ -241,21 +222,20 @@ def test_sources():
 
 
 def test_pages():
-    """Each page keeps to its budget, links to what is there, and says what it means."""
+    """Each page links to what is there, and says what it means; README is short."""
     here = [*glob.glob(f"{TOP}/docs/**/*.md", recursive=True), *glob.glob(f"{TOP}/bench/*.md"), f"{TOP}/README.md"]
-    compare("pages that have a budget", sorted(BUDGETS), sorted(os.path.relpath(it, TOP) for it in here))
-    counts = {path: len(content(f"{TOP}/{path}").split()) for path in BUDGETS}
-    for path, count_of in counts.items():
-        check(f"{path}: at most {BUDGETS[path]} words", count_of <= BUDGETS[path], count_of)
+    compare("pages", sorted(PAGES), sorted(os.path.relpath(it, TOP) for it in here))
+    for path in PAGES:
         page = content(f"{TOP}/{path}")
+        count_of = len(page.split())
         compare(f"{path}: broken links", broken_links(path, page), [])
         words = plain(page)
         for carrier in CARRIERS:
             found = len(re.findall(rf"\b(?:{carrier})\b", words, re.IGNORECASE))
             most = max(1, count_of // WORDS_A_CARRIER)
             check(f"{path}: '{carrier}' at most {most} times", found <= most, found)
-    whole = sum(it for path, it in counts.items() if path != "README.md")
-    check(f"docs/ and bench/: at most {WHOLE_BUDGET} words", whole <= WHOLE_BUDGET, whole)
+    words = len(content(f"{TOP}/README.md").split())
+    check(f"README.md: at most {MOST_OF_README} words", words <= MOST_OF_README, words)
 
 
 def main():

@@ -156,11 +156,15 @@ class Lanes:
 # each kind of case many times.
 MOST_OF_A_FILE = 1_500
 
+# Longer files of whose requests each is refused all the same: steps of an instance, and requests of people and tools.
+IN_FULL = {"api", "instance"}
+
 # What memory.c says of a try: its request and the bytes that were printed before it, what is printed then, the status.
 TRY = re.compile(rb"\x01 (\d+) (\d+)\n(.*?)\x02 (\d+)\n", re.DOTALL)
 
 FRAME = re.compile(r"to \S+ ")
 UNSENT = re.compile(r"unsent (\d+) 0")
+MERGE = re.compile(r"> map take (.+) at 0; merge (.+), .+ at 0; held")
 TAKEN = re.compile(r"Memory \{ taken: (\d+) \}")
 MOMENT = re.compile(r"^(holds \d+ \d+) at \S+$", re.MULTILINE)
 
@@ -240,6 +244,16 @@ def how_refused(lines, wanted):
     return None
 
 
+def how_merged(lines, wanted):
+    """Of a merge that found no memory, that it tells how many versions it took, and that the map holds those of them that are
+    greater; made again it is as wanted."""
+    words = MERGE.fullmatch(lines[0])
+    for taken, held in enumerate(words.groups() if words else []):
+        if lines[1:] == ["Changed", f"MergeError {{ taken: {taken} }}", f"1 held, {held}", "! Memory", *wanted]:
+            return f"merged {taken}"
+    return None
+
+
 def how_called(lines, wanted):
     """What the lines of a request for decisions say of one that found no memory behind a step, which stands: of a call whose
     last step has a later moment than its first, that is before it where it is made again; of a notice, that its frame isn't
@@ -287,7 +301,7 @@ def judge_try(tried):
     if tried.status != 0 or len(tried.found) != len(tried.cases):
         return None
     found = [(lines, wanted_of(case)) for case, lines in zip(tried.cases, tried.found)]
-    kinds = [how_refused(lines[1:], wanted) or how_called(lines, wanted) for lines, wanted in found]
+    kinds = [how_refused(lines[1:], wanted) or how_merged(lines, wanted) or how_called(lines, wanted) for lines, wanted in found]
     if any(kind != "as wanted" for kind in kinds[0 if tried.is_told else 1 :]):
         return None
     if tried.is_told:
@@ -307,7 +321,7 @@ def try_cases(lanes, folder, name):
     with open(given, "w", encoding="utf-8") as file:
         file.write("".join(f"{case.words}\n" for case in cases))
     asked = lanes.run(words, b"".join(f"{case.words}\n".encode() for case in cases), 0).asked
-    step = max(1, -(-asked // MOST_OF_A_FILE))
+    step = 1 if name in IN_FULL else max(1, -(-asked // MOST_OF_A_FILE))
     whole = lanes.fork(words, given, tries, step)
     faults, kinds = [], collections.Counter()
     found = [lines[1:] for lines in answers_of(whole.output)[0]]

@@ -1,6 +1,7 @@
 """A headless Chromium, driven by its DevTools protocol: a pair of pipes, with a zero byte behind each message."""
 
 import base64
+import contextlib
 import fcntl
 import itertools
 import json
@@ -32,7 +33,7 @@ OPTIONS = [
 
 # The keys that are pressed: the code of each, its number on Windows' keyboards, and the text that it makes.
 KEYS = {"Tab": (9, ""), "Enter": (13, "\r"), "Escape": (27, ""), "ArrowDown": (40, ""), " ": (32, " ")}
-SHIFT = 8
+SHIFT, CONTROL = 8, 2
 
 # Roles whose nodes take the keyboard, or stand for a place of the page, so that they want a name.
 NAMED = {"button", "link", "textbox", "searchbox", "combobox", "option", "Date", "DateTime", "dialog", "navigation", "region", "group"}
@@ -122,6 +123,16 @@ class Page:
         self.call("Page.navigate", url=url)
         self.wait("document.readyState === 'complete'")
 
+    def reload(self):
+        """Reloads the page, and waits until the new one stands there."""
+        self.evaluate("window.isOld = true")
+        self.call("Page.reload")
+        eventually(self.is_new)
+
+    def is_new(self):
+        with contextlib.suppress(RuntimeError):
+            return self.evaluate("!window.isOld && document.readyState === 'complete'")
+
     def close(self):
         self.browser.call("Target.closeTarget", targetId=self.target)
 
@@ -186,6 +197,20 @@ class Page:
 
     def type(self, text):
         self.call("Input.insertText", text=text)
+
+    def paste(self, text):
+        """Pastes a text where the focus is, as by a key."""
+        self.browser.call("Browser.grantPermissions", permissions=["clipboardReadWrite", "clipboardSanitizedWrite"])
+        self.evaluate(f"navigator.clipboard.writeText({json.dumps(text)})")
+        how = {"key": "v", "code": "KeyV", "windowsVirtualKeyCode": 86, "modifiers": CONTROL}
+        self.call("Input.dispatchKeyEvent", type="keyDown", commands=["paste"], **how)
+        self.call("Input.dispatchKeyEvent", type="keyUp", **how)
+
+    def point(self, selector):
+        """Moves the mouse to the middle of an element."""
+        place = f"(({{ x, y, width, height }}) => [x + width / 2, y + height / 2])(document.querySelector({json.dumps(selector)}).getBoundingClientRect())"
+        x, y = self.evaluate(place)
+        self.call("Input.dispatchMouseEvent", type="mouseMoved", x=x, y=y)
 
     def choose(self, name, value):
         """Gives a field a value, as where a person chooses it."""

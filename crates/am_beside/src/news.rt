@@ -4,6 +4,7 @@ use crate::sieve::Sieve;
 use crate::sifting::sift;
 use am_gossip::{Part, StateKey};
 use am_memberlist::{part_text, told_text};
+use am_mend::Handed;
 use am_merge::Held;
 use am_nflog::MeshEntry;
 use am_silence::MeshSilence;
@@ -28,7 +29,7 @@ pub struct News {
 }
 
 /// The message that tells of the live versions of a map, but for those of the future; none where there is no such version.
-fn message_of<V: Version>(
+fn message_of<V: Handed>(
     alloc: Global,
     key: StateKey,
     held: &Held<V>,

@@ -6,6 +6,7 @@ use crate::sieve::Sieve;
 use crate::sifting::sift;
 use am_gossip::{Part, StateKey};
 use am_memberlist::AnswerError;
+use am_mend::Handed;
 use am_merge::{Held, Iter};
 use am_snapshot::RowPiece;
 use am_version_order::{Moment, Version};
@@ -13,8 +14,11 @@ use am_wire::{Message, RowFault, RowReader};
 use std::alloc::{AllocError, Global};
 use std::mem;
 
-/// How many versions are looked at in a stretch.
+/// The most versions that are read, or compared with what the member holds, in a stretch.
 const COUNT: usize = 1_000;
+
+/// The most versions that are judged in a stretch for what the replica is given: patterns of those that it lacks are compiled.
+const MOST_JUDGED: usize = 100;
 
 /// How many bytes of rows end a stretch.
 const MOST_OF_STRETCH: usize = 1_048_576;
@@ -32,7 +36,7 @@ enum Stage<K> {
 
 /// One state of an answer.
 #[derive(Drop)]
-pub struct Side<V: Version + Message>
+pub struct Side<V: Handed + Message>
 where
     V::Key: Drop,
 {
@@ -54,7 +58,7 @@ fn left_of<'a, V: Version>(held: &'a Held<V>, from: Option<&V::Key>) -> Iter<'a,
     }
 }
 
-impl<V: Version + Message> Side<V>
+impl<V: Handed + Message> Side<V>
 where
     V::Key: Drop,
 {
@@ -162,7 +166,7 @@ where
     ) -> Result<(), AllocError> {
         let left = left_of(own, from.as_ref());
         let sieve = Sieve::Given(&self.held, now);
-        let RowPiece { row, next } = sift(alloc, &sieve, left, COUNT, MOST_OF_STRETCH)?;
+        let RowPiece { row, next } = sift(alloc, &sieve, left, MOST_JUDGED, MOST_OF_STRETCH)?;
         self.given.extend_from_slice(row.as_slice())?;
         self.stage = match next {
             Some(key) => Stage::Giving(Some(key)),

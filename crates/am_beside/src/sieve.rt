@@ -1,29 +1,52 @@
 //! Which versions go from one side to the other.
 
-ghost use Rattle.std.specs.Prelude.{◌≡◌};
-ghost use Rattle.am_beside.specs.Sieves.{passes};
+ghost use Rattle.std.specs.Prelude.{◌≡◌, IfOk};
+ghost use Rattle.am_beside.specs.Sieves.{IsHanded, Passes};
 
-use am_mend::{is_given, is_lacked};
+use am_mend::{Handed, is_given, is_lacked};
 use am_merge::Held;
 use am_version_order::{Moment, Version};
+use std::alloc::{AllocError, Global};
 
 /// Which versions pass, by what the other side holds.
 #[derive(Clone, Copy)]
 pub enum Sieve<'a, V: Version> {
     /// Those that this map lacks, as a member's does.
     Lacked(&'a Held<V>),
-    /// Those that a replica which holds these is given at a moment.
+    /// Those without a hazard that a replica which holds these is given at a moment.
     Given(&'a Held<V>, Moment),
 }
 
-impl<V: Version> Sieve<'_, V> {
-    /// Whether a version passes. It takes no memory.
-    pub fn passes(&self, version: &V) -> bool
-        ensures { result ≡ passes V.seen V.Key.cmp self.now version.now }
+impl<V: Handed> Sieve<'_, V> {
+    /// Tells whether a version passes. A hazard is looked for only in one that the replica would be given.
+    ///
+    /// # Errors
+    ///
+    /// [`AllocError`] where memory runs out.
+    pub fn passes(&self, alloc: Global, version: &V) -> Result<bool, AllocError>
+        ensures { IfOk result (Passes V.seen V.Key.cmp V.is_hazard self.now version.now) }
     {
         match self {
-            Sieve::Lacked(held) => is_lacked(held, version),
-            Sieve::Given(held, now) => is_given(held, version, *now),
+            Sieve::Lacked(held) => Ok(is_lacked(held, version)),
+            Sieve::Given(held, now) => is_handed(alloc, held, version, *now),
         }
+    }
+}
+
+/// Tells whether a replica that holds these is given a version at a moment, and the version has no hazard.
+fn is_handed<V: Handed>(
+    alloc: Global,
+    held: &Held<V>,
+    version: &V,
+    now: Moment,
+) -> Result<bool, AllocError>
+    ensures { IfOk result (IsHanded V.seen V.Key.cmp V.is_hazard now held.now version.now) }
+{
+    if !is_given(held, version, now) {
+        return Ok(false);
+    }
+    match version.hazard(alloc)? {
+        None => Ok(true),
+        Some(_) => Ok(false),
     }
 }

@@ -1,23 +1,24 @@
 //! Versions that pass a sieve, looked for in stretches.
 
 ghost use Rattle.std.specs.Prelude.{◌≡◌, IfOk};
-ghost use Rattle.am_beside.specs.Sieves.{IsSifted, passes};
+ghost use Rattle.am_beside.specs.Sieves.{IsSifted, Passes};
 
 use crate::sieve::Sieve;
+use am_mend::Handed;
 use am_merge::Iter;
 use am_snapshot::RowPiece;
-use am_version_order::Version;
 use am_wire::Bytes;
 use am_wire::writing::append_delimited;
 use std::alloc::{AllocError, Global};
 
-/// The row of those of the first versions that pass, and the key of the first one that wasn't looked at. It looks at no more
+/// Returns the row of those of the first versions that pass, and the key of the first one that wasn't looked at. It looks at no more
 /// than `count` versions, and at none once the row has `most` bytes.
 ///
 /// # Errors
 ///
 /// [`AllocError`] where memory runs out.
-pub fn sift<V: Version>(
+#[tactic(auto, using(crate::proofs::Sifted::sifting_begins))]
+pub fn sift<V: Handed>(
     alloc: Global,
     sieve: &Sieve<'_, V>,
     versions: Iter<'_, V>,
@@ -25,7 +26,7 @@ pub fn sift<V: Version>(
     most: usize,
 ) -> Result<RowPiece<V::Key>, AllocError>
     // PROMISE: Just the versions that pass go to the other side, in the order of their keys, each once.
-    ensures { IfOk result (IsSifted V.seen (passes V.seen V.Key.cmp sieve.now) versions.entry) }
+    ensures { IfOk result (IsSifted V.seen (Passes V.seen V.Key.cmp V.is_hazard sieve.now) versions.entry) }
 {
     let mut row = Vec::new(alloc);
     let mut room = count;
@@ -38,7 +39,8 @@ pub fn sift<V: Version>(
             });
         }
         room -= 1;
-        if sieve.passes(version) {
+        let passes = sieve.passes(alloc, version)?;
+        if passes {
             append_delimited(&mut row, version.canonical())?;
         }
     }

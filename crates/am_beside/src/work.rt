@@ -5,10 +5,11 @@ use crate::side::Side;
 use crate::told::told_rows;
 use am_gossip::{Frame, FullState, Part, StateKey};
 use am_memberlist::{Answer, AnswerError};
+use am_mend::Handed;
 use am_merge::Held;
 use am_nflog::MeshEntry;
 use am_silence::MeshSilence;
-use am_version_order::{Moment, Version};
+use am_version_order::Moment;
 use am_wire::Message;
 use std::alloc::{AllocError, Global};
 
@@ -102,7 +103,7 @@ fn goes_on(work: Work) -> Stretch {
 
 /// Looks at a stretch of the state whose row this is, and gives a frame that brings what comes in. What the replica is given
 /// goes to its news in the end.
-fn look_at<V: Version + Message>(
+fn look_at<V: Handed + Message>(
     alloc: Global,
     side: &mut Side<V>,
     row: &[u8],

@@ -66,7 +66,7 @@ fn post(case: &Case, text: &str) -> Request {
         created_by: Text::new(String::new(case.alloc)),
         comment: Text::new(String::new(case.alloc)),
     };
-    let bits = case.number(bits).into();
+    let bits = case.or(bits.parse::<u128>().ok(), 0);
     Request::Post { posted, bits }
 }
 
@@ -149,7 +149,8 @@ fn say_asked(case: &Case, asked: &Asked) {
     }
 }
 
-fn say_event(case: &Case, event: &Event) {
+/// Says an event.
+pub fn say_event(case: &Case, event: &Event) {
     match event {
         Event::Request(request) => say_request(case, request),
         Event::Frame {
@@ -217,6 +218,7 @@ fn say_request(case: &Case, request: &Request) {
             put!(case; " ", @posted.starts_at, "..", @posted.ends_at);
             say!(case; ", by ", ?posted.created_by.as_str(), " ", ?posted.comment.as_str());
         }
+        Request::List { filters } => say!(case; "list, ", filters.len(), " filters"),
         _ => case.fail(Fault::Words),
     }
 }

@@ -3,12 +3,12 @@
 use crate::calls::call;
 use crate::clusters::{carried, cluster, refused, replay, settle, steps};
 use crate::connections::{connect, say_sent};
-use crate::events::asks;
+use crate::events::{asks, say_event};
 use crate::members::{begin, hold, say_config, say_state};
 use crate::steps::happen;
-use am_api_silences::to_bytes;
+use am_api_silences::{Read, read_request, to_bytes, to_event};
 use am_instance::{Instance, Reply};
-use am_part_cases::common::{Case, Printed, cut};
+use am_part_cases::common::{Case, Fault, Printed, cut};
 use am_part_cases::{given, parts, say, say_some};
 use am_peers::{AddressWord, address_of, later_moment, number_within, peer_of, port_of};
 use am_silence::SilenceError;
@@ -46,11 +46,11 @@ fn alone(case: &Case, verb: &str, rest: &str) {
     match verb {
         "whole" => {}
         "send" if !rest.starts_with("in pieces of ") => say_sent(case, rest),
-        "reply" if rest == "too large" => {
-            let reply = Reply::Refused(SilenceError::TooLarge);
-            given!(bytes = case.made(to_bytes(case.alloc, Ok(&reply))));
-            case.say_text(bytes.as_slice());
+        "reply" if rest == "too large" => say_reply(case, &Reply::Refused(SilenceError::TooLarge)),
+        "reply" if rest == "no silence" => {
+            say_reply(case, &Reply::Silences(Vec::new(case.alloc)));
         }
+        "event" => say_asked_by(case, rest),
         "reply" if rest == "no memory" => case.say_text(am_http::out_of_memory()),
         "replay" => replay(case, rest),
         "refused" => refused(case),
@@ -65,6 +65,27 @@ fn alone(case: &Case, verb: &str, rest: &str) {
         "number" => say_number(case, rest),
         "clock" => say_clock(case, rest),
         _ => parts::answer(case, verb, rest),
+    }
+}
+
+/// Says the bytes of a reply.
+fn say_reply(case: &Case, reply: &Reply) {
+    given!(bytes = case.made(to_bytes(case.alloc, Ok(reply))));
+    case.say_text(bytes.as_slice());
+}
+
+/// `event TEXT`: what a request that is whole asks of a member, by bits 0, or why it is refused.
+fn say_asked_by(case: &Case, text: &str) {
+    let bytes = case.unescaped(text);
+    let request = match read_request(case.alloc, bytes.as_slice(), true) {
+        Read::Whole(request) => request,
+        Read::Refused(refusal) if refusal.status == 500 => return case.fail(Fault::Memory),
+        _ => return case.fail(Fault::Words),
+    };
+    match to_event(case.alloc, &request, 0) {
+        Ok(event) => say_event(case, &event),
+        Err(refusal) if refusal.status == 500 => case.fail(Fault::Memory),
+        Err(refusal) => say!(case; refusal.status, " ", refusal.text),
     }
 }
 

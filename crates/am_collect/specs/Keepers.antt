@@ -1,14 +1,57 @@
--- What events make of a map with the moment of its last event, and what it shows.
+-- What events and steps make of a map with the moment of its last event, and what it shows.
 -- X is the type of versions, and `seen` is what the merge sees of one.
-use Rattle.std.specs.Prelude.{◌≡◌, ℕ, List, Option}
+use Rattle.std.specs.Prelude.{◌≡◌, ℕ, ◌+◌, ◌<◌, ◌≤◌, List, ◌++◌, Option, Some, Result, Ok, Err, map, length, take, slice_get}
 use Rattle.std.specs.declared.cmp.Ordering.{Ordering}
 use Rattle.am_version_order.specs.Versions.{Version}
-use Rattle.am_merge.specs.Maps.{IsMap, at, if_live}
+use Rattle.am_merge.specs.Maps.{IsMap, at, if_live, swept}
+use Rattle.am_merge.specs.Takings.{IsTaking}
+use Rattle.am_merge.specs.Views.{IsViewAt}
+use Rattle.am_collect.specs.declared.keeper.Step.{Step}
+use Rattle.am_collect.specs.declared.keeper.Step.TheVariants.{Take, Collect}
+use Rattle.am_collect.specs.declared.keeper.Stepped.{Stepped}
+use Rattle.am_collect.specs.declared.keeper.Stepped.TheVariants.{Took, Swept}
+use Rattle.am_collect.specs.declared.keeper.KeeperError.{KeeperError}
+use Rattle.am_collect.specs.declared.keeper.KeeperError.TheVariants.{MomentBack, DuplicateKey, Memory}
 use Rattle.am_collect.specs.Kept.{Kept}
-use Rattle.am_collect.specs.Events.{Events, after_all, last_moment, MoveForward}
+use Rattle.am_collect.specs.Events.{MapEvent, Events, taken, after_all, last_moment, MoveForward}
+use Rattle.am_collect.specs.Events.MapEvent.{Delivered, Collected}
 use Rattle.am_collect.specs.Calm.{IsCalm}
 
+-- the event that a step is
+abbrev pub event_of : {X : Type 0} → Step X → MapEvent X
+event_of (Take v) = Delivered v
+event_of Collect = Collected
+
+-- the events that steps are
+abbrev pub events_of : {X : Type 0} → List (Step X × ℕ) → Events X
+events_of steps = map (λ s. (event_of s.0, s.1)) steps
+
+-- why a step at now is refused: its moment is before the last one, or else a version to be taken finds no memory
+abbrev pub IsRefusal : {X : Type 0} → Step X → ℕ → ℕ → KeeperError → Type 0
+IsRefusal step last now (MomentBack back) = (back ≡ last) × (now < last)
+IsRefusal step last now DuplicateKey = ⊥
+IsRefusal (Take v) last now Memory = last ≤ now
+IsRefusal Collect last now Memory = ⊥
+
+-- the steps before the first that was refused, or all
+abbrev pub accepted : {X A : Type 0} → List (Step X × ℕ) → Result A (ℕ × KeeperError) → List (Step X × ℕ)
+accepted steps (Ok done) = steps
+accepted steps (Err stop) = take stop.0 steps
+
+-- a run ended at a place: the step there was refused, with this as the last moment
+pub record IsStop {X : Type 0} (last : ℕ) (steps : List (Step X × ℕ)) (stop : ℕ × KeeperError) : Type 0 where
+  pub step : Step X × ℕ
+  pub found : slice_get steps stop.0 ≡ Some step
+  pub refusal : IsRefusal step.0 last step.1 stop.1
+
 module _ {K X : Type 0} (seen : X → Version K) (cmp : K → K → Ordering) where
+  -- what a step at now leaves of a map, and what it answers
+  abbrev pub IsStepping : ℕ → List X → Step X → List X → Stepped → Type 0
+  IsStepping now held (Take v) new (Took taken) = IsTaking seen cmp now held v new taken
+  IsStepping now held (Take v) new (Swept went) = ⊥
+  IsStepping now held Collect new (Took taken) = ⊥
+  IsStepping now held Collect new (Swept went) = (new ≡ swept seen now held) × (went + length new ≡ length held)
+
   -- the version of the key that is in view
   abbrev pub view_at : Kept X → ℕ → K → Option X
   view_at kept now key = if_live seen now (at seen cmp kept.held key)
@@ -24,3 +67,11 @@ module _ {K X : Type 0} (seen : X → Version K) (cmp : K → K → Ordering) wh
     pub map : IsMap seen cmp start.held
     pub calm : IsCalm seen start.held start.last events
     pub left : IsLeftBy start events new
+
+  -- wherever the keeper started, if all events since then, these last ones too, were calm, it shows what the bare set
+  -- of all that it took shows
+  abbrev pub ShowsBareSet : Kept X → Events X → Kept X → Type 0
+  ShowsBareSet old events new =
+      (start : Kept X) (past : Events X) → IsMap seen cmp start.held → IsLeftBy start past old
+      → IsCalm seen start.held start.last (past ++ events) →
+      (now : ℕ) (key : K) → new.last ≤ now → IsViewAt seen (taken start.held (past ++ events)) now key (view_at new now key)

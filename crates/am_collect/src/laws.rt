@@ -21,7 +21,6 @@ pub fn events_follow_events<V: Version>()
 /// After calm events a map shows, at every key and at every moment from the last event on, what
 /// the bare set of all that it started with and all that was delivered shows.
 pub fn calm_events_show_the_bare_set<V: Version>()
-    // PROMISE: After calm events a map shows what it would show if it had never forgotten anything.
     ensures { (start : List V) (from : ℕ) (events : Events V) (now : ℕ) (key : V.Key) →
         IsMap V.seen V.Key.cmp start → IsCalm V.seen start from events → last_moment from events ≤ now →
         IsViewAt V.seen (taken start events) now key

@@ -6,8 +6,9 @@ use crate::replica::{exchange, held_by, key_of};
 use crate::source::{ReadFault, report_read};
 use am_faults::{Fault, report, status};
 use am_jobs::{PushJob, StateName};
+use am_matcher::Hazard;
 use am_memberlist::states_text;
-use am_mend::{Refused, is_lacked, lacked, why_refused};
+use am_mend::{Handed, Refused, is_lacked, lacked, why_refused};
 use am_merge::Held;
 use am_nflog::MeshEntry;
 use am_report::{Manner, ReportLine};
@@ -37,7 +38,7 @@ pub fn run_push<R: Host>(rt: &R, streams: Streams, job: &PushJob<'_>) -> u8 {
 }
 
 /// Sends a replica what it lacks. Answers whether it lacks something then, or would be sent something.
-fn push<'a, R: Host, V: ReportLine + Message>(
+fn push<'a, R: Host, V: Handed + Message + ReportLine>(
     rt: &R,
     streams: Streams,
     job: &PushJob<'a>,
@@ -54,12 +55,12 @@ fn push<'a, R: Host, V: ReportLine + Message>(
     if !job.is_dry {
         send_rows(rt, job, &sent)?;
     }
-    let has_later = mending.tell_sent(alloc, &held, &sent, &mut output)?;
+    let holds_back = mending.tell_sent(alloc, &held, &sent, &mut output)?;
     if job.is_dry || sent.versions.is_empty() {
-        return Ok(has_later || !sent.versions.is_empty());
+        return Ok(holds_back || !sent.versions.is_empty());
     }
     let held = held_by::<R, V>(rt, &job.to)?;
-    Ok(mending.tell_refused(alloc, &held, &mut output)? || has_later)
+    Ok(mending.tell_refused(alloc, &held, &mut output)? || holds_back)
 }
 
 /// Sends a replica the rows, in one exchange, where there are some.
@@ -93,7 +94,7 @@ struct Mending<V: Version> {
     now: Moment,
 }
 
-impl<V: ReportLine + Message> Mending<V> {
+impl<V: Handed + Message + ReportLine> Mending<V> {
     /// Reads the row on an input.
     fn read<I: Read>(
         alloc: Global,
@@ -130,7 +131,7 @@ impl<V: ReportLine + Message> Mending<V> {
         Ok(sent)
     }
 
-    /// Adds a message to what is sent, where it is to be.
+    /// Adds a message to what is sent, where it is to be and its version has no hazard.
     fn add(
         &self,
         alloc: Global,
@@ -142,7 +143,10 @@ impl<V: ReportLine + Message> Mending<V> {
             Ok(version) => version,
             Err(error) => return Err(SnapshotError::from(RowFault::from(error))),
         };
-        if self.is_sent(held, &version) && sent.versions.insert_new(version)? {
+        if !self.is_sent(held, &version) || version.hazard(alloc)?.is_some() {
+            return Ok(());
+        }
+        if sent.versions.insert_new(version)? {
             sent.rows
                 .extend_from_slice(write_varint(text.len() as u64).as_slice())?;
             sent.rows.extend_from_slice(text)?;
@@ -150,8 +154,8 @@ impl<V: ReportLine + Message> Mending<V> {
         Ok(())
     }
 
-    /// Writes a line for each version that is sent, and for each that isn't since it is later than the moment. Answers whether
-    /// there is one of these.
+    /// Writes a line for each version that is sent, and for each that isn't since it is later than the moment or has a hazard.
+    /// Answers whether there is one of these.
     fn tell_sent<W: Write>(
         &self,
         alloc: Global,
@@ -163,19 +167,35 @@ impl<V: ReportLine + Message> Mending<V> {
         for version in sent.versions.iter() {
             append_line(&mut text, version, "send", "", self.now)?;
         }
-        let mut has_later = false;
+        let mut holds_back = false;
         for version in lacked(alloc, held, &self.all)? {
-            if self.now < version.updated() {
-                has_later = true;
-                append_line(&mut text, version, "later", "", self.now)?;
+            if let Some((relation, cause)) = self.why_held_back(alloc, version)? {
+                holds_back = true;
+                append_line(&mut text, version, relation, cause, self.now)?;
             }
         }
         send(output, text.as_bytes())?;
-        Ok(has_later)
+        Ok(holds_back)
     }
 
-    /// Writes a line for each version that a replica lacks that isn't later than the moment, with the cause. Answers whether
-    /// there is one.
+    /// Returns what the line of a version that the replica lacks and isn't sent says: that it is later than the moment, or that it
+    /// is refused for its hazard.
+    fn why_held_back(
+        &self,
+        alloc: Global,
+        version: &V,
+    ) -> Result<Option<(&'static str, &'static str)>, AllocError> {
+        if self.now < version.updated() {
+            return Ok(Some(("later", "")));
+        }
+        Ok(match version.hazard(alloc)? {
+            Some(Hazard::Pattern) => Some(("refused", " by pattern")),
+            Some(Hazard::Matcher) => Some(("refused", " by matcher")),
+            None => None,
+        })
+    }
+
+    /// Writes a line for each version that a replica lacks though it was sent, with the cause. Answers whether there is one.
     fn tell_refused<W: Write>(
         &self,
         alloc: Global,
@@ -184,7 +204,7 @@ impl<V: ReportLine + Message> Mending<V> {
     ) -> Result<bool, SnapshotError> {
         let mut text = String::new(alloc);
         for version in lacked(alloc, held, &self.all)? {
-            if version.updated() <= self.now {
+            if self.why_held_back(alloc, version)?.is_none() {
                 let why = why_refused(held.get(version.key()), version, self.now);
                 append_line(&mut text, version, "refused", cause(why), self.now)?;
             }

@@ -14,3 +14,8 @@ pub mod Apart
 pub mod Uses
 pub mod Keepings
 pub mod Verdicts
+pub mod Re2Runs
+pub mod Re2Nestings
+pub mod Re2Names
+pub mod Re2Readings
+pub mod Meant

@@ -11,3 +11,9 @@ pub mod Sizes
 pub mod Uses
 pub mod Kept
 pub mod Entries
+pub mod Re2Spelling
+pub mod Re2Pieces
+pub mod Re2
+pub mod Re2Nesting
+pub mod Re2Errors
+pub mod Hazards

@@ -55,7 +55,7 @@ impl From<BuildError> for FilterError {
 }
 
 /// The characters of a text.
-fn characters_of(alloc: Global, text: &str) -> Result<Vec<char>, AllocError>
+pub fn characters_of(alloc: Global, text: &str) -> Result<Vec<char>, AllocError>
     ensures { IfOk result (λ characters. characters.items ≡ chars text.now) }
 {
     text.chars().collect(alloc)

@@ -1,6 +1,6 @@
 //! Matchers that are asked once.
 
-ghost use Rattle.std.specs.Prelude.{◌≡◌, List, ℕ, Bool, [], true, false, All, Any, IfOk, OnOk, OnErr, IsErrOf};
+ghost use Rattle.std.specs.Prelude.{◌≡◌, List, ℕ, Bool, [], true, false, All, Any, Ok, Err, IfOk, OnOk, OnErr, IsErrOf, alloc_error};
 ghost use Rattle.am_silence.specs.Kinds.{is_regexp};
 ghost use Rattle.am_matcher.specs.Labels.{value_in};
 ghost use Rattle.am_matcher.specs.Matching.{matches_value, has_regexp, IsSoundMatcher, IsBrokenMatcher, match_all, IsVerdict};
@@ -9,7 +9,7 @@ ghost use Rattle.am_matcher.specs.Uses.{PatternsPass, TextsPass};
 use crate::cache::PatternCache;
 use crate::compiled::{BuildError, as_wanted};
 use crate::labels::{Label, value_of};
-use am_silence::{MatcherIter, MatcherRef, Matchers, Verdict};
+use am_silence::{Matcher, MatcherIter, MatcherRef, Matchers, Verdict};
 use std::alloc::{AllocError, Global};
 
 /// Whether the value of a matcher's label matches. Its pattern may be kept if `keeps` says so.
@@ -60,6 +60,37 @@ pub fn judge_all(
     Ok(all)
 }
 
+// Says whether each of the matchers matches the empty text. All patterns are judged.
+fn judge_each(alloc: Global, matchers: &[Matcher]) -> Result<bool, BuildError>
+    ensures answer { IfOk result (λ yes. yes ≡ match_all matchers.now []) }
+    ensures sound { OnOk result (All IsSoundMatcher matchers.now) }
+    ensures broken { IsErrOf result BuildError.BadPattern → Any IsBrokenMatcher matchers.now }
+    ensures failed { OnErr result (has_regexp matchers.now ≡ true) }
+{
+    let mut patterns = PatternCache::new(alloc);
+    let mut every = true;
+    for matcher in matchers {
+        let matches = judge(&mut patterns, &matcher.borrowed(), &[], false)?;
+        every &= matches;
+    }
+    Ok(every)
+}
+
+// Returns the verdict on matchers that were judged by the empty text.
+fn verdict_of(judged: Result<bool, BuildError>) -> Result<Verdict, AllocError>
+    ensures all { judged ≡ Ok true → result ≡ Ok Verdict.AllEmpty }
+    ensures some { judged ≡ Ok false → result ≡ Ok Verdict.Fine }
+    ensures broken { judged ≡ Err BuildError.BadPattern → result ≡ Ok Verdict.Bad }
+    ensures memory { judged ≡ Err BuildError.Memory → result ≡ Err alloc_error }
+{
+    match judged {
+        Ok(true) => Ok(Verdict::AllEmpty),
+        Ok(false) => Ok(Verdict::Fine),
+        Err(BuildError::BadPattern) => Ok(Verdict::Bad),
+        Err(BuildError::Memory) => Err(AllocError),
+    }
+}
+
 impl PatternCache {
     /// As [`verdict`], by the patterns that are kept. It keeps none, since no silence has those that are posted yet.
     ///
@@ -71,12 +102,7 @@ impl PatternCache {
         ensures memory { OnErr result (has_regexp matchers.now ≡ true) }
         ensures same { self.new ≡ self.old }
     {
-        match judge_all(self, matchers.iter(), &[], false) {
-            Ok(true) => Ok(Verdict::AllEmpty),
-            Ok(false) => Ok(Verdict::Fine),
-            Err(BuildError::BadPattern) => Ok(Verdict::Bad),
-            Err(BuildError::Memory) => Err(AllocError),
-        }
+        verdict_of(judge_all(self, matchers.iter(), &[], false))
     }
 }
 
@@ -87,9 +113,9 @@ impl PatternCache {
 /// # Errors
 ///
 /// [`AllocError`] where memory runs out. Without a regular expression no memory is needed.
-pub fn verdict(alloc: Global, matchers: &Matchers) -> Result<Verdict, AllocError>
+pub fn verdict(alloc: Global, matchers: &[Matcher]) -> Result<Verdict, AllocError>
     ensures verdict { IfOk result (IsVerdict matchers.now) }
     ensures memory { OnErr result (has_regexp matchers.now ≡ true) }
 {
-    PatternCache::new(alloc).verdict(matchers)
+    verdict_of(judge_each(alloc, matchers))
 }

@@ -8,6 +8,7 @@ mod json;
 mod maps;
 mod matchers;
 mod messages;
+mod plans;
 mod requests;
 mod seals;
 mod snapshots;

@@ -10,8 +10,18 @@ use Rattle.am_wire.specs.Limits.{most}
 use Rattle.am_wire.specs.Inputs.{AreMessages, StopsAfter}
 use Rattle.am_snapshot.specs.Texts.{row_text}
 use Rattle.am_merge.specs.Views.{HoldsBest}
+use Rattle.am_snapshot.specs.declared.error.FoldError.{FoldError}
+use Rattle.am_snapshot.specs.declared.error.FoldError.TheVariants as folding
 use Rattle.am_snapshot.specs.declared.error.SnapshotError.{SnapshotError}
 use Rattle.am_snapshot.specs.declared.error.SnapshotError.TheVariants.{Read, Write, Wire, DuplicateKey, TooLarge, Memory}
+
+-- the fault of folding, as that of a snapshot
+abbrev pub fold_fault : FoldError → SnapshotError
+fold_fault (folding.Read at) = Read at
+fold_fault (folding.Write k) = Write k
+fold_fault (folding.Wire e) = Wire e
+fold_fault folding.TooLarge = TooLarge
+fold_fault folding.Memory = Memory
 
 module _ {K X : Type 0} (seen : X → Version K) (cmp : K → K → Ordering) (reads : ℕ → List ℕ → Result X WireError) where
   -- the row has of each key the best among all versions of the input, in the order of the keys

@@ -29,6 +29,41 @@ pub enum SnapshotError {
     Memory,
 }
 
+/// Why a row was not folded: the first fault that stands. No fold is refused for a key that comes twice.
+#[derive(Clone, Copy, Debug, PartialEq, Eq, Error)]
+pub enum FoldError {
+    /// A read failed after so many bytes.
+    #[error("Read {at}")]
+    Read { at: usize },
+    /// A write failed after so many bytes, which went out.
+    #[error("Write {written}")]
+    Write { written: u64 },
+    /// A message is at fault.
+    #[error("{0}")]
+    Wire(WireError),
+    /// The input, its fold, or a message in it, is over its limit.
+    #[error("TooLarge")]
+    TooLarge,
+    #[error("Memory")]
+    Memory,
+}
+
+impl From<FoldError> for SnapshotError {
+    ghost use Rattle.am_snapshot.specs.Folds.{fold_fault};
+
+    ghost from_gives = { λ fault e. e ≡ fold_fault fault };
+
+    fn from(fault: FoldError) -> SnapshotError {
+        match fault {
+            FoldError::Read { at } => SnapshotError::Read { at },
+            FoldError::Write { written } => SnapshotError::Write { written },
+            FoldError::Wire(e) => SnapshotError::Wire(e),
+            FoldError::TooLarge => SnapshotError::TooLarge,
+            FoldError::Memory => SnapshotError::Memory,
+        }
+    }
+}
+
 impl From<WriteFault> for SnapshotError {
     ghost use Rattle.am_snapshot.specs.declared.error.SnapshotError.TheVariants.{Write};
 

@@ -1,13 +1,14 @@
 //! Folding rows of versions.
 
-ghost use Rattle.std.specs.Prelude.{◌≡◌, ◌≤◌, ℕ, List, length, IfOk, OnOk, IfErr, IfSome};
+ghost use Rattle.std.specs.Prelude.{◌≡◌, ◌≢◌, ◌≤◌, ℕ, List, length, IfOk, OnOk, IfErr, IfSome};
 ghost use Rattle.std.specs.Io.KnownBytes.{Appends};
 ghost use Rattle.am_wire.specs.Limits.{most};
 ghost use Rattle.am_wire.specs.Inputs.{AreMessages};
 ghost use Rattle.am_merge.specs.Views.{HoldsBest};
-ghost use Rattle.am_snapshot.specs.Folds.{IsFold, StopsFold};
+ghost use Rattle.am_snapshot.specs.Folds.{IsFold, StopsFold, fold_fault};
+ghost use Rattle.am_snapshot.specs.declared.error.SnapshotError.TheVariants.{DuplicateKey};
 
-use crate::error::SnapshotError;
+use crate::error::{FoldError, SnapshotError};
 use crate::reading::take_row;
 use crate::saving::save;
 use am_merge::Held;
@@ -21,16 +22,16 @@ use std::io::{Read, Write};
 ///
 /// # Errors
 ///
-/// The first fault of the input, with nothing written. [`SnapshotError::Write`] where a write fails or takes
+/// The first fault of the input, with nothing written. [`FoldError::Write`] where a write fails or takes
 /// nothing: exactly the first `written` bytes of the row went out, and it is not tried again.
-/// [`SnapshotError::TooLarge`] also where the row would have over
-/// [`MOST_MESSAGE_BYTES`](am_wire::MOST_MESSAGE_BYTES), with nothing written, and [`SnapshotError::Memory`] where memory runs out.
+/// [`FoldError::TooLarge`] also where the row would have over
+/// [`MOST_MESSAGE_BYTES`](am_wire::MOST_MESSAGE_BYTES), with nothing written, and [`FoldError::Memory`] where memory runs out.
 pub fn fold<V: Version + Message, R: Read, W: Write>(
     alloc: Global,
     reader: &mut R,
     writer: &mut W,
     now: Moment,
-) -> Result<u64, SnapshotError>
+) -> Result<u64, FoldError>
     // PROMISE: A fold writes the last write of each key in its input.
     ensures row { IfOk result (λ written. (row : List ℕ) × (written ≡ length row) ×
         Appends (W.contents writer.old) (W.contents writer.new) row ×
@@ -39,11 +40,28 @@ pub fn fold<V: Version + Message, R: Read, W: Write>(
     ensures room { IfOk result (λ written. written ≤ most) }
 
     // PROMISE: If its input has a fault, a fold writes nothing.
-    ensures stopped { IfErr result (StopsFold V.seen V.Key.cmp V.reads (R.remaining reader.old)
-        (R.remaining reader.new) W.contents writer.old writer.new) }
+    ensures stopped { IfErr result (λ fault. StopsFold V.seen V.Key.cmp V.reads (R.remaining reader.old)
+        (R.remaining reader.new) W.contents writer.old writer.new (fold_fault fault)) }
 {
-    let folded: Folded<V> = fold_held(alloc, reader, writer, now)?;
-    Ok(folded.written)
+    match fold_held::<V, R, W>(alloc, reader, writer, now) {
+        Ok(folded) => Ok(folded.written),
+        Err(fault) => Err(fold_error(fault)),
+    }
+}
+
+// A fault of a snapshot that is one of folding.
+fn fold_error(fault: SnapshotError) -> FoldError
+    requires { fault ≢ DuplicateKey }
+    ensures { fold_fault result ≡ fault }
+{
+    match fault {
+        SnapshotError::Read { at } => FoldError::Read { at },
+        SnapshotError::Write { written } => FoldError::Write { written },
+        SnapshotError::Wire(e) => FoldError::Wire(e),
+        SnapshotError::TooLarge => FoldError::TooLarge,
+        SnapshotError::Memory => FoldError::Memory,
+        SnapshotError::DuplicateKey => unreachable!(),
+    }
 }
 
 /// A row that was folded.
@@ -60,7 +78,7 @@ pub struct Folded<V: Version> {
 ///
 /// # Errors
 ///
-/// Those of [`fold`].
+/// Those of [`fold`], as [`SnapshotError`] has them.
 pub fn fold_held<V: Version + Message, R: Read, W: Write>(
     alloc: Global,
     reader: &mut R,

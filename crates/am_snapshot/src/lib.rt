@@ -13,7 +13,7 @@ mod reading;
 mod saving;
 mod sorting;
 
-pub use error::SnapshotError;
+pub use error::{FoldError, SnapshotError};
 pub use folding::{Folded, fold, fold_held};
 pub use in_memory::{row_bytes, row_length, row_length_within};
 pub use loading::{load, load_within};

@@ -92,6 +92,9 @@ pub struct How<'a> {
     pub each: &'a str,
     /// A call that failed is made once more, over the same reader and writer.
     pub again: bool,
+    /// The read and the write that fail where nothing is tried in turn, by their numbers from 1 (0: none).
+    pub failing_read: usize,
+    pub failing_write: usize,
 }
 
 impl<'a> How<'a> {
@@ -125,6 +128,11 @@ pub trait Call {
 /// A read or a write that failed, by its name, and how many bytes came or went out before it.
 pub type Cut = (&'static str, u64);
 
+/// The number behind a name among phrases; 0 where there is none.
+fn numbered(phrases: &str, name: &str) -> usize {
+    first(phrase(phrases, name)).0.parse::<usize>().unwrap_or(0)
+}
+
 impl Case {
     /// How the words before `: ` say that a call is made: phrases, parted by `, `.
     pub fn how<'a>(&self, phrases: &'a str, input: &'a [u8]) -> How<'a> {
@@ -134,6 +142,8 @@ impl Case {
             step: size.parse::<usize>().unwrap_or(usize::MAX),
             each: phrase(phrases, "each "),
             again: phrases.contains("again"),
+            failing_read: numbered(phrases, "read "),
+            failing_write: numbered(phrases, "write "),
         }
     }
 
@@ -221,12 +231,13 @@ impl Case {
         }
     }
 
-    /// Makes the tries that are asked, says what the call is answered where nothing fails, and gives what was written then.
+    /// Makes the tries that are asked, says what the call is answered without these, and gives what was written then.
     pub fn make<C: Call>(&self, call: &C, how: &How<'_>) -> Brittle {
-        let mut writer = self.writer(how, 0);
+        let mut writer = self.writer(how, how.failing_write);
         let answer = Case::new(self.alloc);
-        let mut reader = Pieces::new(how.input, how.step, 0);
-        call.make(&answer, &mut reader, &mut writer);
+        let mut reader = Pieces::new(how.input, how.step, how.failing_read);
+        let cut = call.make(&answer, &mut reader, &mut writer);
+        answer.print_cut(cut, usize::MAX);
         self.fail_as(&answer);
         if !how.each.is_empty() {
             self.say_tries(call, how, writer.taken.as_slice());

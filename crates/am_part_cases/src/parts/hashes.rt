@@ -1,7 +1,7 @@
 //! Hashes of bytes, and of alerts by their labels.
 
 use crate::common::Case;
-use crate::parts::seals;
+use crate::parts::plans;
 use am_alert_hash::{alert_hash, xxh64};
 use am_matcher::Labels;
 
@@ -18,6 +18,6 @@ pub fn answer(case: &Case, verb: &str, rest: &str) {
             given!(hash = case.made(alert_hash(case.alloc, &labels)));
             say!(case; hash, format_args!(" {hash:016x}"));
         }
-        _ => seals::answer(case, verb, rest),
+        _ => plans::answer(case, verb, rest),
     }
 }

@@ -1,7 +1,8 @@
-//! Held maps of silences.
+//! Held maps of silences, and keepers, which are maps with the moment of their last event.
 
 use crate::common::{Case, Fault, Printed, Spelled, cut, first};
 use crate::parts::matchers;
+use am_collect::{Keeper, KeeperError, Step};
 use am_merge::{FromVersionsError, Held};
 use am_silence::MeshSilence;
 use am_version_order::{Moment, Version};
@@ -9,7 +10,7 @@ use std::fmt::Debug;
 
 type Map = Held<MeshSilence>;
 
-/// Cases of maps: `map STEP; ..`, steps on an empty map; `versions SILENCE, ..`, the map that they make.
+/// Cases of maps and keepers: `map STEP; ..`, steps on an empty map; `versions SILENCE, ..`, the map that they make.
 pub fn answer(case: &Case, verb: &str, rest: &str) {
     match verb {
         "map" => {
@@ -23,6 +24,8 @@ pub fn answer(case: &Case, verb: &str, rest: &str) {
             given!(held = case.got(held, FromVersionsError::Memory));
             case.say_held(&held);
         }
+        "keeper" => keeper(case, rest),
+        "keeper-start" => keeper_start(case, rest),
         _ => matchers::answer(case, verb, rest),
     }
 }
@@ -62,10 +65,17 @@ fn take_pair(case: &Case, held: &mut Map, words: &str, now: Moment) {
     say_made(case, case.made(held.take_pair(one, other, now)));
 }
 
+/// Merges versions in; where memory runs out, says how many of them were taken, and what is held then.
 fn merge(case: &Case, map: &mut Map, words: &str, now: Moment) {
     let other = case.held(words);
-    given!(changed = case.made(map.merge(&other, now)));
-    say!(case; changed, " changed");
+    match map.merge(&other, now) {
+        Ok(changed) => say!(case; changed, " changed"),
+        Err(error) => {
+            say!(case; "MergeError { taken: ", error.taken, " }");
+            case.say_held(map);
+            case.fail(Fault::Memory);
+        }
+    }
 }
 
 fn say_bucket(case: &Case, held: &Map, pairs: &str) {
@@ -76,4 +86,88 @@ fn say_bucket(case: &Case, held: &Map, pairs: &str) {
         count = count.saturating_add(1);
     }
     say!(case; "(", count, ")");
+}
+
+/// Says what a call on a keeper answered, or why it was refused.
+fn say_kept<T: Debug + Drop>(case: &Case, answered: Result<T, KeeperError>) {
+    match answered {
+        Err(KeeperError::MomentBack { last }) => say!(case; "MomentBack ", @last),
+        answered => say_made(case, case.got(answered, KeeperError::Memory)),
+    }
+}
+
+/// A step and its moment, `take SILENCE at MOMENT` or `collect at MOMENT`.
+impl Spelled for (Step<MeshSilence>, Moment) {
+    fn spelled(case: &Case, text: &str) -> Option<(Step<MeshSilence>, Moment)> {
+        let (words, word) = cut(text, " at ");
+        let now = case.moment(word);
+        match first(words) {
+            ("collect", _) => Some((Step::Collect, now)),
+            (_, words) => Some((Step::Take(MeshSilence::spelled(case, words)?), now)),
+        }
+    }
+}
+
+fn keep_pair(case: &Case, keeper: &mut Keeper<MeshSilence>, text: &str) {
+    let (words, word) = cut(text, " at ");
+    given!((one, other) = Spelled::spelled(case, words));
+    say_kept(case, keeper.take_pair(one, other, case.moment(word)));
+}
+
+/// Runs steps, and says where they stop.
+fn run(case: &Case, keeper: &mut Keeper<MeshSilence>, text: &str) {
+    let steps = case.list(text, ", ");
+    match keeper.run(&steps) {
+        Ok(()) => case.put("done\n"),
+        Err((_, KeeperError::Memory)) => case.fail(Fault::Memory),
+        Err((place, refusal)) => {
+            put!(case; "stops at ", place, ": ");
+            say_kept::<()>(case, Err(refusal));
+        }
+    }
+}
+
+fn view(case: &Case, keeper: &Keeper<MeshSilence>, text: &str) {
+    let (id, word) = cut(text, " at ");
+    let id = case.text(id);
+    say_some!(case; version = keeper.view(&id, case.moment(word)); @version);
+}
+
+fn keeps(case: &Case, keeper: &mut Keeper<MeshSilence>, text: &str) {
+    match first(text) {
+        ("take" | "step", _) => {
+            let words = text.strip_prefix("step ").unwrap_or(text);
+            given!((step, now) = Spelled::spelled(case, words));
+            say_kept(case, keeper.step(step, now));
+        }
+        ("collect", rest) => say_kept(case, keeper.collect(case.moment(first(rest).1))),
+        ("pair", rest) => keep_pair(case, keeper, rest),
+        ("run", rest) => run(case, keeper, rest),
+        ("view", rest) => view(case, keeper, rest),
+        ("held", _) => case.say_held(keeper.held()),
+        _ => case.fail(Fault::Words),
+    }
+}
+
+/// `keeper MOMENT SILENCE, .. merged with SILENCE, ..; STEP; ..`: a keeper of a map, and its steps.
+fn keeper(case: &Case, rest: &str) {
+    let (map, text) = cut(rest, "; ");
+    let (word, words) = first(map);
+    let (words, others) = cut(words, " merged with ");
+    let (mut map, now) = (case.held(words), case.moment(word));
+    if !others.is_empty() {
+        merge(case, &mut map, others, now);
+    }
+    let mut keeper = Keeper::of(map, now);
+    for words in text.split("; ") {
+        keeps(case, &mut keeper, words);
+    }
+}
+
+/// `keeper-start MOMENT SILENCE, ..`: a keeper that starts with a list of versions, and what it holds.
+fn keeper_start(case: &Case, rest: &str) {
+    let (word, words) = first(rest);
+    let keeper = Keeper::start(case.alloc, case.list(words, ", "), case.moment(word));
+    given!(keeper = case.got(keeper, KeeperError::Memory));
+    case.say_held::<MeshSilence>(keeper.held());
 }

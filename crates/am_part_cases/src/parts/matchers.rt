@@ -8,7 +8,7 @@ use am_matcher::{
 };
 use am_merge::Held;
 use am_nflog::MeshEntry;
-use am_silence::{Matcher, MeshSilence};
+use am_silence::{Matcher, Matchers, MeshSilence};
 use am_version_order::Moment;
 
 type Map = Held<MeshSilence>;
@@ -57,7 +57,7 @@ fn verdicts(case: &Case, lists: &str, is_kept: bool) {
         let matchers = case.matchers(words);
         let verdict = match is_kept {
             true => patterns.verdict(&matchers),
-            false => verdict(case.alloc, &matchers),
+            false => verdict(case.alloc, &owned(case, &matchers)),
         };
         if let Some(verdict) = case.made(verdict) {
             put!(case; if place == 0 { "" } else { " " }, ?verdict);
@@ -67,6 +67,17 @@ fn verdicts(case: &Case, lists: &str, is_kept: bool) {
         put!(case; ", ", patterns.size(), " bytes kept");
     }
     case.put("\n");
+}
+
+/// The matchers with texts of their own.
+fn owned(case: &Case, matchers: &Matchers) -> Vec<Matcher> {
+    let mut all = Vec::new(case.alloc);
+    for matcher in matchers.iter() {
+        if let Some(matcher) = case.made(matcher.copied(case.alloc)) {
+            case.made(all.push(matcher));
+        }
+    }
+    all
 }
 
 /// `filter [TEXT] of SILENCE`: whether a filter, given with escapes, passes a silence, and whether its version.

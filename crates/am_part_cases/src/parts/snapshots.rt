@@ -15,7 +15,7 @@ use std::alloc::Global;
 /// The verbs of calls.
 const VERBS: [&str; 7] = ["load", "take_row", "save", "copy", "fold", "show", "send"];
 
-/// `VERB STATE HOW: ROW` or `VERB STATE ROW`; `show HOW: STATE at MOMENT: ROW`; `send HOW: TEXT`.
+/// `VERB STATE HOW: ROW` or `VERB STATE ROW`; `fold STATE at MOMENT, HOW: ROW`; `show HOW: STATE at MOMENT: ROW`; `send HOW: TEXT`.
 pub fn answer(case: &Case, verb: &str, rest: &str) {
     if !VERBS.contains(&verb) {
         return case.fail(Fault::Words);
@@ -29,7 +29,8 @@ pub fn answer(case: &Case, verb: &str, rest: &str) {
         "send" => case.unescaped(row),
         _ => case.bytes(row),
     };
-    let (state, now) = (first(of).0, case.moment(behind(of, " at ", "least")));
+    let now = case.moment(cut(behind(of, " at ", "least"), ",").0);
+    let state = first(of).0;
     let call = Calling { verb, state, now };
     let writer = case.make(&call, &case.how(how, bytes.as_slice()));
     if writer.calls > 0 {
@@ -41,7 +42,7 @@ pub fn answer(case: &Case, verb: &str, rest: &str) {
     }
 }
 
-/// Something that is done with a row of silences or of the log, or shown of it at a moment.
+/// Something that is done with a row of silences or of the log, or folded or shown of it at a moment.
 #[derive(Clone, Copy)]
 struct Calling<'a> {
     verb: &'a str,
@@ -72,10 +73,10 @@ impl Calling<'_> {
                 send(writer, reader.left)?;
                 Ok(reader.left.len() as u64)
             }
-            (verb, "nfl") => done_with::<MeshEntry>(alloc, verb, reader, writer),
+            (verb, "nfl") => done_with::<MeshEntry>(alloc, verb, self.now, reader, writer),
             (verb, _) => {
                 what_is_saved_is_loaded::<MeshSilence>();
-                done_with::<MeshSilence>(alloc, verb, reader, writer)
+                done_with::<MeshSilence>(alloc, verb, self.now, reader, writer)
             }
         }
     }
@@ -84,6 +85,7 @@ impl Calling<'_> {
 fn done_with<V: Version + Message>(
     alloc: Global,
     verb: &str,
+    now: Moment,
     reader: &mut Pieces<'_>,
     writer: &mut Brittle,
 ) -> Outcome {
@@ -91,7 +93,7 @@ fn done_with<V: Version + Message>(
         return Ok(take_row::<V, _>(alloc, reader)?.len() as u64);
     }
     if verb == "fold" {
-        return fold::<V, _, _>(alloc, reader, writer, Moment::LEAST);
+        return Ok(fold::<V, _, _>(alloc, reader, writer, now)?);
     }
     let held: Held<V> = load(alloc, reader)?;
     match verb {

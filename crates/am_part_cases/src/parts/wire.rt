@@ -1,7 +1,10 @@
 //! Moments and intervals; varints, fields, timestamps, and rows, also over readers that give few bytes, or fail.
 
-use crate::common::{Case, Fault, Pieces, Printed, behind, cut, first, moment_of, phrase};
+use crate::common::{
+    Brittle, Call, Case, Cut, Fault, Pieces, Printed, behind, cut, first, moment_of, phrase,
+};
 use crate::parts::versions;
+use am_silence::MeshSilence;
 use am_version_order::{Interval, Moment};
 use am_wire::reading::{AnyField, Scan, Schema, TimestampDraft};
 use am_wire::writing::append_text;
@@ -18,7 +21,8 @@ pub fn answer(case: &Case, verb: &str, rest: &str) {
         "sum" | "sums" => sum(case, case.moment(one), other),
         "wire" => wire(case, rest),
         "put" => put(case, rest),
-        "timestamps" => timestamps(case, rest),
+        "timestamps" => messages::<Moment>(case, rest),
+        "silences" => messages::<MeshSilence>(case, rest),
         _ => versions::answer(case, verb, rest),
     }
 }
@@ -95,22 +99,61 @@ fn put(case: &Case, rest: &str) {
     case.say_bytes(out.as_slice());
 }
 
-/// `timestamps in pieces of N, read N fails: BYTES`; `timestamps and zeros behind it: BYTES`, over the limit of an input.
-fn timestamps(case: &Case, rest: &str) {
+/// `timestamps in pieces of N, read N fails: BYTES`; `timestamps and zeros behind it: BYTES`, over the limit of an input; so
+/// `silences`. With `each read fails` it is a call that is tried, of timestamps alone.
+fn messages<M: Message + Printed>(case: &Case, rest: &str) {
     let (how, pairs) = cut(rest, ": ");
     let bytes = case.bytes(pairs);
+    if how.contains("each ") {
+        case.make(&Reading, &case.how(how, bytes.as_slice()));
+        return;
+    }
     if how.contains("zeros") {
         let mut reader = bytes.as_slice().chain(io::repeat(0)).take(67_108_865);
-        return say_moments(case, &mut reader);
+        return say_messages::<M, _>(case, &mut reader);
     }
     let step = case.number(phrase(how, "in pieces of ")) as usize;
     let fails_at = case.number(behind(how, " read ", "0")) as usize;
-    say_moments(case, &mut Pieces::new(&bytes, step, fails_at));
+    say_messages::<M, _>(case, &mut Pieces::new(&bytes, step, fails_at));
 }
 
-/// Says the timestamps, up to the end or a fault, and what is answered behind that.
-fn say_moments<R: Read>(case: &Case, reader: &mut R) {
-    let mut rows = RowReader::new(case.alloc);
+/// Reads a row of timestamps to its end or its first fault.
+#[derive(Clone, Copy)]
+struct Reading;
+
+impl Call for Reading {
+    fn make(&self, case: &Case, reader: &mut Pieces<'_>, _writer: &mut Brittle) -> Option<Cut> {
+        let mut rows = RowReader::<Moment>::new(case.alloc);
+        for _ in 0..1_000 {
+            match rows.next(reader) {
+                Ok(Some(moment)) => put!(case; @moment, ", "),
+                Ok(None) => {
+                    case.put("the end");
+                    break;
+                }
+                Err(RowFault::Read { at }) => {
+                    if !matches!(rows.next(reader), Err(RowFault::Ended)) {
+                        case.put("not ended, ");
+                    }
+                    return Some(("Read", at as u64));
+                }
+                Err(RowFault::Memory) => {
+                    case.fail(Fault::Memory);
+                    break;
+                }
+                Err(fault) => {
+                    case.debug(fault);
+                    break;
+                }
+            }
+        }
+        None
+    }
+}
+
+/// Says the messages, up to the end or a fault, and what is answered behind that.
+fn say_messages<M: Message + Printed, R: Read>(case: &Case, reader: &mut R) {
+    let mut rows = RowReader::<M>::new(case.alloc);
     for _ in 0..1_000 {
         if !says_next(case, &mut rows, reader) {
             break;
@@ -119,10 +162,14 @@ fn say_moments<R: Read>(case: &Case, reader: &mut R) {
     says_next(case, &mut rows, reader);
 }
 
-fn says_next<R: Read>(case: &Case, rows: &mut RowReader<Moment>, reader: &mut R) -> bool {
+fn says_next<M: Message + Printed, R: Read>(
+    case: &Case,
+    rows: &mut RowReader<M>,
+    reader: &mut R,
+) -> bool {
     match rows.next(reader) {
-        Ok(Some(moment)) => {
-            say!(case; @moment);
+        Ok(Some(message)) => {
+            say!(case; @message);
             return true;
         }
         Ok(None) => case.put("the end\n"),

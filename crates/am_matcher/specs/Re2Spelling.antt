@@ -1,0 +1,55 @@
+-- How the pieces of a pattern of RE2 are written for `regex`. All texts here are lists of characters.
+use Rattle.std.specs.Prelude.{ℕ, ◌-◌, Bool, List, [], ◌∷◌, ◌++◌, length, take, codes, Option, if◌then◌else◌}
+use Rattle.regex_syntax.specs.Reading.{◌∈◌}
+use Rattle.am_matcher.specs.declared.re2.pieces.Part.{Part}
+use Rattle.am_matcher.specs.declared.re2.pieces.Place.{Place}
+use Rattle.am_matcher.specs.declared.re2.pieces.Spelling.{Spelling}
+use Rattle.am_matcher.specs.declared.re2.pieces.Spelling.TheVariants.{Source, Character, Range, Perl, Property, Boundary, Group, Nothing}
+
+-- what stands at the front of a text
+pub record Read : Type 0 where
+  -- what it is to those beside it, where it is not a part of a class or of a quotation
+  pub part : Option Part
+  pub written : List ℕ
+  -- the name of the group that it opens
+  pub name : Option (List ℕ)
+  -- where the next one stands
+  pub place : Place
+  pub rest : List ℕ
+
+-- what stands before the rest of a text
+unfoldable pub before : List ℕ → List ℕ → List ℕ
+before text rest = take (length text - length rest) text
+
+-- a character that means more than itself, somewhere in a pattern of `regex`
+unfoldable pub is_meta : ℕ → Bool
+is_meta c = c ∈ "\\.+*?()|[]{}^$#&-~"
+
+-- a character for itself
+unfoldable pub literal : ℕ → List ℕ
+literal c = if is_meta c then 0x5C ∷ c ∷ [] else c ∷ []
+
+-- the characters of ASCII that `\d`, `\s` and `\w` stand for in RE2, or by an upper case all others
+unfoldable pub perl : ℕ → List ℕ
+perl letter =
+    if letter ∈ "d" then codes "[0-9]"
+    else if letter ∈ "D" then codes "[^0-9]"
+    else if letter ∈ "s" then codes "[\\t\\n\\f\\r ]"
+    else if letter ∈ "S" then codes "[^\\t\\n\\f\\r ]"
+    else if letter ∈ "w" then codes "[0-9A-Za-z_]"
+    else codes "[^0-9A-Za-z_]"
+
+-- the characters with the property, or all others
+unfoldable pub property : Bool → List ℕ → List ℕ
+property negated name = (if negated then codes "\\P{" else codes "\\p{") ++ (name ++ codes "}")
+
+-- what a piece is written as
+unfoldable pub spelled : Spelling → List ℕ
+spelled (Source source) = source.now
+spelled (Character c) = literal c
+spelled (Range low high) = literal low ++ 0x2D ∷ literal high
+spelled (Perl letter) = perl letter
+spelled (Property negated name) = property negated name.now
+spelled Boundary = codes "(?-u:\\b)"
+spelled Group = codes "("
+spelled Nothing = []

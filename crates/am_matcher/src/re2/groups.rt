@@ -1,0 +1,98 @@
+//! Groups and flags.
+
+ghost use Rattle.std.specs.Prelude.{◌≡◌, ◌==◌, ◌<◌, ◌≤◌, length, IfSome};
+ghost use Rattle.std.specs.List.{list_any};
+ghost use Rattle.am_matcher.specs.Re2Pieces.{has_twice, are_flags, is_name, named_group, flagged_group, group};
+
+use crate::re2::pieces::{Part, Piece, Place, Spelling, outside};
+use crate::re2::runs::{before, split_flags, split_word};
+
+/// Tells whether the letter is among them.
+fn contains(letters: &[char], letter: char) -> bool
+    ensures { result ≡ list_any (λ other. other == letter) letters.now }
+{
+    letters.iter().any(|other| *other == letter)
+}
+
+/// Tells whether one of them comes twice.
+#[tactic(auto, unfolding(crate::specs::Re2Pieces::has_twice))]
+fn has_twice(letters: &[char]) -> bool
+    ensures { result ≡ has_twice letters.now }
+{
+    match letters {
+        [] => false,
+        [first, rest @ ..] => contains(rest, *first) || has_twice(rest),
+    }
+}
+
+/// Tells whether these are flags: some, none of them twice, and something behind the hyphen.
+#[tactic(auto, unfolding(crate::specs::Re2Pieces::are_flags))]
+fn are_flags(letters: &[char]) -> bool
+    ensures { result ≡ are_flags letters.now }
+{
+    !letters.is_empty()
+        && letters.len() <= 5
+        && !has_twice(letters)
+        && !matches!(letters, [.., '-'])
+}
+
+/// Tells whether these characters of a word are the name of a group.
+#[tactic(auto, unfolding(crate::specs::Re2Pieces::is_name))]
+fn is_name(word: &[char]) -> bool
+    ensures { result ≡ is_name word.now }
+{
+    match word {
+        [] => false,
+        [first, ..] => !first.is_ascii_digit(),
+    }
+}
+
+/// The start of a group whose name is at the front.
+#[tactic(auto, unfolding(crate::specs::Re2Pieces::named_group, crate::specs::Re2Spelling::spelled))]
+fn named_group(text: &[char]) -> Option<Piece<'_>>
+    ensures value { result ≡ named_group text.now }
+    ensures shorter { IfSome result (λ found. length found.rest < length text.now) }
+{
+    let (name, rest) = split_word(text);
+    match rest {
+        ['>', rest @ ..] if is_name(name) => Some(Piece {
+            part: Some(Part::Open),
+            spelling: Spelling::Group,
+            name: Some(name),
+            place: Place::Outside,
+            rest,
+        }),
+        _ => None,
+    }
+}
+
+/// The start of a group with flags, or flags alone. They are behind the front of the text.
+#[tactic(auto, unfolding(crate::specs::Re2Pieces::flagged_group, crate::specs::Re2Spelling::spelled))]
+fn flagged_group<'a>(text: &'a [char], behind: &'a [char]) -> Option<Piece<'a>>
+    ensures value { result ≡ flagged_group text.now behind.now }
+    ensures shorter { IfSome result (λ found. length found.rest < length behind.now) }
+{
+    let (flags, rest) = split_flags(behind);
+    match rest {
+        [':', rest @ ..] if flags.is_empty() || are_flags(flags) => {
+            Some(outside(Part::Open, Spelling::Source(before(text, rest)), rest))
+        }
+        [')', rest @ ..] if are_flags(flags) => {
+            Some(outside(Part::Fixed, Spelling::Source(before(text, rest)), rest))
+        }
+        _ => None,
+    }
+}
+
+/// Reads what the parenthesis at the front of the text begins: a group, or flags.
+#[tactic(auto, unfolding(crate::specs::Re2Pieces::group, crate::specs::Re2Spelling::spelled))]
+pub fn group<'a>(text: &'a [char], behind: &'a [char]) -> Option<Piece<'a>>
+    ensures value { result ≡ group text.now behind.now }
+    ensures shorter { IfSome result (λ found. length found.rest ≤ length behind.now) }
+{
+    match behind {
+        ['?', 'P', '<', rest @ ..] => named_group(rest),
+        ['?', rest @ ..] => flagged_group(text, rest),
+        _ => Some(outside(Part::Open, Spelling::Group, behind)),
+    }
+}

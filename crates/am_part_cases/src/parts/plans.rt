@@ -1,0 +1,121 @@
+//! Plans of a post and of an end, and the entry that a notification leaves.
+
+use crate::common::{Case, Printed, Spelled, behind, cut, first};
+use crate::parts::seals;
+use am_nflog::{Bytes, Hashes, make_entry};
+use am_silence::{
+    MeshSilence, Plan, Posted, Silence, SilenceError, Verdict, plan_expire, plan_post,
+};
+use am_wire::{Message, WireError};
+
+/// Cases of plans and of made entries. What is planned keeps silences for 100 s after their end.
+pub fn answer(case: &Case, verb: &str, rest: &str) {
+    match verb {
+        "plan-post" => post(case, rest),
+        "plan-end" => end(case, rest),
+        "made-entry" => made(case, rest),
+        _ => seals::answer(case, verb, rest),
+    }
+}
+
+/// The version of words, or none of `nothing`.
+fn held(case: &Case, words: &str) -> Option<MeshSilence> {
+    match words {
+        "nothing" => None,
+        _ => MeshSilence::spelled(case, words),
+    }
+}
+
+/// Reads a post: a silence in words, whose matchers are sound; its identifier is `-` if none is posted.
+fn posted(case: &Case, words: &str) -> Posted {
+    let Silence {
+        id,
+        matchers,
+        starts_at,
+        ends_at,
+        updated_at: _,
+        created_by,
+        comment,
+    } = case.silence(words);
+    let id = (first(words).0 != "-").then_some(id);
+    Posted {
+        id,
+        matchers,
+        starts_at,
+        ends_at,
+        created_by,
+        comment,
+    }
+}
+
+/// `plan-post at MOMENT: SILENCE over VERSION`, by bits 0; behind `at MOMENT, held` the identifier that they give is held.
+fn post(case: &Case, rest: &str) {
+    let (how, words) = cut(rest, ": ");
+    let (words, version) = cut(words, " over ");
+    let now = case.moment(cut(behind(how, "at ", "-"), ",").0);
+    let id_held = how.ends_with("held");
+    let held = held(case, version);
+    given!(retention = case.seconds("100"));
+    let plan = plan_post(
+        case.alloc,
+        held.as_ref(),
+        posted(case, words),
+        Verdict::Fine,
+        now,
+        0,
+        id_held,
+        retention,
+    );
+    given!(plan = planned(case, plan));
+    say_plan(case, &plan);
+}
+
+fn say_plan(case: &Case, plan: &Plan) {
+    match plan {
+        Plan::Update(version) => say!(case; "update ", @version),
+        Plan::Create(version) => say!(case; "create ", @version),
+        Plan::Replace { new, old } => say!(case; "new ", @new, "\nold ", @old),
+    }
+}
+
+/// `plan-end at MOMENT: VERSION`
+fn end(case: &Case, rest: &str) {
+    let (how, version) = cut(rest, ": ");
+    let held = held(case, version);
+    given!(retention = case.seconds("100"));
+    let now = case.moment(behind(how, "at ", "-"));
+    given!(ended = planned(case, plan_expire(case.alloc, held.as_ref(), now, retention)));
+    say!(case; @ended);
+}
+
+/// Returns the plan, or says why it is refused.
+fn planned<T: Drop>(case: &Case, plan: Result<T, SilenceError>) -> Option<T> {
+    if let Err(SilenceError::Newer { held }) = plan {
+        say!(case; "Newer ", @held);
+        return None;
+    }
+    case.got(plan, SilenceError::Memory)
+}
+
+/// `made-entry GROUP RECEIVER firing LIST resolved LIST repeat SECONDS retention SECONDS at MOMENT`: the entry, and its bytes.
+fn made(case: &Case, rest: &str) {
+    let (group, words) = first(rest);
+    let receiver = case.receiver(first(words).0);
+    let firing = Hashes::new(case.numbers(behind(words, " firing ", "-")));
+    let resolved = Hashes::new(case.numbers(behind(words, " resolved ", "-")));
+    given!(repeat = case.seconds(behind(words, " repeat ", "-")));
+    given!(retention = case.seconds(behind(words, " retention ", "-")));
+    let now = case.moment(behind(words, " at ", "-"));
+    let group = Bytes::new(case.unescaped(group));
+    let made = make_entry(
+        case.alloc, group, receiver, firing, resolved, repeat, retention, now,
+    );
+    given!(made = case.got(made, WireError::Memory));
+    let Some(entry) = made else {
+        return case.put("none\n");
+    };
+    say!(case; @entry);
+    let mut bytes = Vec::new(case.alloc);
+    case.made(entry.encode(&mut bytes));
+    case.say_bytes(bytes.as_slice());
+}
