@@ -1,4 +1,4 @@
-use Rattle.std.proofs.Common.{◌-◌, ◌+◌}
+use Rattle.std.proofs.Common.{◌-◌}
 use Rattle.am_connection.specs.Connections.{stand}
 use Rattle.am_connection.proofs.Hearing.{HasHeard}
 use Rattle.am_connection.proofs.conversing.converse.Given as goal
