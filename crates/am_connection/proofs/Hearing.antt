@@ -1,11 +1,10 @@
 -- Pieces that come one after the other.
-use Rattle.std.proofs.Common.{◌≡◌, ℕ, ◌+◌, ◌<◌, ◌≤◌, List, [], ◌∷◌, ◌++◌, length, length-append, Option, None, Some, ◌∙◌, refl, sym, ap, subst, arith, append-nil, append_assoc, inl, inr}
-use Rattle.std.proofs.KnownBytes.{Consumes-nil, Consumes-kept, Consumes-trans}
-use Rattle.std.specs.Io.KnownBytes.{Consumes, Keeps, IsAtEnd}
+use Rattle.std.proofs.Common.{false, is_some, ◌≡◌, ℕ, ◌+◌, ◌≤◌, List, [], ◌∷◌, ◌++◌, length, length-append, Option, None, Some, ◌∙◌, refl, sym, ap, subst, arith, append-nil, append_assoc}
+use Rattle.std.proofs.KnownBytes.{Consumes-trans}
+use Rattle.std.specs.Io.KnownBytes.{Consumes}
 use Rattle.am_http.specs.Sessions.{most_bytes}
 use Rattle.am_peers.specs.declared.fault.Fault.{Fault}
-use Rattle.am_peers.specs.declared.fault.Fault.TheVariants.{Read, TooLarge}
-use Rattle.am_connection.specs.Connections.{AreTurns, EndsWith, FailsToRead, IsConversed, IsLast, IsTooLarge, IsTurn, Stand, joined}
+use Rattle.am_connection.specs.Connections.{AreTurns, IsTurn, Stand, joined}
 
 -- so far pieces came that are not at fault, of so many bytes
 pub record HasHeard (bits now count : ℕ) (input left : Option (List ℕ)) (before after : Stand) : Type 0 where
@@ -14,10 +13,6 @@ pub record HasHeard (bits now count : ℕ) (input left : Option (List ℕ)) (bef
   pub turns : AreTurns bits now pieces before after
   pub counted : count ≡ length (joined pieces)
   pub few : count ≤ most_bytes
-
--- none came yet
-pub heard_none : (bits now : ℕ) (input : Option (List ℕ)) (before : Stand) → HasHeard bits now 0 input input before before
-heard_none bits now input before = record { pieces = []; consumed = Consumes-nil input; turns = refl; counted = refl; few = omega arith }
 
 -- the bytes of pieces and one more
 pub joined-append : (pieces : List (List ℕ)) (piece : List ℕ) → joined (pieces ++ piece ∷ []) ≡ joined pieces ++ piece
@@ -30,62 +25,21 @@ turns-append : (bits now : ℕ) (pieces : List (List ℕ)) (piece : List ℕ) (b
 turns-append bits now [] piece before mid after same turn = (after, subst (λ (s : Stand). IsTurn bits now piece s after None) same turn, refl)
 turns-append bits now (first ∷ pieces) piece before mid after turns turn = (turns.0, turns.1, turns-append bits now pieces piece turns.0 mid after turns.2 turn)
 
+none_of : (stop : Option Fault) → is_some stop ≡ false → stop ≡ None
+none_of None on = refl
+none_of (Some fault) on = absurd cc
+
 -- one more piece came
-pub heard_more : (bits now count : ℕ) (input mid_input left : Option (List ℕ)) (before mid after : Stand) (piece : List ℕ) (stop : Option Fault)
-    → HasHeard bits now count input mid_input before mid → Consumes mid_input left piece → IsTurn bits now piece mid after stop → stop ≡ None
-    → count + length piece ≤ most_bytes → HasHeard bits now (count + length piece) input left before after
-heard_more bits now count input mid_input left before mid after piece stop heard came turn none few =
+pub heard_more : (bits now count : ℕ) (input mid_input left : Option (List ℕ)) (before mid after : Stand) (piece : List ℕ) (size : ℕ) (stop : Option Fault)
+    → HasHeard bits now count input mid_input before mid → Consumes mid_input left piece → length piece ≡ size → IsTurn bits now piece mid after stop → is_some stop ≡ false
+    → count + size ≤ most_bytes → HasHeard bits now (count + size) input left before after
+heard_more bits now count input mid_input left before mid after piece size stop heard came length_is turn on few =
     let whole = joined-append heard.pieces piece in
-    let size = ap length whole ∙ length-append (joined heard.pieces) piece in
+    let all = ap length whole ∙ length-append (joined heard.pieces) piece in
     record {
       pieces = heard.pieces ++ piece ∷ [];
       consumed = subst (λ (bytes : List ℕ). Consumes input left bytes) (sym whole) (Consumes-trans input mid_input left (joined heard.pieces) piece heard.consumed came);
-      turns = turns-append bits now heard.pieces piece before mid after heard.turns (subst (λ (f : Option Fault). IsTurn bits now piece mid after f) none turn);
-      counted = omega (arith, heard.counted, size);
+      turns = turns-append bits now heard.pieces piece before mid after heard.turns (subst (λ (f : Option Fault). IsTurn bits now piece mid after f) (none_of stop on) turn);
+      counted = omega (arith, heard.counted, all, length_is);
       few = few;
     }
-
--- a read failed
-pub heard_failed : (bits now count : ℕ) (input mid_input left : Option (List ℕ)) (before mid : Stand) → HasHeard bits now count input mid_input before mid → Keeps mid_input left
-    → IsConversed bits now input left before mid (Some (Read count))
-heard_failed bits now count input mid_input left before mid heard kept = record {
-  pieces = heard.pieces;
-  mid_input = mid_input;
-  consumed = heard.consumed;
-  mid = mid;
-  turns = heard.turns;
-  ending = inl (record { nothing = Consumes-kept mid_input mid_input left [] (Consumes-nil mid_input) kept; same = refl; told = ap (λ (n : ℕ). Some (Read n)) heard.counted });
-}
-
--- the last piece came
-pub heard_last : (bits now count : ℕ) (input mid_input left : Option (List ℕ)) (before mid after : Stand) (piece : List ℕ) (stop : Option Fault)
-    → HasHeard bits now count input mid_input before mid → Consumes mid_input left piece → (piece ≡ [] → IsAtEnd left) → IsTurn bits now piece mid after stop
-    → IsLast piece after stop stop → IsConversed bits now input left before after stop
-heard_last bits now count input mid_input left before mid after piece stop heard came end turn last = record {
-  pieces = heard.pieces;
-  mid_input = mid_input;
-  consumed = heard.consumed;
-  mid = mid;
-  turns = heard.turns;
-  ending = inr (record { piece = piece; consumed = came; at_end = end; stop = stop; turn = turn; ends = inl last });
-}
-
--- one piece too many came
-pub heard_too_much : (bits now count : ℕ) (input mid_input left : Option (List ℕ)) (before mid after : Stand) (piece : List ℕ) (stop : Option Fault)
-    → HasHeard bits now count input mid_input before mid → Consumes mid_input left piece → (piece ≡ [] → IsAtEnd left) → IsTurn bits now piece mid after stop → stop ≡ None
-    → most_bytes < count + length piece → IsConversed bits now input left before after (Some TooLarge)
-heard_too_much bits now count input mid_input left before mid after piece stop heard came end turn none many = record {
-  pieces = heard.pieces;
-  mid_input = mid_input;
-  consumed = heard.consumed;
-  mid = mid;
-  turns = heard.turns;
-  ending = inr (record {
-    piece = piece;
-    consumed = came;
-    at_end = end;
-    stop = stop;
-    turn = turn;
-    ends = inr (record { many = omega (arith, many, heard.counted); none = none; told = refl });
-  });
-}
