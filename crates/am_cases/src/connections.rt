@@ -32,7 +32,7 @@ struct Seen {
     status: Option<u16>,
 }
 
-/// What came of a request, as what came of its connection.
+/// Returns the outcome of a request as that of its connection.
 fn served(served: Served) -> Seen {
     let Served {
         status,
@@ -206,7 +206,7 @@ fn say_differences(case: &Case, coming: &Coming<'_>, how: &How<'_>, whole: &str)
     }
 }
 
-/// What goes out to a peer.
+/// Says the bytes that go out to a peer.
 #[derive(Clone, Copy)]
 struct Sending<'a> {
     name: &'a str,

@@ -15,13 +15,13 @@ use am_version_order::Moment;
 use std::alloc::Global;
 use std::io;
 
-/// How many bytes are asked for at once.
+/// The most bytes that are asked for at once.
 const PIECE: usize = 16_384;
 
 /// The most bytes of a connection.
 const MOST_BYTES: u64 = 134_217_728;
 
-/// What a piece of a connection says; none is the end of its input.
+/// Returns what a piece of a connection says; none is the end of its input.
 fn tell(session: &mut Session, piece: &[u8]) -> SessionOutput
     ensures { Tells session.old (came_of piece.now) (spoken result) session.new }
 {

@@ -1,4 +1,4 @@
-//! What came of a connection.
+//! Outcomes of connections.
 
 ghost use Rattle.std.specs.Prelude.{◌≡◌};
 ghost use Rattle.am_connection.specs.Connections.{AddsAll, effects_of};
@@ -10,12 +10,12 @@ use am_member::StepEffects;
 use am_peers::Fault;
 use std::alloc::Global;
 
-/// What came of a connection that has ended.
+/// The outcome of a connection that has ended.
 #[derive(Drop)]
 pub struct Ended {
     /// The frames to be sent, in order, each with the place of the peer that it goes to.
     pub frames: Vec<(Place, Frame)>,
-    /// How many frames were left out.
+    /// The counts of frames that were left out.
     pub unsent: Unsent,
     /// A Tick was among the steps that were made.
     pub ticked: bool,

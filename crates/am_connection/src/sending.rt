@@ -1,4 +1,4 @@
-//! What goes out to a peer.
+//! Sending to a peer.
 
 ghost use Rattle.std.specs.Prelude.{◌≡◌, ◌⊎◌, ◌↔◌, ◌&&◌, false, Err, IfOk, IfErr, IsTrue};
 ghost use Rattle.am_gossip.specs.declared.error.FrameError.TheVariants as frame_errors;
@@ -25,7 +25,7 @@ pub enum SendError {
     Length,
 }
 
-/// Whether a text is over a limit.
+/// Tells whether a text is over a limit.
 fn is_too_long(text: &Result<Vec<u8>, FrameError>) -> bool
     ensures { IsTrue result ↔ (text.now ≡ Err frame_errors.Length) }
 {

@@ -15,7 +15,7 @@ use std::net::TcpListener;
 ///
 /// # Errors
 ///
-/// What the system says where no connection is accepted; no step is made then.
+/// The fault of the system if no connection is accepted; no step is made then.
 pub fn turn(
     alloc: Global,
     listener: &TcpListener,
