@@ -88,11 +88,12 @@ fn say_bucket(case: &Case, held: &Map, pairs: &str) {
     say!(case; "(", count, ")");
 }
 
-/// Says what a call on a keeper answered, or why it was refused.
-fn say_kept<T: Debug + Drop>(case: &Case, answered: Result<T, KeeperError>) {
-    match answered {
-        Err(KeeperError::MomentBack { last }) => say!(case; "MomentBack ", @last),
-        answered => say_made(case, case.got(answered, KeeperError::Memory)),
+/// Says why a keeper refused a call.
+fn say_refusal(case: &Case, refusal: KeeperError) {
+    match refusal {
+        KeeperError::MomentBack { last } => say!(case; "MomentBack ", @last),
+        KeeperError::DuplicateKey => say!(case; "DuplicateKey"),
+        KeeperError::Memory => case.fail(Fault::Memory),
     }
 }
 
@@ -111,7 +112,10 @@ impl Spelled for (Step<MeshSilence>, Moment) {
 fn keep_pair(case: &Case, keeper: &mut Keeper<MeshSilence>, text: &str) {
     let (words, word) = cut(text, " at ");
     given!((one, other) = Spelled::spelled(case, words));
-    say_kept(case, keeper.take_pair(one, other, case.moment(word)));
+    match keeper.take_pair(one, other, case.moment(word)) {
+        Ok(taken) => say!(case; ?taken),
+        Err(refusal) => say_refusal(case, refusal),
+    }
 }
 
 /// Runs steps, and says where they stop.
@@ -122,7 +126,7 @@ fn run(case: &Case, keeper: &mut Keeper<MeshSilence>, text: &str) {
         Err((_, KeeperError::Memory)) => case.fail(Fault::Memory),
         Err((place, refusal)) => {
             put!(case; "stops at ", place, ": ");
-            say_kept::<()>(case, Err(refusal));
+            say_refusal(case, refusal);
         }
     }
 }
@@ -133,14 +137,25 @@ fn view(case: &Case, keeper: &Keeper<MeshSilence>, text: &str) {
     say_some!(case; version = keeper.view(&id, case.moment(word)); @version);
 }
 
+fn keep_step(case: &Case, keeper: &mut Keeper<MeshSilence>, words: &str) {
+    given!((step, now) = Spelled::spelled(case, words));
+    match keeper.step(step, now) {
+        Ok(stepped) => say!(case; ?stepped),
+        Err(refusal) => say_refusal(case, refusal),
+    }
+}
+
+fn keep_collect(case: &Case, keeper: &mut Keeper<MeshSilence>, now: Moment) {
+    match keeper.collect(now) {
+        Ok(went) => say!(case; ?went),
+        Err(refusal) => say_refusal(case, refusal),
+    }
+}
+
 fn keeps(case: &Case, keeper: &mut Keeper<MeshSilence>, text: &str) {
     match first(text) {
-        ("take" | "step", _) => {
-            let words = text.strip_prefix("step ").unwrap_or(text);
-            given!((step, now) = Spelled::spelled(case, words));
-            say_kept(case, keeper.step(step, now));
-        }
-        ("collect", rest) => say_kept(case, keeper.collect(case.moment(first(rest).1))),
+        ("take" | "step", _) => keep_step(case, keeper, text.strip_prefix("step ").unwrap_or(text)),
+        ("collect", rest) => keep_collect(case, keeper, case.moment(first(rest).1)),
         ("pair", rest) => keep_pair(case, keeper, rest),
         ("run", rest) => run(case, keeper, rest),
         ("view", rest) => view(case, keeper, rest),

@@ -48,15 +48,16 @@ fn matches(case: &Case, rest: &str) {
     given!(matcher = case.made(matcher.copied(case.alloc)));
     let compiled = Compiled::build(case.alloc, &matcher);
     given!(mut compiled = case.got(compiled, BuildError::Memory));
-    let mut before = "";
+    let mut found = false;
     for (place, word) in texts.split(' ').enumerate() {
         let text = text_of(case, word);
         if case.made(compiled.matches(text.as_str())).unwrap_or(false) {
-            put!(case; before, place.saturating_add(1));
-            before = " ";
+            case.put(if found { " " } else { "" });
+            put!(case; place.saturating_add(1));
+            found = true;
         }
     }
-    say!(case; if before.is_empty() { "none" } else { "" });
+    case.put(if found { "\n" } else { "none\n" });
 }
 
 /// `hazard SILENCE`: why an Alertmanager can't hold it, or `none`.

@@ -1,6 +1,6 @@
 //! Plans of a post and of an end, and the entry that a notification leaves.
 
-use crate::common::{Case, Printed, Spelled, behind, cut, first};
+use crate::common::{Case, Fault, Printed, Spelled, behind, cut, first};
 use crate::parts::patterns;
 use am_nflog::{Bytes, Hashes, make_entry};
 use am_silence::{
@@ -66,8 +66,10 @@ fn post(case: &Case, rest: &str) {
         id_held,
         retention,
     );
-    given!(plan = planned(case, plan));
-    say_plan(case, &plan);
+    match plan {
+        Ok(plan) => say_plan(case, &plan),
+        Err(error) => say_refusal(case, error),
+    }
 }
 
 fn say_plan(case: &Case, plan: &Plan) {
@@ -84,17 +86,19 @@ fn end(case: &Case, rest: &str) {
     let held = held(case, version);
     given!(retention = case.seconds("100"));
     let now = case.moment(behind(how, "at ", "-"));
-    given!(ended = planned(case, plan_expire(case.alloc, held.as_ref(), now, retention)));
-    say!(case; @ended);
+    match plan_expire(case.alloc, held.as_ref(), now, retention) {
+        Ok(ended) => say!(case; @ended),
+        Err(error) => say_refusal(case, error),
+    }
 }
 
-/// Returns the plan, or says why it is refused.
-fn planned<T: Drop>(case: &Case, plan: Result<T, SilenceError>) -> Option<T> {
-    if let Err(SilenceError::Newer { held }) = plan {
-        say!(case; "Newer ", @held);
-        return None;
+/// Says why no plan was made.
+fn say_refusal(case: &Case, error: SilenceError) {
+    match error {
+        SilenceError::Newer { held } => say!(case; "Newer ", @held),
+        SilenceError::Memory => case.fail(Fault::Memory),
+        error => say!(case; ?error),
     }
-    case.got(plan, SilenceError::Memory)
 }
 
 /// `made-entry GROUP RECEIVER firing LIST resolved LIST repeat SECONDS retention SECONDS at MOMENT`: the entry, and its bytes.
