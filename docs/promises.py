@@ -54,7 +54,7 @@ TAIL = """## Only tested
 - **A member's turns, figures, readiness and first pull**, and that it gives each step its moment: tests/turns.py, tests/operations.py, tests/three_members.py, tests/machines.py.
 - **Pages** go out, and once if nothing fails: tests/pages.py; beside real Alertmanagers tests/real_shims.py, on request.
 - **Command lines, servers, logs that are read, pictures' layout, the page for people**: tests/command_line.py, live_sources.py, log_sources.py, gossip.py, pictures.py, page.py (with chromium).
-- **That a member's lock is its secret's, that an entrance hears what it should, that what is sealed opens, that a reply which isn't about silences is that of its call, that `push` sends just the lacking rows, and that a member beside Alertmanagers asks and tells them**: tests/machines.py, tests/gossip.py, tests/beside.py.
+- **That a member's lock is its secret's, that an entrance hears what it should, that what is sealed opens, that a reply which isn't about silences is that of its call, that `push` sends just the lacking rows and none with a hazard, and that a member beside Alertmanagers asks and tells them**: tests/machines.py, tests/gossip.py, tests/beside.py.
 - **Refused memory and hostile input**: tests/refused_memory.py, tests/fuzz.py, am_tests.
 - **Real replicas** of prometheus-alertmanager 0.25.0: tests/real_replicas.py, on request.
 
@@ -63,7 +63,9 @@ TAIL = """## Only tested
 The toolchain, the C library, the statements of the kit's crates, the disk, and that nobody makes an HMAC without its key. Nobody promises that memory lasts or a frame arrives. No contract says
 
 - that `Memory` is answered only if an allocation was refused, or `Read` only if a read failed;
-- which patterns `regex` finds too big, or which ones are compiled before a step;
+- which patterns `regex` finds too big, so that `hazard_of` may call any pattern refused; or which ones are compiled before a step;
+- that a pattern of RE2 and its translation match the same texts (cases/re2.txt, recorded from Go);
+- that a connection's pieces are the frames of all its bytes: `connection` says it piece by piece;
 - that an unfinished head of over 64 fields is refused at once;
 - which canonical texts are kept as they came, or that `sort_row` refuses a row over 64 MiB;
 - that `SystemDisk` and `LogFile` make the calls that they note, and that bytes outside of a write stay;
