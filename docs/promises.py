@@ -53,8 +53,8 @@ TAIL = """## Only tested
 - **`--log`**: a reply and its frames wait for the log, so that members with logs are durable: tests/disk.py.
 - **A member's turns, figures, readiness and first pull**, and that it gives each step its moment: tests/turns.py, tests/operations.py, tests/three_members.py, tests/machines.py.
 - **Pages** go out, and once if nothing fails: tests/pages.py; beside real Alertmanagers tests/real_shims.py, on request.
-- **Command lines, servers, logs that are read, pictures' layout, the page for people**: tests/command_line.py, live_sources.py, log_sources.py, gossip.py, pictures.py, page.py (with chromium).
-- **That a member's lock is its secret's, that an entrance hears what it should, that what is sealed opens, that a reply which isn't about silences is that of its call, that `push` sends just the lacking rows and none with a hazard, and that a member beside Alertmanagers asks and tells them**: tests/machines.py, tests/gossip.py, tests/beside.py.
+- **Command lines, what a path, a server or logs give, the counts of `diff --prometheus`, what `mend` does in turn, pictures' layout, the page for people**: tests/command_line.py, live_sources.py, log_sources.py, gossip.py, pictures.py, page.py (with chromium).
+- **That a member's lock is its secret's, that an entrance hears what it should, that what is sealed opens, that a reply which isn't about silences is that of its call, that the rows which `push` and `mend` send are those of the versions that it picks, without a hazard, and that a member beside Alertmanagers asks and tells them**: tests/machines.py, tests/gossip.py, tests/beside.py.
 - **Refused memory and hostile input**: tests/refused_memory.py, tests/fuzz.py, am_tests.
 - **Real replicas** of prometheus-alertmanager 0.25.0: tests/real_replicas.py, on request.
 

@@ -19,7 +19,7 @@ from lib.error_lines import EARLY
 from lib.members import choose, free_ports, run, run_at_terminal
 from lib.row_faults import fault_of
 from lib.samples import ENTRY, FIRST, ORDERS, ORDERS_OUTPUT, RESTARTED, RESTARTED_OUTPUT, SECOND
-from lib.tally import compare, finish
+from lib.tally import check, compare, finish
 from lib.versions import row
 
 # FIRST with an old comment, and ENTRY with its hashes one by one.
@@ -44,6 +44,7 @@ Commands:
   diff      Reads what several replicas hold, and prints in key order at which keys they differ, and which of them counts
   pull      Reads a state of a running Alertmanager by its gossip, and writes it as a snapshot, in key order
   push      Sends a running Alertmanager by its gossip those of the versions on standard input that it lacks, and tells which it doesn't hold then
+  mend      Asks running Alertmanagers by their gossip what they hold, tells how they differ, and with --apply sends each what it lacks
   instance  Runs one member: serves the silences of API v2 to people and tools, and frames to its peers
   help      Print this message or the help of the given subcommand(s)
 
@@ -69,10 +70,11 @@ Arguments:
   [FILE]...  Files with rows, which are folded together; '-' is standard input, which is read where no file is named
 
 Options:
-      --state <STATE>  The state that the row is of: silences or the notification log [possible values: sil, nfl]
-      --now <MOMENT>   The moment of taking, in nanoseconds since 1970 or as 2026-11-26T12:00:00Z; with --log it may be left out
-      --log            Joins each file with the logs beside it, FILE.log and FILE.log.old, which a member with --log keeps
-  -h, --help           Print help
+      --state <STATE>       The state that the row is of: silences or the notification log [possible values: sil, nfl]
+      --now <MOMENT>        The moment of taking, in nanoseconds since 1970 or as 2026-11-26T12:00:00Z; with --log it may be left out
+      --log                 Joins each file with the logs beside it, FILE.log and FILE.log.old, which a member with --log keeps
+      --most-bytes <BYTES>  How many bytes each input and the result may have, 1 to 4294967295 [default: 67108864]
+  -h, --help                Print help
 
 Examples:
   cat am1/silences am2/silences | am_tool fold --state sil --now 0 > silences
@@ -112,6 +114,7 @@ Options:
       --held            Compares all that the sources hold, what has expired too, and not only what they show
       --long            Also prints below each line the matchers, author and comment of a silence and what changed, or receiver and group of an entry
       --json            Prints the differences as a list in JSON, on one line, in place of the lines
+      --prometheus      Prints figures in Prometheus' text format in place of the lines: of each source at how many keys it holds none (missing) or a lesser version (behind), and the moment
       --time-limit <S>  For how many seconds a connection to a server may last, 1 to 3600 [default: 5]
       --log             Joins each file with the logs beside it, FILE.log and FILE.log.old, which a member with --log keeps
   -h, --help            Print help
@@ -136,6 +139,7 @@ Examples:
   am_tool diff --state sil --log a=a.sil b=b.sil
   ssh b cat b.nfl | am_tool diff --state nfl --held a=a.nfl b=-
   am_tool diff --state sil --json a=a.sil b=b.sil | jq -r '.[].key.id'
+  am_tool diff --state sil --prometheus a=gossip://10.0.0.1:9094 b=gossip://10.0.0.2:9094
 """
 REPLICA_HELP = """  <REPLICA>  gossip://HOST:PORT, where the replica listens for others (--cluster.listen-address), with an address of IPv4, of IPv6 in brackets, or localhost
 """
@@ -258,6 +262,9 @@ BAD_NOW = (
     "error: invalid value for '--now <MOMENT>': nanoseconds since 1970 are wanted, below 2^64 and in digits alone, or a moment as"
     " 2026-11-26T12:00:00Z\n" + FOLD_USAGE
 )
+BAD_MOST_BYTES = (
+    "error: invalid value for '--most-bytes <BYTES>': a whole number from 1 to 4294967295 is wanted, in digits alone\n" + FOLD_USAGE
+)
 BAD_SOURCES = "error: invalid values for '<SOURCE>...': {}\n" + DIFF_USAGE
 BAD_STATE = (
     "error: invalid value '{}' for '--state <STATE>'\n"
@@ -335,6 +342,16 @@ CASES = [
     (["fold", "--now", "0", "--state"], FIRST, 2, b"", NO_STATE),
     # unknown words
     (FOLD + ["extra"], b"", 3, b"", "am_tool: extra File NotFound\n"),
+    # directories, of which a member says the same
+    (FOLD + ["/"], b"", 3, b"", "am_tool: / NotAFile\n"),
+    (SHOW + ["0", "/"], b"", 3, b"", "am_tool: / NotAFile\n"),
+    (["diff", "--state", "sil", "a=/", "b=-"], b"", 3, b"", "am_tool: a NotAFile\n"),
+    # limits
+    (FOLD + ["--most-bytes", "33"], FIRST, 0, FIRST, ""),
+    (FOLD + ["--most-bytes", "32"], FIRST, 1, b"", "am_tool: TooLarge\n"),
+    (FOLD + ["--most-bytes", "66"], FIRST + SECOND, 0, SECOND, ""),
+    (FOLD + ["--most-bytes", "0"], FIRST, 2, b"", BAD_MOST_BYTES),
+    (FOLD + ["--most-bytes", "4294967296"], FIRST, 2, b"", BAD_MOST_BYTES),
     (
         ["fold", "--stat", "sil", "--now", "0"],
         b"",
@@ -581,6 +598,14 @@ def test_streams():
     os.close(writer)
 
 
+def test_most_bytes():
+    """Inputs and results of over 64 MiB."""
+    large = row("sil", ", ".join(f"k{it:02} job=x 10..100 updated 10 expires 200 by me saying {(1 << 20) * 'c'}" for it in range(65)))
+    compare("an input of 65 MiB", run(FOLD, input=large), (1, b"", "am_tool: TooLarge\n"))
+    found = run(FOLD + ["--most-bytes", "70000000"], input=large)
+    check("which is let in", found == (0, large, ""), found[0])
+
+
 def test_cut_output():
     """A file that takes no more than so many bytes: exactly these went out."""
 
@@ -663,6 +688,7 @@ def main():
     test_terminal()
     test_flipped_bits()
     test_streams()
+    test_most_bytes()
     test_cut_output()
     test_progress()
     test_memory()

@@ -6,7 +6,8 @@
 PROGRAM is crates/am_tool/out/am_tool if it isn't given; `--write` writes the files of samples/. A block below a line `<!--run-->` is given to bash, and has to end
 with status 0; one below `<!--prints-->` is what the block before it printed, and one below `<!--prints among others-->`
 are lines of that, in this order. The blocks of a document are run one after the other in one folder, where the files stand
-that the documents speak of. Status 5 of `am_tool diff`, that something differs, is none here, and `am_tool build` builds
+that the documents speak of. Of docs/NIGHT.md each block with am_tool is run, at replicas of this script, which hold what samples/
+has, and the second of which then holds all. Status 5 of `am_tool diff`, `push` and `mend`, that something differs, is none here, and `am_tool build` builds
 nothing. The ports of members are free ones. Blocks with curl or amtool are left out where these are not there. Each command of
 README.md has to stand in a block that is run, and samples/ has to be what tests/lib/samples.py has. Each block of Rust in
 docs/library/ has to stand in a source of crates/, whose crates the gate proves, and docs/PROOFS.md has to be what
@@ -25,10 +26,11 @@ import sys
 import tempfile
 import time
 
+from beside import Alive
 from lib import members
 from lib.members import TOP, bytes_of, free_ports, write
 from lib.samples import REPLICAS, sample
-from lib.tally import check, compare, count, finish
+from lib.tally import check, compare, count, finish, skip
 from lib.versions import row
 
 DOCUMENTS = ["README.md", "docs/MEND.md", "docs/MEMBERS.md"]
@@ -55,7 +57,7 @@ LOG = {"a": ENTRY, "b": ENTRY, "c": ""}
 WRAPPER = """#!/usr/bin/env bash
 case ${{1-}} in
 build) ;;
-diff) {program} "$@" || [ $? = 5 ] ;;
+diff | push | mend) {program} "$@" || [ $? = 5 ] ;;
 *) exec {program} "$@" ;;
 esac
 """
@@ -154,7 +156,7 @@ def try_document(path, shell):
         if mark == "run":
             lacking = [it for it in TOOLS if re.search(rf"\b{it}\b", text) and shutil.which(it) is None]
             if lacking:
-                print(f"{name}: {lacking[0]} is not there, so this is not tried")
+                skip(f"{path}: {lacking[0]} is not there")
                 printed = None
                 continue
             status, printed = shell.run(text)
@@ -164,6 +166,32 @@ def try_document(path, shell):
         else:
             rest = iter((printed or "").split("\n"))
             check(name, all(line in rest for line in text.split("\n")), printed)
+
+
+def replicas():
+    """Three replicas that drifted apart, at addresses as docs/NIGHT.md has them, and their port."""
+    with socket.create_server(("127.0.1.1", 0)) as holder:
+        port = holder.getsockname()[1]
+    found = [Alive(at=(f"127.0.1.{place}", port)) for place in range(1, len(REPLICAS) + 1)]
+    for replica, name in zip(found, REPLICAS):
+        replica.held["sil"] = replica.read(sample(name))
+    return found, port
+
+
+def try_night(shell):
+    """What docs/NIGHT.md has somebody do who was woken mends the second of three replicas."""
+    found, port = replicas()
+    page = [it for it in re.findall(r"(?:^    .*\n?)+", content(f"{TOP}/docs/NIGHT.md"), re.MULTILINE) if "./am_tool " in it]
+    near = lambda text: text.replace("10.0.0.", "127.0.1.").replace("9094", str(port))
+    check("docs/NIGHT.md has commands", len(page) > 1, page)
+    for text in page:
+        status, printed = shell.run(near(indented(text.split("\n"))))
+        check(f"docs/NIGHT.md: {text}", status == 0, f"status {status}, {printed}\n{shell.error()}")
+    words = [f"{name}={it.word}" for name, it in zip(("am1", "am2", "am3"), found)]
+    status, output, error = members.run(["diff", "--state", "sil", *words])
+    late = [it for it in output.decode().splitlines() if re.search(r" (behind|missing) (\S*,)?am2\b", it)]
+    compare("am2 is mended then", (status in (0, 5), late, error), (True, [], ""))
+    compare("faults of the replicas", [it.faults for it in found], [[], [], []])
 
 
 def content(path):
@@ -238,6 +266,17 @@ def test_pages():
     check(f"README.md: at most {MOST_OF_README} words", words <= MOST_OF_README, words)
 
 
+def in_folder(work):
+    """Tries a document in a folder of its own."""
+    with tempfile.TemporaryDirectory() as folder:
+        prepare(folder)
+        shell = Shell(folder)
+        try:
+            work(shell)
+        finally:
+            shell.end()
+
+
 def main():
     if sys.argv[1:] == ["--write"]:
         for replica in REPLICAS:
@@ -252,13 +291,8 @@ def main():
     test_pages()
     for path in DOCUMENTS:
         count(any(blocks(path)))
-        with tempfile.TemporaryDirectory() as folder:
-            prepare(folder)
-            shell = Shell(folder)
-            try:
-                try_document(path, shell)
-            finally:
-                shell.end()
+        in_folder(lambda shell: try_document(path, shell))
+    in_folder(try_night)
     finish("documents")
 
 

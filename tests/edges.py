@@ -887,6 +887,49 @@ def test_room_again(folder):
     compare("the stop", (member.stop(), member.lines[1:]), (0, []))
 
 
+def noticed(member, number):
+    """What comes of a notice of a group of its own."""
+    alerts = [{"status": "firing", "labels": {"alertname": f"{number}-{at}"}} for at in range(20)]
+    body = {"groupKey": f"g{number}".ljust(1000, "."), "receiver": "r", "alerts": alerts}
+    status, answer = member.ask("POST", "/v1/decide?wait=false", json.dumps(body).encode())
+    return member.ask("POST", "/v1/notified", answer) if status == 200 else (status, answer)
+
+
+def test_full_of_notices(folder):
+    """A member whose log is full refuses notices; what it has acknowledged is saved."""
+    most, count = 20_000, 0
+    member = alone("n", folder, ["--most-bytes", str(most), "--log"])
+    replies = [noticed(member, number) for number in range(40)]
+    taken = [it for it in replies if it == (200, b'{"logged":true}')]
+    check("some are logged", 8 <= len(taken) <= 16, len(taken))
+    compare("the others are refused", [it for it in replies if it not in taken], [FULL] * (40 - len(taken)))
+    compare("a post is taken", put(member, "x")[0], 200)
+    compare("what is listed", len(json.loads(member.ask("GET", "/v1/log")[1])), len(taken))
+    compare("the stop", (member.stop(), member.lines[1:]), (0, []))
+    saved = bytes_of(member.nfl)
+    check("the file is no longer than it may be", len(saved) <= most, len(saved))
+    compare("all are in the file", len(list(items(saved))), len(taken))
+
+
+def test_many_muting(folder):
+    """Of many silences that mute many alerts the answer names a few, so that the alerts bound what it takes."""
+    now = int(time.time())
+    times = f"{now}..{now + 7200} updated {now} expires {now + 9000}"
+    write(f"{folder}/o.sil", b"".join(delimited(versions.silence(f"s{number:04} job=db {times}")) for number in range(2000)))
+    member = alone("o", folder, ["--time-limit", "300"])
+    alerts = [{"status": "firing", "labels": {"job": "db", "n": str(number).ljust(120, ".")}} for number in range(5000)]
+    body = json.dumps({"groupKey": "g", "receiver": "r", "alerts": alerts}, separators=(",", ":")).encode()
+    check("the message is large", 800_000 < len(body) < 1_048_576, len(body))
+    status, answer = member.ask("POST", "/v1/decide?wait=false", body)
+    compare("it is answered", status, 200)
+    muted = json.loads(answer)["muted"]
+    compare("each alert", len(muted), len(alerts))
+    named = [f"s{number:04}" for number in range(16)]
+    check("is muted by these and others", all((it["silencedBy"], it["silencedByMore"]) == (named, 1984) for it in muted), muted[:1])
+    check("it takes little memory", peak(member) < 200, peak(member))
+    compare("the stop", member.stop(), 0)
+
+
 def test_frames_of_full(folder):
     """What peers send is taken, also past the limit. That isn't saved then, which is told."""
     member = with_peer("h", folder, ["--most-bytes", "2000"])
@@ -965,6 +1008,8 @@ def main():
             test_patterns,
             test_full,
             test_room_again,
+            test_full_of_notices,
+            test_many_muting,
             test_frames_of_full,
             test_large,
         ]

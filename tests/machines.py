@@ -294,6 +294,22 @@ def hosts(folder):
         stop(a)
 
 
+def an_address_that_others_reach(folder):
+    """Requests aren't authenticated, which a start says where others than this machine may send them."""
+    line = "am_tool: warning: requests at {} aren't authenticated: whoever reaches it may change silences"
+    port = free_ports(1)[0]
+    for address, at in [("0.0.0.0", f"0.0.0.0:{port}"), ("::", f"[::]:{port}")]:
+        a = Member("a", address, port, [], folder)
+        a.start()
+        check(f"the warning at {at}", a.told(line.format(at)), a.lines)
+        stop(a)
+    for address in ["127.0.0.1", "127.0.0.2", "::1"]:
+        a = Member("a", address, port, [], folder)
+        a.start()
+        compare(f"no warning at {address}", [it for it in a.lines if "authenticated" in it], [])
+        stop(a)
+
+
 def words_that_are_refused(folder):
     """What is wrong in the words, and in the file of the secret."""
     names = {"short": b"fifteen bytes..", "fifteen": b"fifteen bytes..\n", "long": bytes(4097), "longer": bytes(5000), "least": bytes(16),
@@ -347,7 +363,7 @@ def main():
     members.choose(TITLE, sys.argv[1:])
     with tempfile.TemporaryDirectory() as folder:
         try_each([who_hears_whom, each_byte_counts, other_names, repeats, a_listener_for_frames, open_to_all, hosts,
-                  words_that_are_refused], folder)
+                  an_address_that_others_reach, words_that_are_refused], folder)
     finish(TITLE)
 
 

@@ -15,7 +15,7 @@ import sys
 
 from lib import members
 from lib.members import TOP, run
-from lib.tally import check, compare, finish
+from lib.tally import check, compare, finish, skip
 
 PAGE = f"{TOP}/docs/am_tool.1"
 
@@ -31,7 +31,11 @@ am_tool \\- compares, mends and serves the silences of Alertmanager replicas
 FOOT = """.SH EXIT STATUS
 0: done. 1: the input is at fault. 2: the command line is. 3: reading, writing or listening failed. 4: memory ran out. 5:
 .B am_tool diff
-found a difference.
+found a difference, or
+.B am_tool push
+or
+.B am_tool mend
+left one.
 .SH SEE ALSO
 docs/MEND.md, to compare and mend replicas; docs/MEMBERS.md, to run members; docs/FORMATS.md, for bytes and faults.
 """
@@ -44,6 +48,7 @@ STATUSES = {
     "diff": "0: nothing differs. 5: something does. 1: a source is at fault. 3: a source can't be read or reached.",
     "pull": "0: written. 1: the answer is at fault. 3: the replica can't be reached.",
     "push": "0: the replica holds everything, or greater. 5: it doesn't. 1: the input or an answer is at fault. 3: it can't be reached.",
+    "mend": "0: nothing differs at the end. 5: something does. 1: an answer is at fault. 3: a replica can't be reached.",
     "instance": "0: a clean stop, all saved. 1: a file is at fault. 3: it can't listen, lock or save. 4: no memory.",
 }
 
@@ -163,7 +168,7 @@ def main():
         wide = [it for it in shown(made).split("\n") if len(it) > COLUMNS]
         compare("lines of over 80 columns", wide, [])
     else:
-        print("groff is not there, so the page's lines are not measured")
+        skip("the page's lines: groff is not there")
     finish("manual")
 
 

@@ -16,6 +16,7 @@ import os
 import re
 import shutil
 import signal
+import socket
 import subprocess
 import sys
 import tempfile
@@ -25,7 +26,7 @@ import page_source
 from lib import members, versions
 from lib.api import silence
 from lib.members import TOP, Member, Stoppable, begun, eventually, free_ports, outcome, run
-from lib.tally import check, compare, finish, try_each
+from lib.tally import check, compare, finish, skip, try_each
 from lib.wire import EMPTY_PUSH, delimited, delta, greeting
 
 PATHS = ["/", "/-/healthy", "/-/ready", "/api/v2/status", "/api/v2/receivers", "/metrics"]
@@ -38,11 +39,7 @@ FIELDS = {
     "/metrics": "content-type: text/plain; version=0.0.4; charset=utf-8\r\n",
 }
 
-skipped = []
-
-
-def skip(what, tool):
-    skipped.append(f"{what}: {tool} is not there")
+UNITS = ["am-member@.service", "am-pager@.service", "am-members-upgrade.service"]
 
 
 def raw(member, method, path, *fields):
@@ -216,7 +213,7 @@ def test_status(folder):
         _, output, _ = outcome(["amtool", url, "config", "show"])
         check("amtool config show", f"--listen {port}".encode() in output, output)
     else:
-        skip("cluster show, config show", "amtool")
+        skip("cluster show, config show: amtool is not there")
     member.kill()
 
 
@@ -285,7 +282,7 @@ def test_text(folder):
         ran = subprocess.run(["promtool", "check", "metrics"], input=body, capture_output=True)
         compare("promtool check metrics", (ran.returncode, ran.stdout, ran.stderr), (0, b"", b""))
     else:
-        skip("check metrics", "promtool")
+        skip("check metrics: promtool is not there")
     member.kill()
 
 
@@ -402,7 +399,7 @@ def test_many(folder):
 
 def test_rules(_folder):
     if not shutil.which("promtool"):
-        skip("alerting rules", "promtool")
+        skip("alerting rules: promtool is not there")
         return
     place = f"{TOP}/install"
     status, output, _ = outcome(["promtool", "check", "rules", "alerts.yml"], cwd=place)
@@ -410,21 +407,27 @@ def test_rules(_folder):
     status, output, _ = outcome(["promtool", "test", "rules", "alerts_test.yml"], cwd=place)
     check("promtool test rules", status == 0, output)
     names = set(re.findall(r"\b(maityrunga_[a-z_]+|process_[a-z_]+)\b", open(f"{place}/alerts.yml").read()))
-    compare("the rules name families that there are", sorted(names - set(documented())), [])
+    page = open(f"{TOP}/docs/MEMBERS.md").read()
+    pager = re.findall(r"`(maityrunga_pager_[a-z_]+)[`{]", page)
+    compare("the rules name families that there are", sorted(names - {*documented(), *pager}), [])
 
 
 def test_unit(_folder):
     """docs/MEMBERS.md names the units that are installed, and the one for a member has a bounded exposure."""
     page = open(f"{TOP}/docs/MEMBERS.md").read()
-    for unit in ("am-member@.service", "am-members-upgrade.service"):
+    for unit in UNITS:
         check(f"docs/MEMBERS.md names {unit}", f"`{unit}`" in page and os.path.exists(f"{TOP}/install/{unit}"))
+    page = open(f"{TOP}/docs/MEND.md").read()
+    for unit in ("am-diff.service", "am-diff.timer"):
+        check(f"docs/MEND.md names {unit}", f"`install/{unit}`" in page and os.path.exists(f"{TOP}/install/{unit}"))
     if not shutil.which("systemd-analyze"):
-        skip("the unit's exposure", "systemd-analyze")
+        skip("the units: systemd-analyze is not there")
         return
-    words = ["systemd-analyze", "security", "--offline=true", "--threshold=30", f"{TOP}/install/am-member@.service"]
-    status, output, error = outcome(words)
-    found = re.search(rb"Overall exposure level for .*: ([0-9.]+)", output)
-    check("its exposure is at most 3", found and float(found[1]) <= 3 and status == 0, error)
+    for unit in UNITS[:2]:
+        words = ["systemd-analyze", "security", "--offline=true", "--threshold=30", f"{TOP}/install/{unit}"]
+        status, output, error = outcome(words)
+        found = re.search(rb"Overall exposure level for .*: ([0-9.]+)", output)
+        check(f"the exposure of {unit} is at most 3", found and float(found[1]) <= 3 and status == 0, (found and found[0], error))
 
 
 def test_install(folder):
@@ -432,18 +435,140 @@ def test_install(folder):
     tool = f"{TOP}/am_tool"
     compare("install without words", outcome([tool, "install"])[0], 2)
     compare("install to no whole path", outcome([tool, "install", "--prefix", "x"])[0], 2)
-    if outcome([tool, "install", "--prefix", folder])[0] == 3:
-        skip("am_tool install", "a program that is newer than its sources")
+    status, _, error = outcome([tool, "install", "--prefix", folder])
+    if status == 3:
+        skip("am_tool install: no program is there that is newer than its sources")
         return
+    compare("install", (status, error), (0, ""))
     files = sorted(f"{at}/{it}"[len(folder) + 1 :] for at, _, found in os.walk(folder) for it in found)
     compare("what is installed", files, [
-        "bin/am_member_ready", "bin/am_tool", "lib/systemd/system/am-member@.service", "share/am_tool/alerts.yml",
-        "share/am_tool/am-members-upgrade.service", "share/bash-completion/completions/am_tool", "share/man/man1/am_tool.1",
+        "bin/am_diff_figures", "bin/am_member_ready", "bin/am_members_upgrade", "bin/am_pager", "bin/am_tool",
+        *(f"lib/systemd/system/{it}" for it in sorted([*UNITS, "am-diff.service", "am-diff.timer"])),
+        "share/am_tool/alerts.yml", "share/am_tool/scrape.yml", "share/bash-completion/completions/am_tool", "share/man/man1/am_tool.1",
     ])  # fmt: skip
-    unit = open(f"{folder}/lib/systemd/system/am-member@.service").read()
-    wanted = open(f"{TOP}/install/am-member@.service").read().replace("/usr/local/", f"{folder}/")
-    compare("the unit has the paths of the prefix", unit, wanted)
+    for it in UNITS:
+        unit, wanted = open(f"{folder}/lib/systemd/system/{it}").read(), open(f"{TOP}/install/{it}").read()
+        compare(f"{it} has the paths of the prefix", unit, wanted.replace("/usr/local/", f"{folder}/"))
+    if shutil.which("systemd-analyze"):
+        units = [f"{folder}/lib/systemd/system/{it.replace('@', '@a')}" for it in UNITS]
+        status, _, error = outcome(["systemd-analyze", "verify", "--man=no", *units])
+        compare("systemd-analyze verify", (status, [it for it in error.splitlines() if "am-member" in it or "am-pager" in it]), (0, []))
+    check("am_pager runs", b"--member" in outcome([f"{folder}/bin/am_pager", "--help"])[1])
     compare("the program runs", outcome([f"{folder}/bin/am_tool", "--version"])[:2], run(["--version"])[:2])
+
+
+def test_lacking_file(folder):
+    """An installation that lacks a file fails, whichever it is."""
+    shutil.copytree(f"{TOP}/install", f"{folder}/top/install")
+    os.makedirs(f"{folder}/top/docs")
+    shutil.copy(f"{TOP}/docs/am_tool.1", f"{folder}/top/docs")
+    shutil.copy(f"{TOP}/am_tool", f"{folder}/top")
+    os.makedirs(f"{folder}/top/crates/am_tool/out")
+    open(f"{folder}/top/crates.txt", "w").close()
+    shutil.copy(members.program, f"{folder}/top/crates/am_tool/out/am_tool")
+    install = [f"{folder}/top/am_tool", "install", "--prefix", f"{folder}/to"]
+    compare("all files", outcome(install)[0], 0)
+    files = [*(f"install/{it}" for it in os.listdir(f"{folder}/top/install") if it not in ("alerts_test.yml", "test_tools")), "docs/am_tool.1"]
+    for it in files:
+        os.rename(f"{folder}/top/{it}", f"{folder}/aside")
+        compare(f"without {it}", outcome(install)[0], 4)
+        os.rename(f"{folder}/aside", f"{folder}/top/{it}")
+
+
+def test_ready(folder):
+    """am_member_ready goes by an address, of IPv6 too."""
+    for host in ("127.0.0.1", "[::1]"):
+        (port,) = free_ports(1)
+        member = Member("a", f"{host}:{port}", [], folder)
+        if host[0] == "[" and not socket.has_ipv6:
+            skip("am_member_ready: IPv6 is not there")
+            continue
+        check("it listens", member.start(), member.lines)
+        compare(f"am_member_ready {host}", outcome([f"{TOP}/install/am_member_ready", f"{host}:{port}", "5"])[0], 0)
+        compare("at another address", outcome([f"{TOP}/install/am_member_ready", f"127.0.0.2:{port}", "1"])[0], 1)
+        member.kill()
+    for word in ("", "x", "0", "a b:1", "127.0.0.1:", "$(id):1"):
+        compare(f"am_member_ready {word}", outcome([f"{TOP}/install/am_member_ready", word])[0], 2)
+
+
+# Says what it is told to do, and which units there are; one doesn't come back.
+SYSTEMCTL = """#!/bin/sh
+echo "$*" >>{record}
+case "$*" in
+list-units*am-member*) printf 'am-member@b.service loaded active running x\\nam-member@c.service loaded active running x\\n' ;;
+list-units*am-pager*) echo 'am-pager@b.service loaded active running x' ;;
+"restart {bad}") exit 1 ;;
+esac
+"""
+
+
+def test_upgrade(folder):
+    """am_members_upgrade starts each member anew that runs, and stops where one doesn't come back."""
+    for bad, wanted in (("none", ["am-member@b", "am-member@c", "am-pager@b"]), ("am-member@b.service", ["am-member@b"])):
+        record = f"{folder}/{bad}"
+        os.mkdir(f"{folder}/bin-{bad}")
+        with open(f"{folder}/bin-{bad}/systemctl", "w") as file:
+            file.write(SYSTEMCTL.format(record=record, bad=bad))
+        os.chmod(f"{folder}/bin-{bad}/systemctl", 0o755)
+        env = {**os.environ, "PATH": f"{folder}/bin-{bad}:{os.environ['PATH']}"}
+        compare(f"its status, {bad} bad", outcome([f"{TOP}/install/am_members_upgrade"], env=env)[0], int(bad != "none"))
+        begun = [it.split()[1] for it in open(record).read().splitlines() if it.startswith("restart")]
+        compare("what it starts anew", begun, [f"{it}.service" for it in wanted])
+    with open(f"{folder}/bin-none/systemctl", "w") as file:
+        file.write("#!/bin/sh\n")
+    env = {**os.environ, "PATH": f"{folder}/bin-none:{os.environ['PATH']}"}
+    compare("where there is none", outcome([f"{TOP}/install/am_members_upgrade"], env=env)[0], 1)
+
+
+def test_scrape(_folder):
+    """What Prometheus is told has the jobs by whose names the rules go."""
+    text = open(f"{TOP}/install/scrape.yml").read()
+    jobs = re.findall(r"job_name: (\w+)", text)
+    compare("the jobs", sorted(set(re.findall(r'job="(\w+)"', open(f"{TOP}/install/alerts.yml").read()))), sorted(jobs))
+    page = open(f"{TOP}/docs/MEMBERS.md").read()
+    compare("docs/MEMBERS.md names them", [it for it in jobs if f"`{it}`" not in page], [])
+    if shutil.which("promtool"):
+        status, output, error = outcome(["promtool", "check", "config", "--syntax-only", f"{TOP}/install/scrape.yml"])
+        check("promtool check config", status == 0, (output, error))
+    else:
+        skip("check config: promtool is not there")
+
+
+def test_backup(folder):
+    """A backup that was made while a member ran, and is joined with its file, brings back what no member holds any more, and
+    undoes nothing, as docs/MEMBERS.md has it."""
+    options = ["--log", "--save-every", "60", "--pull-every", "1", "--pull-first", "--pull-first-limit", "2"]
+    one, other = members.peers_of("ab", folder, options, Stoppable)
+    begun(one)
+    begun(other)
+    ended = [one.post(silence(it))[1] for it in ("kept", "ended")][1]
+    check("both have them", eventually(lambda: other.comments() == ["ended", "kept"]), other.comments())
+    status, backup, _ = run(["fold", "--log", "--state", "sil", one.sil])
+    compare("a backup", (status, backup.count(b"kept") > 0, backup.count(b"ended") > 0), (0, True, True))
+    key = json.loads(ended)["silenceID"]
+    compare("one is ended", one.ask("DELETE", f"/api/v2/silence/{key}")[0], 200)
+    state = lambda it: {silence["comment"]: silence["status"]["state"] for silence in it.listed() or []}
+    check("the other knows it", eventually(lambda: state(other).get("ended") == "expired"), state(other))
+    compare("a clean stop", one.stop(), 0)
+    with open(f"{folder}/backup", "wb") as file:
+        file.write(backup)
+    restore = f"set -e; {members.program} fold --log --state sil a.sil backup > joined; mv joined a.sil; rm -f a.sil.log a.sil.log.old"
+    compare("it is restored", outcome(["bash", "-c", restore], cwd=folder)[0], 0)
+    begun(one)
+    check("nothing is undone", eventually(lambda: state(one) == {"kept": "active", "ended": "expired"}), state(one))
+    # where all of it is lost, it is all there again
+    for it in (one, other):
+        it.stop()
+        for path in (it.sil, it.nfl):
+            for end in ("", ".log", ".log.old"):
+                if os.path.exists(path + end):
+                    os.remove(path + end)
+    os.rename(f"{folder}/backup", one.sil)
+    begun(one)
+    begun(other)
+    for it in (one, other):
+        check(f"{it.name} has it again", eventually(lambda: state(it) == {"kept": "active", "ended": "active"}), state(it))
+        it.kill()
 
 
 def completed(*words):
@@ -455,7 +580,7 @@ def completed(*words):
 
 
 def test_completions(_folder):
-    compare("commands", completed(""), ["replay", "fold", "show", "diff", "pull", "push", "instance", "help"])
+    compare("commands", completed(""), ["replay", "fold", "show", "diff", "pull", "push", "mend", "instance", "help"])
     compare("a command", completed("ins"), ["instance"])
     compare("options of show", completed("show", "--"), ["--state", "--now", "--json", "--log", "--help"])
     for command in ("replay", "fold", "show", "diff", "pull", "push", "instance"):
@@ -467,7 +592,7 @@ def test_completions(_folder):
 
 TESTS = [
     test_calls, test_status, test_first_pull, test_stop, test_text, test_counts, test_saves, test_log, test_many, test_rules,
-    test_unit, test_install, test_completions,
+    test_unit, test_install, test_lacking_file, test_ready, test_upgrade, test_scrape, test_backup, test_completions,
 ]  # fmt: skip
 
 
@@ -476,6 +601,4 @@ if __name__ == "__main__":
     test_page()
     with tempfile.TemporaryDirectory() as folder:
         try_each(TESTS, folder)
-    for line in skipped:
-        print(f"operations: skipped {line}")
     finish("operations")

@@ -5,7 +5,7 @@
 
 PROGRAM is crates/am_tool/out/am_tool if it isn't given. Where Debian's chromium is there, each thing that the page is for is
 done with mouse or keyboard at one member, and another one shows it; whatever the browser complains of fails, and so does a
-control without a name for screen readers. Where it isn't there these tests are skipped, and a line says how many. With
+control without a name for screen readers. Where it isn't there these tests are skipped, and counted as such. With
 --pictures those of docs/pictures are made instead. TIMES has the time of each test printed, and of lists with 10,000 silences.
 """
 
@@ -21,7 +21,7 @@ import time
 from lib import api, browser, members
 from lib.api import silence
 from lib.members import Member, begun, eventually, free_ports, peers_of
-from lib.tally import check, compare, finish, try_each
+from lib.tally import check, compare, finish, skip, try_each
 from lib.versions import row
 
 # What the head of the page forbids, but for the hashes.
@@ -1271,7 +1271,7 @@ def main():
             return
         try_each([test_bytes], top)
         if browser.PROGRAM is None:
-            print(f"chromium is not here (Debian's package chromium), so {len(IN_BROWSER)} tests of the page are skipped")
+            skip("tests of the page: chromium is not there", len(IN_BROWSER))
         else:
             try_each(IN_BROWSER, top)
     finish("page")

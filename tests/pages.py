@@ -1,12 +1,12 @@
 #!/usr/bin/env python3
-"""Three members with a notifier beside each, whose network, processes and notifiers fail at random, while incidents come and go.
+"""Three members with an am_pager beside each, whose network, processes and am_pagers fail at random, while incidents come and go.
 
     tests/pages.py [--seed N] [--seconds S] [--ignore turn|log] [PROGRAM]
 
-PROGRAM is crates/am_tool/out/am_tool if it isn't given; ./am_tool and rt ci build it. A notifier does what docs/MEMBERS.md has
-programs do that send pages: it asks its member by `decide`, in its turn, sends a page where the reply says so, and hands the
-reply to `notified`. It does so for each incident by itself, some time after that began and then again and again, as
-Alertmanager does for a group. Incidents begin, change and end at random, and some are silenced, at any member, before they begin.
+PROGRAM is crates/am_tool/out/am_tool if it isn't given; ./am_tool and rt ci build it. An am_pager, the notifier, asks its member
+by `decide`, in its turn, sends a page where the reply says so, and hands the reply to `notified`; what it asks and sends goes
+through this script, which writes it down. It is asked of each incident by itself, some time after that began and then again and
+again, as Alertmanager does for a group. Incidents begin, change and end at random, and some are silenced, at any member, before they begin.
 In stretches of a round members are killed, frozen and stopped, notifiers die, also between a page and `notified`, and doze, and
 what one member sends to another is lost, late, repeated and cut, or members are parted. In other stretches all is well.
 
@@ -29,10 +29,14 @@ how many passed.
 import base64
 import collections
 import contextlib
+import http.client
+import http.server
 import json
 import math
 import signal
 import socket
+import subprocess
+import sys
 import tempfile
 import threading
 import time
@@ -42,7 +46,7 @@ from lib.api import request
 from lib.incidents import ALL_TURNS, GROUP_WAIT, INTERVAL, LATE, LATE_CALLER, NAMES, NEED, NO_CAUSE, PAIRS, SLOW, SLOW_MACHINE
 from lib.incidents import APART, TURN, TURNS
 from lib.incidents import Clock, Content, Judge, Page, Plan, Surroundings, Trouble, Troubles, tell
-from lib.members import LIMITED, PATIENCE, eventually, free_ports, parted, received
+from lib.members import LIMITED, PATIENCE, TOP, eventually, free_ports, parted, received
 from lib.proxies import Proxy
 from lib.rounds import parser, rounds
 from lib.tally import attempt, check, compare, finish
@@ -56,8 +60,10 @@ OPTIONS += [word for what in ("tick", "pull", "save") for word in (f"--{what}-ev
 # After how long nothing of a fault is left: the spread that such a member tells at its start.
 LONGEST = 3 * EVERY + 2 * (2 * TIME_LIMIT + 1) + 1
 
-# How long somebody waits for a reply, beyond a turn; for how long it lets be what failed; and how often it tries `notified`.
-REPLY, RETRY, TRIES = 2 * TIME_LIMIT, 0.3, 5
+# How long somebody waits for a reply, beyond a turn; and for how long an Alertmanager lets be what failed.
+REPLY, RETRY = 2 * TIME_LIMIT, 0.3
+
+PAGER = f"{TOP}/install/am_pager"
 
 # By how much a clock of this script may be behind that of a member, in seconds.
 EARLY = 0.02
@@ -87,121 +93,194 @@ class Member(members.Member):
             time.sleep(0.05)
         return True
 
-    def request(self, method, target, body=b"", limit=REPLY, streams=None):
-        """The status and the body of a reply; no status where none comes. The connection is among the streams meanwhile."""
-        streams = set() if streams is None else streams
+    def request(self, method, target, body=b"", limit=REPLY):
+        """The status and the body of a reply; no status where none comes."""
         try:
             with socket.create_connection(("127.0.0.1", self.port), timeout=limit) as stream:
-                streams.add(stream)
-                try:
-                    stream.sendall(request(method, target, body))
-                    return parted(received(stream))
-                finally:
-                    streams.discard(stream)
+                stream.sendall(request(method, target, body))
+                return parted(received(stream))
         except OSError:
             return None, b""
 
 
-class Life:
-    """A notifier from its start until it dies; its connections, and whether it dozes, or dies behind its next page."""
+class Between(http.server.BaseHTTPRequestHandler):
+    """Whom an am_pager meets: its member, behind this script, and whoever receives its pages."""
 
-    def __init__(self):
-        self.is_over, self.is_awake, self.is_doomed = threading.Event(), threading.Event(), False
-        self.is_awake.set()
-        self.streams = set()
+    def do_POST(self):
+        body = self.rfile.read(int(self.headers["Content-Length"] or 0))
+        found = self.server.notifier.page(body) if self.path == "/page" else self.server.notifier.pass_on(self.command, self.path, body)
+        if found is None:
+            # (as of a member that isn't there)
+            return
+        status, data = found
+        with contextlib.suppress(OSError):
+            self.send_response(status)
+            self.send_header("Content-Length", str(len(data)))
+            self.end_headers()
+            self.wfile.write(data)
 
-    def goes_on(self):
-        """Whether it lives, once it is awake."""
-        self.is_awake.wait()
-        return not self.is_over.is_set()
+    do_GET = do_POST
 
-    def end(self):
-        self.is_over.set()
-        self.is_awake.set()
-        for it in list(self.streams):
-            with contextlib.suppress(OSError):
-                it.shutdown(socket.SHUT_RDWR)
+    def log_message(self, *_):
+        pass
+
+
+class Port(http.server.ThreadingHTTPServer):
+    """The port at which it does."""
+
+    request_queue_size = 256
+
+    def __init__(self, notifier):
+        self.notifier = notifier
+        super().__init__(("127.0.0.1", 0), Between)
+
+    def handle_error(self, request, client_address):
+        if not isinstance(sys.exc_info()[1], OSError):
+            self.notifier.round.complain("script", f"between: {sys.exc_info()[1]!r}")
+
+
+# What a member decided: when it was asked and when it answered, by which start, if by one, what is to be paged, and by how much
+# later than it was to be it was asked.
+Decided = collections.namedtuple("Decided", "asked replied start paged late")
 
 
 class Notifier:
-    """A program that sends pages beside a member: each incident is one of its threads."""
+    """An am_pager beside a member, and the Alertmanager that asks it: each incident is one of its threads."""
 
     def __init__(self, round_, member):
         self.round, self.member, self.clock, self.name = round_, member, round_.clock, member.name
+        self.of_key = {it.key: it for it in round_.plan.incidents}
+        # by incidents: from when on it was to ask, what was decided last, and the last page
+        self.due, self.decided, self.sent = {}, {}, {}
+        self.is_doomed, self.has_died = False, threading.Event()
+        self.between = Port(self)
+        threading.Thread(target=self.between.serve_forever, daemon=True).start()
+        (self.port,) = free_ports(1)
 
     def begin(self):
-        self.life = Life()
-        self.round.thread(self.watch, self.life)
+        """Starts its am_pager, and waits until that listens."""
+        self.is_doomed = False
+        self.has_died.clear()
+        near = f"127.0.0.1:{self.between.server_address[1]}"
+        words = [PAGER, "--listen", str(self.port), "--member", near, "--to", f"http://{near}/page", "--send-limit", "1"]
+        self.process = subprocess.Popen(words, stdin=subprocess.DEVNULL, stderr=subprocess.PIPE)
+        self.process.stderr.readline()
+        self.round.thread(self.read, self.process)
 
-    def watch(self, life):
-        """Follows each incident from its begin, or from the start of this life."""
-        begun = self.clock.now()
+    def read(self, process):
+        for _ in process.stderr:
+            pass
+
+    def end(self):
+        self.process.kill()
+        self.process.wait()
+
+    def watch(self):
+        """Follows each incident from its begin."""
         for it in self.round.plan.incidents:
-            seen = max(begun, it.begins + it.skew[self.name])
-            if not self.clock.wait(seen, life.is_over):
+            seen = it.begins + it.skew[self.name]
+            if not self.clock.wait(seen, self.round.is_over):
                 return
-            # what is long over is no alert any more
-            if self.clock.now() < it.ends + INTERVAL + ALL_TURNS:
-                self.round.thread(self.follow, it, life, seen + GROUP_WAIT)
+            self.round.thread(self.follow, it, seen + GROUP_WAIT)
 
-    def follow(self, incident, life, due):
-        """Looks at an incident from a moment on, again and again, until its end is told."""
-        while self.clock.wait(due, life.is_over):
+    def follow(self, incident, due):
+        """Looks at an incident from a moment on, again and again, until its end is told, as Alertmanager does."""
+        while self.clock.wait(due, self.round.is_over):
             begins = due
-            while (content := self.handle(incident, life, begins)) is None:
+            while (content := self.ask(incident, begins)) is None:
                 begins = self.clock.now() + RETRY
-                if not self.clock.wait(begins, life.is_over):
+                if not self.clock.wait(begins, self.round.is_over):
                     return
             if not content.firing:
                 return
             due = max(due + INTERVAL, self.clock.now())
 
-    def handle(self, incident, life, begins):
-        """Asks and, where the reply says so, pages and tells it; the content where that came to an end. It was to do so from a
-        moment on, and it is measured how much later it does."""
-        late = self.clock.now() - begins
-        if not life.goes_on():
+    def ask(self, incident, begins):
+        """Asks the am_pager; the content where that says that nothing is left to do."""
+        content = incident.content(self.clock.now() - incident.skew[self.name])
+        self.due[incident] = begins
+        try:
+            connection = http.client.HTTPConnection("127.0.0.1", self.port, timeout=ALL_TURNS + INTERVAL)
+            connection.request("POST", "/?resolved=true", incident.message(content))
+            reply = connection.getresponse()
+            reply.read()
+        except (OSError, http.client.HTTPException):
             return None
+        finally:
+            connection.close()
+        if reply.status not in (200, UNAVAILABLE):
+            self.round.complain("replies", f"{self.name}: am_pager answers {reply.status}")
+        return content if reply.status == 200 else None
+
+    # ---- of its am_pager
+
+    def pass_on(self, method, target, body):
+        """What the member answers; no reply where that gives none."""
+        if target == "/v1/notified":
+            return self.tell(target, body)
+        if not target.startswith("/v1/decide"):
+            status, found = self.member.request(method, target, body)
+            return None if status is None else (status, found)
         asked, start = self.clock.now(), self.round.start_of(self.member)
-        content = incident.content(asked - incident.skew[self.name])
-        wait = "false" if self.round.ignored == "turn" and self.name == NAMES[-1] else "true"
-        reply = self.ask(life, f"/v1/decide?wait={wait}&resolved=true", incident.message(content))
-        if reply is None or not life.goes_on():
-            return None
-        turn, replied, found = asked + TURNS[self.name], self.clock.now(), json.loads(reply)
-        if replied < turn - EARLY:
+        if self.round.ignored == "turn" and self.name == NAMES[-1]:
+            target += "&wait=false"
+        status, reply = self.asked(target, body)
+        if status != 200:
+            return None if status is None else (status, reply)
+        replied = self.clock.now()
+        if replied < asked + TURNS[self.name] - EARLY:
             self.round.complain("early", f"{self.name} asked at {asked:.2f} replied at {replied:.2f}")
-        paged = self.round.look_at(incident, content, found)
-        if found["notify"]:
-            page = Page(incident, self.name, paged, asked, turn, replied, self.clock.now(), late)
-            page.start = start if start == self.round.start_of(self.member) else None
-            self.send(page, life, reply)
-        return content
+        incident, content = self.shown(body)
+        paged = self.round.look_at(incident, content, json.loads(reply))
+        # (what failed is asked again each time when all turns are over)
+        late = (asked - self.due[incident]) % (len(NAMES) * TURN)
+        start = start if start == self.round.start_of(self.member) else None
+        self.decided[incident] = Decided(asked, replied, start, paged, late)
+        return status, reply
 
-    def send(self, page, life, reply):
-        """Sends a page, and tells the log."""
+    def shown(self, body):
+        """The incident of a message, and what it shows."""
+        message = json.loads(body)
+        parts = lambda state: tuple(sorted(int(it["labels"]["part"]) for it in message["alerts"] if it["status"] == state))
+        return self.of_key[message["groupKey"]], Content(parts("firing"), parts("resolved"))
+
+    def page(self, body):
+        """A page goes out. It is the last one where the am_pager is to die behind it."""
+        incident, content = self.shown(body)
+        found = self.decided[incident]
+        if content != found.paged:
+            self.round.complain("replies", f"{incident.name}: {content} is paged, and not {found.paged}")
+        due = found.asked + TURNS[self.name]
+        page = Page(incident, self.name, content, found.asked, due, found.replied, self.clock.now(), found.late)
+        page.start = found.start
         self.round.pages.append(page)
-        if life.is_doomed:
-            page.is_last = True
-            life.end()
-        for _ in range(TRIES):
-            if not life.goes_on():
-                return
-            if self.round.ignored == "log" or self.ask(life, "/v1/notified", reply) is not None:
-                page.logged = self.clock.now()
-                return
-            life.is_over.wait(RETRY)
+        self.sent[incident] = page
+        if self.is_doomed:
+            page.is_last, self.is_doomed = True, False
+            self.end()
+            self.has_died.set()
+        return 200, b"ok"
 
-    def ask(self, life, target, body):
-        """The body of a good reply, if one comes."""
+    def tell(self, target, body):
+        """Tells the log of a page."""
+        page = self.sent[self.of_key[json.loads(body)["groupKey"]]]
+        if self.round.ignored == "log":
+            return 200, b'{"logged":true}'
+        status, reply = self.asked(target, body)
+        if status == 200:
+            page.logged = page.logged or self.clock.now()
+        return None if status is None else (status, reply)
+
+    def asked(self, target, body):
+        """What a member answers, which is written down."""
         asked = self.clock.now()
-        status, found = self.member.request("POST", target, body, ALL_TURNS + REPLY, life.streams)
+        status, found = self.member.request("POST", target, body, ALL_TURNS + REPLY)
         self.round.replies[status or "no reply"] += 1
         if status not in (None, 200, UNAVAILABLE) or found == CROWDED:
             self.round.complain("replies", f"{self.name} {target}: {status} {found!r}")
-        if status != 200 and not life.is_over.is_set():
+        if status != 200 and not self.round.is_over.is_set():
             self.round.unanswered.append((self.name, asked, self.clock.now(), f"{target}: {status} {found!r}"))
-        return found if status == 200 else None
+        return status, found
 
 
 class Meddler:
@@ -249,20 +328,20 @@ class Meddler:
 
     def die(self, lasts):
         with self.round.troubles.of("a notifier died", self.name):
-            self.notifier.life.end()
+            self.notifier.end()
             self.over.wait(lasts)
             self.notifier.begin()
 
     def die_behind_a_page(self, lasts):
-        self.notifier.life.is_doomed = True
-        self.notifier.life.is_over.wait(INTERVAL)
+        self.notifier.is_doomed = True
+        self.notifier.has_died.wait(INTERVAL)
         self.die(lasts)
 
     def doze(self, lasts):
         with self.round.troubles.of("a notifier dozed", self.name):
-            self.notifier.life.is_awake.clear()
+            self.notifier.process.send_signal(signal.SIGSTOP)
             self.over.wait(lasts)
-            self.notifier.life.is_awake.set()
+            self.notifier.process.send_signal(signal.SIGCONT)
 
 
 class Round(Surroundings):
@@ -308,9 +387,11 @@ class Round(Surroundings):
             it.start()
         for it in starts:
             it.join()
-        self.clock.begun = time.monotonic()
         for it in self.notifiers:
             it.begin()
+        self.clock.begun = time.monotonic()
+        for it in self.notifiers:
+            self.thread(it.watch)
         for member, notifier in zip(self.members, self.notifiers):
             meddler = Meddler(self, member, notifier)
             self.thread(meddler.work, self.plan.members[member.name])
@@ -319,7 +400,8 @@ class Round(Surroundings):
         self.is_over.wait(self.plan.end)
         self.is_over.set()
         for it in self.notifiers:
-            it.life.end()
+            it.process.send_signal(signal.SIGCONT)
+            it.end()
         for it in self.threads:
             it.join(PATIENCE)
 
@@ -396,6 +478,11 @@ class Round(Surroundings):
         self.is_over.set()
         for it in self.proxies.values():
             it.close()
+        for it in self.notifiers:
+            with contextlib.suppress(AttributeError):
+                it.end()
+            it.between.shutdown()
+            it.between.server_close()
         for it in self.members:
             with contextlib.suppress(AttributeError, ProcessLookupError):
                 it.process.send_signal(signal.SIGCONT)

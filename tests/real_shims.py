@@ -1,13 +1,13 @@
 #!/usr/bin/env python3
-"""Three real Alertmanagers that don't gossip, each with a webhook to samples/pager.py beside a member of its own, page once.
+"""Three real Alertmanagers that don't gossip, each with a webhook to am_pager beside a member of its own, page once.
 
     tests/real_shims.py [PROGRAM]
 
 PROGRAM is crates/am_tool/out/am_tool if it isn't given; ./am_tool and rt ci build it. The Alertmanagers are Debian's
 prometheus-alertmanager on loopback; where it isn't installed nothing is tried. Each alert is posted to all three. Then it
-is paged once, as is its end; once, where the first member isn't there, or where one is killed while it waits for its turn; and
-twice at most, where the first is killed between the page and `notified`. It takes two minutes or so. Prints each case that
-fails, and at the end how many passed.
+is paged once, as is its end; once, where the first member isn't there, or where one is killed while it waits for its turn; once,
+where the first is killed between the page and `notified`, since another one hears of the page; and once within a group interval
+where a silence at a member has ended. It takes three minutes or so. Prints each case that fails, and at the end how many passed.
 """
 
 import contextlib
@@ -21,21 +21,22 @@ import urllib.request
 
 from lib import members
 from lib.alertmanagers import ALERTMANAGER, must_be_installed
-from lib.api import moment
+from lib.api import moment, silence
 from lib.members import PATIENCE, TOP, Member, eventually, free_ports
 from lib.tally import attempt, check, compare, finish
 
 TITLE = "real shims"
 NAMES = ["a", "b", "c"]
 
-# How long a member waits for each one before it, and from when on nothing more is paged, in seconds.
-TURN, ALL_TURNS = 2, 4
+# How long a member waits for each one before it, how long all turns take, and how long it is from one question of a group to the
+# next one, in seconds.
+TURN, ALL_TURNS, INTERVAL = 1, 3, 10
 OPTIONS = ["--peer-timeout", str(TURN), "--time-limit", "2", "--pull-first", "--pull-first-limit", "3"]
 OPTIONS += [word for what in ("tick", "pull", "save") for word in (f"--{what}-every", "1")]
 
 CONFIG = """
-route: {{receiver: pager, group_by: [alertname], group_wait: 1s, group_interval: 6s, repeat_interval: 4h}}
-receivers: [{{name: pager, webhook_configs: [{{url: "http://127.0.0.1:{}/?repeat=14400"}}]}}]
+route: {{receiver: pager, group_by: [alertname], group_wait: 1s, group_interval: 10s, repeat_interval: 6s}}
+receivers: [{{name: pager, webhook_configs: [{{url: "http://127.0.0.1:{}/?repeat=14400", max_alerts: 0}}]}}]
 """
 
 # What sends a page: it writes down whose it is, and kills the process whose number stands in a file, if that is there.
@@ -48,6 +49,7 @@ class Site:
     def __init__(self, name, ports, folder):
         self.name, self.folder, self.processes = name, folder, []
         self.member = Member(name, ports[name], [(it, ports[it]) for it in NAMES if it != name], folder, OPTIONS)
+        self.others = [ports[it] for it in NAMES if it != name]
         self.web, self.shim = free_ports(2)
         self.config = f"{folder}/{name}.yml"
         with open(self.config, "w", encoding="utf-8") as file:
@@ -55,7 +57,9 @@ class Site:
 
     def start(self):
         self.start_member()
-        pager = [f"{TOP}/samples/pager.py", str(self.shim), str(self.member.port), "sh", "-c", COMMAND, self.name, self.folder]
+        pager = [f"{TOP}/install/am_pager", "--listen", str(self.shim), "--member", str(self.member.port)]
+        pager += [word for it in self.others for word in ("--member", str(it))]
+        pager += ["--", "sh", "-c", COMMAND, self.name, self.folder]
         words = [ALERTMANAGER, f"--config.file={self.config}", f"--storage.path={self.folder}/{self.name}"]
         words += [f"--web.listen-address=127.0.0.1:{self.web}", "--cluster.listen-address="]
         for command in (pager, words):
@@ -105,7 +109,7 @@ class Three:
     def paged(self, name, status="firing"):
         """Who paged it, once somebody has, and all turns are over for long."""
         eventually(lambda: self.pages(name, status), 30)
-        time.sleep(ALL_TURNS + 8)
+        time.sleep(INTERVAL + ALL_TURNS + 4)
         return self.pages(name, status)
 
 
@@ -120,39 +124,60 @@ def test_first_away(three):
     """The next one pages where the first isn't there, and the first doesn't once it is back."""
     three.sites["a"].member.kill()
     three.post("Away")
-    compare("b pages", three.paged("Away"), ["b"])
+    found = three.paged("Away")
+    compare("it is paged once", len(found), 1)
     three.sites["a"].start_member()
-    time.sleep(8)
-    compare("and nobody again", three.pages("Away"), ["b"])
+    time.sleep(INTERVAL + ALL_TURNS)
+    compare("and by nobody again", three.pages("Away"), found)
 
 
 def test_killed_in_its_turn(three):
-    """The last one pages where the first isn't there, and the next one is killed while it waits for its turn."""
-    three.sites["a"].member.kill()
+    """It is paged where the members of two are killed while they wait for their turns."""
     three.post("Turn")
-    # the group waits for a second, and b then waits for two
-    time.sleep(2)
-    three.sites["b"].member.kill()
-    compare("c pages", three.paged("Turn"), ["c"])
+    # the group waits for a second
+    for name in ("a", "b"):
+        three.sites[name].member.kill()
+    found = three.paged("Turn")
+    compare("it is paged once", len(found), 1)
     for name in ("a", "b"):
         three.sites[name].start_member()
-    time.sleep(8)
-    compare("and nobody again", three.pages("Turn"), ["c"])
+    time.sleep(INTERVAL + ALL_TURNS)
+    compare("and by nobody again", three.pages("Turn"), found)
 
 
 def test_killed_behind_a_page(three):
-    """The next one pages, too, where the first is killed before it heard that it has."""
+    """Another member hears of the page where that of the first is killed before it does."""
     first = three.sites["a"].member
     with open(f"{three.folder}/trap-a", "w", encoding="utf-8") as file:
         file.write(str(first.process.pid))
     three.post("Behind")
     found = three.paged("Behind")
     os.remove(f"{three.folder}/trap-a")
-    compare("it is paged by a and b", found, ["a", "b"])
+    compare("it is paged by a alone", found, ["a"])
     first.kill()
     three.sites["a"].start_member()
-    time.sleep(8)
+    time.sleep(INTERVAL + ALL_TURNS)
     compare("and by nobody again", three.pages("Behind"), found)
+
+
+def test_silence_ends(three):
+    """What fires while a silence at a member mutes it is paged within a group interval of the silence's end, and once."""
+    posted = silence("quiet")
+    member = three.sites["b"].member
+    posted["matchers"][0].update(name="alertname", value="Quiet")
+    status, body = member.post(posted)
+    compare("a silence is posted", status, 200)
+    key = json.loads(body)["silenceID"]
+    check("all have it", eventually(lambda: all(it.member.comments() == ["quiet"] for it in three.sites.values())))
+    three.post("Quiet")
+    time.sleep(INTERVAL + ALL_TURNS)
+    compare("nothing is paged while it mutes", three.pages("Quiet"), [])
+    compare("it is ended", member.ask("DELETE", f"/api/v2/silence/{key}")[0], 200)
+    begun = time.monotonic()
+    eventually(lambda: three.pages("Quiet"), 3 * INTERVAL)
+    took = time.monotonic() - begun
+    check("it is paged within a group interval", took < INTERVAL + ALL_TURNS, took)
+    compare("and once", len(three.paged("Quiet")), 1)
 
 
 def main():
@@ -164,7 +189,7 @@ def main():
             with attempt("the sites"):
                 for it in three.sites.values():
                     it.start()
-                for test in (test_once, test_first_away, test_killed_in_its_turn, test_killed_behind_a_page):
+                for test in (test_once, test_silence_ends, test_first_away, test_killed_in_its_turn, test_killed_behind_a_page):
                     test(three)
         finally:
             for it in three.sites.values():

@@ -18,7 +18,7 @@ import urllib.request
 
 from lib import members
 from lib.members import Member, eventually, free_ports
-from lib.tally import check, finish, try_each
+from lib.tally import check, finish, skip, try_each
 
 SCRAPES = """\
 global: {{scrape_interval: 1s}}
@@ -58,7 +58,8 @@ def fetched(url):
 def beside(folder, tool, words, config, asks):
     """Runs a tool over a configuration beside a member that runs."""
     if not shutil.which(tool):
-        return print(f"real tools: {tool} is not there, and is not tried")
+        skip(f"{tool}: it is not there")
+        return
     port, other, nobody = free_ports(3)
     member = Member("a", port, [], folder)
     check("a listens", member.start(), member.lines)

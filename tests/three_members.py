@@ -28,7 +28,7 @@ from lib import members
 from lib.api import silence
 from lib.members import PATIENCE, eventually, free_ports, outcome, parted, received, run
 from lib.samples import FIRST
-from lib.tally import check, compare, finish, try_each
+from lib.tally import check, compare, finish, skip, try_each
 from lib.wire import EMPTY_PUSH, TICK, delta, field, greeting, timestamp, varint
 
 # The names of the members.
@@ -441,7 +441,7 @@ def test_full_disk(folder):
     os.mkdir(disk)
     mount = ["mount", "-t", "tmpfs", "-o", "size=256k", "tmpfs", disk]
     if shutil.which("mount") is None or subprocess.run(mount, capture_output=True, check=False).returncode != 0:
-        print("no small disk can be made here, so none is filled")
+        skip("a full disk: no small one can be made")
         return
     try:
         fill_disk(disk)
@@ -475,7 +475,7 @@ def fill_disk(disk):
 def test_curl(folder):
     """curl, with a body for which it asks leave by `Expect`."""
     if shutil.which("curl") is None:
-        print("curl is not here, so it is not tried")
+        skip("curl: it is not there")
         return
     (port,) = free_ports(1)
     member = Member("u", port, [], folder)

@@ -146,6 +146,7 @@ def test_faults(folder):
         ("/v1/decide?wait=yes", message("g"), (400, "bad query: wait")),
         ("/v1/decided", message("g"), (404, "no such path")),
         ("/v1/notified", message("g"), (400, "bad message: integration")),
+        ("/v1/decide", message("g").replace(b"{", b'{"truncatedAlerts":1,', 1), (400, "truncated alerts")),
     ):
         compare(f"{path} {body[:9]}", answered(asked(of, path, body))[:2], wanted)
     check("at once", time.monotonic() - start < TURN, time.monotonic() - start)
@@ -196,6 +197,40 @@ def test_dear(folder):
     of.kill()
 
 
+def told(of, answer):
+    """What comes of an answer that is posted back."""
+    return of.ask("POST", "/v1/notified", json.dumps(answer).encode())
+
+
+def test_late(folder):
+    """A notice that comes late doesn't cover what others told meanwhile: what fires again is told anew."""
+    ports = free_ports(2)
+    first, second = (
+        begun(Stoppable(name, ports[at], [(peer, ports[1 - at])], folder, ["--peer-timeout", str(TURN)]))
+        for at, (name, peer) in enumerate((("a", "b"), ("b", "a")))
+    )
+    at_once = lambda of, status: answered(asked(of, "/v1/decide?wait=false", message("g", status=status)))
+    held_up = at_once(first, "firing")
+    compare("the first is to page", decided(held_up), (200, True, "First"))
+    check("it says when that was decided", held_up[1]["decidedAt"].endswith("Z"), held_up[1])
+    compare("and how long turns are", held_up[1]["turnSeconds"], TURN)
+    time.sleep(0.1)
+    for status, reason in ("firing", "First"), ("resolved", "AllResolved"):
+        reply = at_once(second, status)
+        compare(f"the second pages what is {status}", decided(reply), (200, True, reason))
+        compare("which is logged", told(second, reply[1]), (200, b'{"logged":true}'))
+    entries = lambda of: json.loads(of.ask("GET", "/v1/log")[1])
+    both = lambda: all(any(it["resolvedAlerts"] for it in entries(of)) for of in (first, second))
+    check("both know", eventually(both, 10))
+    compare("the late notice isn't logged", told(first, held_up[1]), (200, b'{"logged":false}'))
+    for of in first, second:
+        compare(f"what fires again is told by {of.name}", decided(at_once(of, "firing")), (200, True, "NewFiring"))
+    undated = {key: value for key, value in held_up[1].items() if key != "decidedAt"}
+    compare("without its moment it is logged", told(first, undated), (200, b'{"logged":true}'))
+    for of in first, second:
+        of.kill()
+
+
 def test_log(folder):
     """What is logged is on the disk before it is answered, where logs are kept."""
     of = member("b", folder, ["--log"])
@@ -212,7 +247,7 @@ def main():
     members.choose("turns", sys.argv[1:])
     with tempfile.TemporaryDirectory(prefix="am_turns_") as folder:
         with contextlib.suppress(KeyboardInterrupt):
-            try_each([test_turn, test_limit, test_gone, test_stop, test_faults, test_large, test_dear, test_log], folder)
+            try_each([test_turn, test_limit, test_gone, test_stop, test_faults, test_large, test_dear, test_late, test_log], folder)
     finish("turns")
 
 

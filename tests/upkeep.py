@@ -94,6 +94,45 @@ def test_saves(folder):
     member.kill()
 
 
+def mode_of(path):
+    """The permissions of a file."""
+    return os.stat(path).st_mode & 0o777
+
+
+def stoppable(name, folder, *options):
+    """A member that is told to stop by a signal."""
+    return begun(Stoppable(name, free_ports(1)[0], [], folder, options))
+
+
+def test_log_beside_a_closed_file(folder):
+    """What a log has is as secret as its file: it has the permissions of the file, also where it is begun anew."""
+    member = stoppable("closed", folder)
+    compare("a post", post(member, "db"), 200)
+    member.stop()
+    os.chmod(member.sil, 0o600)
+    for _ in range(2):
+        member = stoppable("closed", folder, "--log")
+        compare("the permissions of the log", mode_of(f"{member.sil}.log"), 0o600)
+        compare("a post into it", post(member, "web"), 200)
+        member.stop()
+        compare("the permissions of the file", mode_of(member.sil), 0o600)
+
+
+def test_log_that_is_a_link(folder):
+    """A member renames and removes its logs, so a link in the place of one is refused, and what it leads to stays as it was."""
+    member = stoppable("linked", folder)
+    member.stop()
+    other = f"{folder}/other"
+    with open(other, "wb") as file:
+        file.write(b"kept")
+    for name in [".log", ".log.old"]:
+        os.symlink(other, f"{member.sil}{name}")
+        status, _, error = run([*member.words, "--log"])
+        compare(f"the start with a link at {name}", (status, error), (3, "am_tool: Silences NotAFile\n"))
+        os.remove(f"{member.sil}{name}")
+    compare("what the link leads to", bytes_of(other), b"kept")
+
+
 def test_ticks(folder):
     (port,) = free_ports(1)
     member = begun(Member("t", port, [], folder, ["--tick-every", "1", "--retention", "1"]))
@@ -271,6 +310,8 @@ def main():
             test_words,
             test_times,
             test_saves,
+            test_log_beside_a_closed_file,
+            test_log_that_is_a_link,
             test_ticks,
             test_pulls,
             test_unanswered_push,

@@ -6,13 +6,12 @@ import json
 import os
 import shutil
 import subprocess
-import sys
 import threading
 import urllib.request
 
 from lib.api import silence
 from lib.members import PATIENCE, eventually, free_ports, outcome, run
-from lib.tally import attempt, check, compare
+from lib.tally import attempt, check, compare, give_up
 
 ALERTMANAGER, AMTOOL = shutil.which("prometheus-alertmanager"), shutil.which("amtool")
 FILES = {"sil": "silences", "nfl": "nflog"}
@@ -27,10 +26,9 @@ receivers: [{{name: hook, webhook_configs: [{{url: "http://127.0.0.1:{}/"}}]}}]
 
 
 def must_be_installed(title):
-    """Ends a script where it isn't installed: nothing is tried."""
+    """Ends a script where it isn't installed, which is a failure: nothing can be tried."""
     if ALERTMANAGER is None:
-        print(f"{title}: prometheus-alertmanager is not here, so nothing is tried: 0 passed, 0 failed")
-        sys.exit()
+        give_up(title, "prometheus-alertmanager is not there; install/test_tools installs it")
 
 
 class Hook(http.server.BaseHTTPRequestHandler):

@@ -1,11 +1,11 @@
-"""What a script passed and failed, and its last line, which .ci/run reads."""
+"""What a script passed, failed and skipped, and its last lines, which .ci/run reads."""
 
 import contextlib
 import os
 import sys
 import time
 
-passed, failed = 0, 0
+passed, failed, skipped = 0, 0, []
 
 
 def count(holds):
@@ -26,6 +26,11 @@ def compare(name, found, wanted):
 def check(name, holds, said=""):
     if not count(bool(holds)):
         print(f"{name}: not so; {said}", flush=True)
+
+
+def skip(why, number=1):
+    """Writes down that so many cases can't be tried on this machine, and why."""
+    skipped.extend([why] * number)
 
 
 @contextlib.contextmanager
@@ -50,8 +55,12 @@ def try_each(tests, folder):
 
 
 def finish(title):
-    """Ends a script with its last line."""
-    print(f"{title}: {passed} passed, {failed} failed")
+    """Ends a script with its last line, behind one for each cause of a skip. It fails where nothing passed."""
+    for why in dict.fromkeys(skipped):
+        print(f"{title}: skipped {skipped.count(why)}: {why}")
+    if passed + failed == 0:
+        check("something is tried", False, "nothing was")
+    print(f"{title}: {passed} passed, {failed} failed" + (f", {len(skipped)} skipped" if skipped else ""))
     sys.exit(1 if failed else 0)
 
 

@@ -4,7 +4,7 @@ use Rattle.am_api_decisions.specs.Asked.{IsQuestionFault}
 use Rattle.am_api_decisions.specs.Bodies.{IsMessageFault}
 use Rattle.am_api_decisions.specs.Terms.{IsFirstBad, IsTerms, IsTermsFault, IsWordFault}
 use Rattle.am_api_decisions.specs.declared.cause.Cause.{Cause}
-use Rattle.am_api_decisions.specs.declared.cause.Cause.TheVariants.{BadJson, BadMessage, BadQuery, Memory}
+use Rattle.am_api_decisions.specs.declared.cause.Cause.TheVariants.{BadJson, BadMessage, BadQuery, Memory, Truncated}
 use Rattle.am_api_decisions.specs.declared.cause.Word.{Word}
 use Rattle.am_api_decisions.specs.declared.terms.Terms.{Terms}
 
@@ -19,5 +19,6 @@ word_fault query word IsBad _ first fault = absurd fault
 pub body_fault : (query body : List ℕ) (terms : Terms) (cause : Cause) → IsTerms query terms → IsMessageFault body cause → IsQuestionFault query body cause
 body_fault query body terms BadJson are fault = ((terms, are), fault)
 body_fault query body terms (BadMessage key) are fault = ((terms, are), fault)
+body_fault query body terms Truncated are fault = ((terms, are), fault)
 body_fault query body terms Memory are fault = fault
 body_fault query body terms _ are fault = absurd fault

@@ -9,25 +9,26 @@ use Rattle.am_api_decisions.specs.Asking.{AskedAlert, Counted, IsAskedOn, IsStop
 use Rattle.am_api_decisions.specs.Deciding.{GoesOn, Underway}
 use Rattle.am_api_decisions.specs.Settling.{IsDecided, IsSettled}
 use Rattle.am_api_decisions.specs.declared.group.Group.{Group}
+use Rattle.am_api_decisions.specs.declared.timing.Timing.{Timing}
 use Rattle.am_api_decisions.proofs.AskedMore.{alerts_of, all_asked}
 
 -- as many were asked as were left, and then the group was answered
-pub decided_over : (now count : ℕ) (before after : Underway) (old mid new : InstanceState) (reply : ReplyBytes) → count ≡ length before.left
-    → GoesOn now count before old after mid → IsSettled now after.group after.counted mid reply new → IsDecided now before old reply new
-decided_over now count before after old mid new reply whole on settled =
+pub decided_over : (timing : Timing) (count : ℕ) (before after : Underway) (old mid new : InstanceState) (reply : ReplyBytes) → count ≡ length before.left
+    → GoesOn timing.now count before old after mid → IsSettled timing after.group after.counted mid reply new → IsDecided timing before old reply new
+decided_over timing count before after old mid new reply whole on settled =
     let none : after.left ≡ [] = elim on.all [ inl many ↦ all_asked on.asked before.left after.left on.on.parts (many ∙ whole) | inr none ↦ none ] in
     inl (record {
       asked = on.asked;
       counted = after.counted;
       mid = mid;
-      all = subst (λ (others : List Alert). IsAskedOn now before.left before.counted old on.asked others after.counted mid) none on.on;
-      settled = subst (λ (group : Group). IsSettled now group after.counted mid reply new) on.group settled;
+      all = subst (λ (others : List Alert). IsAskedOn timing.now before.left before.counted old on.asked others after.counted mid) none on.on;
+      settled = subst (λ (group : Group). IsSettled timing group after.counted mid reply new) on.group settled;
     })
 
 -- asking stopped, and why was told
-pub cut_off : (now : ℕ) (before : Underway) (old new : InstanceState) (line : RefusalLine) (reply : ReplyBytes) → IsStopped now before.left old line new
-    → Says (λ bytes. bytes ≡ line_bytes line) reply → IsDecided now before old reply new
-cut_off now before old new line reply stopped says = inr (record { line = line; stopped = stopped; says = says })
+pub cut_off : (timing : Timing) (before : Underway) (old new : InstanceState) (line : RefusalLine) (reply : ReplyBytes) → IsStopped timing.now before.left old line new
+    → Says (λ bytes. bytes ≡ line_bytes line) reply → IsDecided timing before old reply new
+cut_off timing before old new line reply stopped says = inr (record { line = line; stopped = stopped; says = says })
 
 -- so many were asked, or all that were left
 pub gone_on : (now most count : ℕ) (before given after : Underway) (old new : InstanceState) (asked : List AskedAlert) (left : List Alert) → before ≡ given

@@ -1,5 +1,5 @@
 -- Alerts that are asked for their mutes, each by one step, and what came of them.
-use Rattle.std.specs.Prelude.{◌≡◌, ◌⊎◌, ◌&&◌, ◌==◌, ℕ, Bool, not, List, [], ◌∷◌, ◌++◌, length, map, filter, Result, Ok, Err}
+use Rattle.std.specs.Prelude.{◌≡◌, ◌⊎◌, ◌&&◌, ◌==◌, ◌-◌, take, ℕ, Bool, not, List, [], ◌∷◌, ◌++◌, length, map, filter, Result, Ok, Err}
 use Rattle.am_alert_hash.specs.Alerts.{alert_hash}
 use Rattle.am_decision_json.specs.declared.answer.Muted.{Muted}
 use Rattle.am_decision_json.specs.declared.message.Alert.{Alert}
@@ -60,18 +60,19 @@ is_open_resolved asked = is_unmuted asked && not asked.alert.is_firing
 abbrev pub hash_of : AskedAlert → ℕ
 hash_of asked = alert_hash asked.alert.labels
 
--- the labels of an alert that is muted, and the ids of the silences that mute it
+-- the labels of an alert that is muted, the ids of the first silences that mute it, and how many more there are
 pub record Silenced : Type 0 where
   pub labels : List Label
   pub ids : List (List ℕ)
+  pub more : ℕ
 
--- an alert as it is muted
+-- an alert as it is muted, where the first 16 silences are named
 abbrev pub silenced : AskedAlert → Silenced
-silenced asked = record { labels = asked.alert.labels; ids = asked.ids }
+silenced asked = record { labels = asked.alert.labels; ids = take 16 asked.ids; more = length asked.ids - 16 }
 
 -- what is told of it in an answer
 abbrev pub silenced_in : Muted → Silenced
-silenced_in muted = record { labels = muted.labels; ids = muted.silenced_by.items }
+silenced_in muted = record { labels = muted.labels; ids = muted.silenced_by.items; more = muted.more }
 
 -- the hashes of what fires and of what is resolved, of the alerts that no silence mutes; and those that are muted
 pub record Counted : Type 0 where

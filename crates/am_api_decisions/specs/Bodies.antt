@@ -7,16 +7,17 @@ use Rattle.am_decision_json.specs.Notices as notices
 use Rattle.am_decision_json.specs.declared.message.Message.{Message}
 use Rattle.am_decision_json.specs.declared.notice.Notice.{Notice}
 use Rattle.am_api_decisions.specs.declared.cause.Cause.{Cause}
-use Rattle.am_api_decisions.specs.declared.cause.Cause.TheVariants.{BadJson, BadMessage, Memory}
+use Rattle.am_api_decisions.specs.declared.cause.Cause.TheVariants.{BadJson, BadMessage, Memory, Truncated}
 
 -- the body is the text of a JSON object that is this message
 abbrev pub IsMessageIn : List ℕ → Message → Type 0
 IsMessageIn body message = (d : Data) × IsObjectText body d × messages.IsMessage d message
 
--- the body is that of no object, or this is the first key of the object that is at fault
+-- the body is that of no object, or this is the first key of the object that is at fault, or else alerts were left out of the message
 abbrev pub IsMessageFault : List ℕ → Cause → Type 0
 IsMessageFault body BadJson = (d : Data) → ¬ IsObjectText body d
 IsMessageFault body (BadMessage key) = (d : Data) × IsObjectText body d × messages.IsFirstFault d key
+IsMessageFault body Truncated = (d : Data) × IsObjectText body d × messages.IsTruncated d
 IsMessageFault body Memory = ⊤
 IsMessageFault body _ = ⊥
 

@@ -7,7 +7,7 @@ use Rattle.am_api_silences.specs.Table.{clock_line, memory_line}
 use Rattle.am_refusals.specs.declared.error.StepError.{StepError}
 use Rattle.am_refusals.specs.declared.error.StepError.TheVariants.{MomentBack, Frame}
 use Rattle.am_api_decisions.specs.declared.cause.Cause.{Cause}
-use Rattle.am_api_decisions.specs.declared.cause.Cause.TheVariants.{NoSuchPath, MethodNotAllowed, BadQuery, BadJson, BadMessage, Memory}
+use Rattle.am_api_decisions.specs.declared.cause.Cause.TheVariants.{NoSuchPath, MethodNotAllowed, BadQuery, BadJson, BadMessage, Truncated, Memory}
 use Rattle.am_api_decisions.specs.declared.cause.Resource.{Resource}
 use Rattle.am_api_decisions.specs.declared.cause.Resource.TheVariants.{Decisions, Notices, Entries}
 use Rattle.am_api_decisions.specs.declared.cause.Word.{Word}
@@ -38,6 +38,7 @@ line_of (MethodNotAllowed resource) =
 line_of (BadQuery word) = line 400 (bad_word word)
 line_of BadJson = line 400 (codes "bad JSON")
 line_of (BadMessage key) = line 400 (bad_key key)
+line_of Truncated = line 400 (codes "truncated alerts")
 line_of Memory = line 500 (codes "out of memory")
 
 -- the line of a step that is refused: the moment is before the last one, an entry is over the limit of its text, or there is no memory

@@ -40,6 +40,8 @@ pub enum Cause {
     BadJson,
     /// The message in the body has this key wanting or wrong.
     BadMessage(MessageKey),
+    /// Alerts were left out of the message in the body.
+    Truncated,
     /// Memory ran out.
     Memory,
 }
@@ -85,6 +87,7 @@ const fn bad_key(key: MessageKey) -> &'static str
         MessageKey::Notify => "bad message: notify",
         MessageKey::Firing => "bad message: firing",
         MessageKey::Resolved => "bad message: resolved",
+        MessageKey::DecidedAt => "bad message: decidedAt",
     }
 }
 
@@ -104,6 +107,7 @@ impl Cause {
             Cause::BadQuery(word) => Refusal::new(400, bad_word(word)),
             Cause::BadJson => Refusal::new(400, "bad JSON"),
             Cause::BadMessage(key) => Refusal::new(400, bad_key(key)),
+            Cause::Truncated => Refusal::new(400, "truncated alerts"),
             Cause::Memory => Refusal::new(500, "out of memory"),
         }
     }

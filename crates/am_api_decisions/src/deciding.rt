@@ -13,6 +13,7 @@ use crate::replies::tell;
 use crate::settling::settle;
 use crate::table;
 use crate::tally::Tally;
+use crate::timing::Timing;
 use am_api_silences::ReplyBytes;
 use am_decision_json::Alert;
 use am_http::Refusal;
@@ -119,21 +120,22 @@ impl Deciding {
     }
 
     /// Whether to notify, in the bytes of a reply: the alerts that are left are asked, as by [`Deciding::go_on`], and then
-    /// one step at `now` decides over those that no silence mutes. Where each is muted no step is made.
-    pub fn decide(self, alloc: Global, instance: &mut Instance, now: Moment) -> ReplyBytes
+    /// one step decides over those that no silence mutes, all at the moment of the timing. Where each is muted no step is
+    /// made. The reply says that moment, to the millisecond, and how long turns are.
+    pub fn decide(self, alloc: Global, instance: &mut Instance, timing: Timing) -> ReplyBytes
         // PROMISE: The decision is over all alerts that no silence mutes, and its reply is the text of that answer.
-        ensures decided { IsDecided now self instance.old result instance.new }
+        ensures decided { IsDecided timing self instance.old result instance.new }
         ensures same { HoldsSame instance.old instance.new }
     {
         let count = self.left.len();
-        match self.go_on(alloc, instance, count, now) {
+        match self.go_on(alloc, instance, count, timing.now) {
             Ok(deciding) => {
                 let Deciding {
                     group,
                     left: _,
                     tally,
                 } = deciding;
-                settle(alloc, instance, group, tally, now)
+                settle(alloc, instance, group, tally, timing)
             }
             Err(refusal) => tell(alloc, &refusal),
         }

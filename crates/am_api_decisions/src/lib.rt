@@ -17,6 +17,7 @@ mod settling;
 mod table;
 mod tally;
 mod terms;
+mod timing;
 mod words;
 
 pub use am_decision_json::Notice;
@@ -28,3 +29,4 @@ pub use noticing::log_notice;
 pub use repeat::Repeat;
 pub use routes::{Call, call_of, is_for_decisions};
 pub use terms::{Terms, terms_in};
+pub use timing::Timing;

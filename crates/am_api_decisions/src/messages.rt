@@ -11,7 +11,7 @@ use std::alloc::Global;
 ///
 /// # Errors
 ///
-/// [`Cause::BadJson`], [`Cause::BadMessage`] of the first key that is at fault, and [`Cause::Memory`].
+/// [`Cause::BadJson`], [`Cause::BadMessage`] of the first key that is at fault, [`Cause::Truncated`], and [`Cause::Memory`].
 pub fn message_in(alloc: Global, body: &[u8]) -> Result<Message, Cause>
     ensures read { IfOk result (IsMessageIn body.now) }
     ensures refused { IfErr result (IsMessageFault body.now) }
@@ -20,6 +20,7 @@ pub fn message_in(alloc: Global, body: &[u8]) -> Result<Message, Cause>
         Ok(message) => Ok(message),
         Err(MessageError::BadJson) => Err(Cause::BadJson),
         Err(MessageError::BadMessage(key)) => Err(Cause::BadMessage(key)),
+        Err(MessageError::Truncated) => Err(Cause::Truncated),
         Err(MessageError::Memory) => Err(Cause::Memory),
     }
 }
@@ -28,7 +29,7 @@ pub fn message_in(alloc: Global, body: &[u8]) -> Result<Message, Cause>
 ///
 /// # Errors
 ///
-/// As those of [`message_in`].
+/// As those of [`message_in`], but for [`Cause::Truncated`].
 pub fn notice_in(alloc: Global, body: &[u8]) -> Result<Notice, Cause>
     ensures read { IfOk result (IsNoticeIn body.now) }
     ensures refused { IfErr result (IsNoticeFault body.now) }
@@ -37,6 +38,7 @@ pub fn notice_in(alloc: Global, body: &[u8]) -> Result<Notice, Cause>
         Ok(notice) => Ok(notice),
         Err(MessageError::BadJson) => Err(Cause::BadJson),
         Err(MessageError::BadMessage(key)) => Err(Cause::BadMessage(key)),
+        Err(MessageError::Truncated) => Err(Cause::Truncated),
         Err(MessageError::Memory) => Err(Cause::Memory),
     }
 }

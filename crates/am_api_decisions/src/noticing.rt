@@ -1,20 +1,69 @@
 //! What was notified, logged.
 
-ghost use Rattle.std.specs.Prelude.{◌≡◌, IfOk, Ok, Err};
+ghost use Rattle.std.specs.Prelude.{◌≡◌, ◌+◌, nat_le, IfOk, Ok, Err, Some, option_copied};
 ghost use Rattle.serde_json.specs.Written.{compact_text};
 ghost use Rattle.am_decision_json.specs.Answers.{logged_data};
 ghost use Rattle.am_api_silences.specs.Answers.{WhenMade};
 ghost use Rattle.am_api_silences.specs.Replies.{Says, good_bytes};
-ghost use Rattle.am_api_decisions.specs.Noticing.{IsLogged, IsLoggedBytes, TellsNotice, notified_event};
+ghost use Rattle.am_api_decisions.specs.Noticing.{IsLogged, IsLoggedBytes, IsNoticed, IsPassedOver, IsUnread, TellsNotice};
+ghost use Rattle.am_api_decisions.specs.Noticing.{is_late, is_since, key_of, notified_event};
 
 use crate::replies::{good, short, tell};
 use crate::table;
 use am_api_silences::{PendingAnswer, PendingReply, ReplyBytes};
 use am_decision_json::{Notice, write_logged};
 use am_instance::{Event, FrameSender, Instance, Outcome, Reply, StepError};
-use am_version_order::Moment;
+use am_nflog::{LogKey, MeshEntry};
+use am_version_order::{Interval, Moment};
 use am_wire::Bytes;
 use std::alloc::{AllocError, Global};
+
+/// How many nanoseconds a millisecond has.
+const MILLISECOND: u64 = 1_000_000;
+
+/// The key of the log that a notice is about.
+fn key_of(alloc: Global, notice: &Notice) -> Result<LogKey, AllocError>
+    ensures { IfOk result (λ key. key ≡ key_of notice.now) }
+{
+    LogKey::new(
+        alloc,
+        notice.group_key.as_str().as_bytes(),
+        &notice.receiver,
+    )
+}
+
+/// Whether an entry was made a millisecond or more after a moment.
+fn is_made_after(entry: &MeshEntry, moment: Moment) -> bool
+    ensures { result ≡ nat_le (moment + 1_000_000) entry.now.entry.timestamp }
+{
+    let made_at = entry.timestamp();
+    let millisecond = Interval::from_nanos(MILLISECOND).unwrap();
+    match moment.checked_add(millisecond) {
+        Some(after) => after <= made_at,
+        None => false,
+    }
+}
+
+/// Whether there is an entry that was made a millisecond or more after a moment.
+fn is_since(moment: Moment, entry: Option<&MeshEntry>) -> bool
+    ensures { result ≡ is_since (Some moment) (option_copied entry.entry) }
+{
+    match entry {
+        Some(entry) => is_made_after(entry, moment),
+        None => false,
+    }
+}
+
+/// Whether the log has an entry of a notice's group that was made after its decision.
+fn is_late(alloc: Global, instance: &Instance, notice: &Notice) -> Result<bool, AllocError>
+    ensures { IfOk result (λ late. late ≡ is_late notice.now instance.now) }
+{
+    let Some(decided_at) = notice.decided_at else {
+        return Ok(false);
+    };
+    let key = key_of(alloc, notice)?;
+    Ok(is_since(decided_at, instance.log().get(&key)))
+}
 
 /// That a notice is to be logged.
 fn event_of(notice: Notice) -> Event
@@ -38,15 +87,22 @@ fn logged(alloc: Global, is_logged: bool) -> Result<Vec<u8>, AllocError>
     Ok(bytes)
 }
 
+/// The reply that says whether a notice was logged; where there is no memory for it, that is said.
+fn told_of(alloc: Global, is_logged: bool) -> ReplyBytes
+    ensures { Says (λ bytes. bytes ≡ good_bytes (compact_text (logged_data is_logged))) result }
+{
+    match logged(alloc, is_logged) {
+        Ok(bytes) => ReplyBytes::Own(bytes),
+        Err(_) => short(),
+    }
+}
+
 /// What is told of the reply of a step.
 fn told_by(alloc: Global, reply: Reply) -> ReplyBytes
     ensures { Says (IsLoggedBytes reply) result }
 {
     match reply {
-        Reply::Logged(is_logged) => match logged(alloc, is_logged) {
-            Ok(bytes) => ReplyBytes::Own(bytes),
-            Err(_) => short(),
-        },
+        Reply::Logged(is_logged) => told_of(alloc, is_logged),
         _ => short(),
     }
 }
@@ -72,8 +128,42 @@ fn stopped(alloc: Global, error: StepError) -> PendingAnswer
     }
 }
 
+/// The answer where the log has a later entry.
+fn passed_over(alloc: Global, instance: &Instance) -> PendingAnswer
+    ensures { WhenMade (λ answered. IsPassedOver instance.now answered instance.now) result }
+{
+    PendingAnswer {
+        making: PendingReply::Whole(told_of(alloc, false)),
+        outbox: FrameSender::new(alloc),
+    }
+}
+
+/// The answer where there is no memory to look into the log.
+fn unread(alloc: Global, instance: &Instance) -> PendingAnswer
+    ensures { WhenMade (λ answered. IsUnread instance.now answered instance.now) result }
+{
+    PendingAnswer {
+        making: PendingReply::Whole(short()),
+        outbox: FrameSender::new(alloc),
+    }
+}
+
+/// Logs what was notified by one step.
+fn log_by_step(alloc: Global, instance: &mut Instance, notice: Notice, now: Moment) -> PendingAnswer
+    ensures { WhenMade (λ answered. IsLogged now notice instance.old answered instance.new) result }
+{
+    match instance.step(event_of(notice), now) {
+        Ok(outcome) => done(alloc, outcome),
+        Err(error) => stopped(alloc, error),
+    }
+}
+
 /// Logs what was notified, by one step at `now`, and answers whether that changed the log; it didn't where its entry would
 /// not outlive its moment. What the step sends goes to all peers.
+///
+/// Where the notice says when it was decided, and the log has an entry of its group that was made a millisecond or more after
+/// that, live or not, no step is made, and it is answered that the log isn't changed: the notice came too late to speak for
+/// what happened since. Moments of decisions are told to the millisecond.
 ///
 /// Where the step is refused that is answered, and nothing is sent: `entry too large`, `clock ran back`, or `out of memory`.
 /// Where memory runs out once the step is made, that is what is answered; the entry stands then, and its frames are answered.
@@ -83,11 +173,12 @@ pub fn log_notice(
     notice: Notice,
     now: Moment,
 ) -> PendingAnswer
-    // PROMISE: A notice is logged by one step, and its frames are handed on.
-    ensures { WhenMade (λ answered. IsLogged now notice instance.old answered instance.new) result }
+    // PROMISE: A notice is logged by one step, unless its group has an entry made after its decision.
+    ensures { WhenMade (λ answered. IsNoticed now notice instance.old answered instance.new) result }
 {
-    match instance.step(event_of(notice), now) {
-        Ok(outcome) => done(alloc, outcome),
-        Err(error) => stopped(alloc, error),
+    match is_late(alloc, instance, &notice) {
+        Ok(true) => passed_over(alloc, instance),
+        Ok(false) => log_by_step(alloc, instance, notice, now),
+        Err(_) => unread(alloc, instance),
     }
 }

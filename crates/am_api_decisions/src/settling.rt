@@ -12,12 +12,13 @@ use crate::replies::{good, short, tell};
 use crate::table;
 use crate::tally::Tally;
 use crate::terms::Terms;
+use crate::timing::Timing;
 use am_api_silences::ReplyBytes;
 use am_decision_json::{Answer, Why, write_answer};
 use am_dedup::Decision;
 use am_instance::{Instance, Reply};
 use am_nflog::Hashes;
-use am_version_order::Moment;
+use am_silence_json::moments::write_moment;
 use std::alloc::{AllocError, Global};
 
 /// Why a group is notified, or why not.
@@ -42,8 +43,8 @@ fn is_notified(why: Why) -> bool
 }
 
 /// The answer that tells what is decided of a group, and why.
-fn answer_of(group: Group, tally: Tally, why: Why) -> Answer
-    ensures { IsAnswerOf group tally why result }
+fn answer_of(timing: Timing, group: Group, tally: Tally, why: Why) -> Answer
+    ensures { IsAnswerOf timing group tally why result }
 {
     let Tally {
         firing,
@@ -63,6 +64,7 @@ fn answer_of(group: Group, tally: Tally, why: Why) -> Answer
         index,
     } = terms;
     Answer {
+        decided_at: write_moment(timing.now),
         firing: Hashes::new(firing),
         group_key,
         index,
@@ -73,6 +75,7 @@ fn answer_of(group: Group, tally: Tally, why: Why) -> Answer
         receiver,
         repeat: repeat.seconds,
         resolved: Hashes::new(resolved),
+        turn_seconds: timing.turn_seconds,
     }
 }
 
@@ -86,10 +89,10 @@ fn answered(alloc: Global, answer: &Answer) -> Result<Vec<u8>, AllocError>
 }
 
 /// What is told of a group, of which this is decided.
-fn told_of(alloc: Global, group: Group, tally: Tally, why: Why) -> ReplyBytes
-    ensures { Says (IsAnswerBytes group tally why) result }
+fn told_of(alloc: Global, timing: Timing, group: Group, tally: Tally, why: Why) -> ReplyBytes
+    ensures { Says (IsAnswerBytes timing group tally why) result }
 {
-    let answer = answer_of(group, tally, why);
+    let answer = answer_of(timing, group, tally, why);
     match answered(alloc, &answer) {
         Ok(bytes) => ReplyBytes::Own(bytes),
         Err(_) => short(),
@@ -97,11 +100,11 @@ fn told_of(alloc: Global, group: Group, tally: Tally, why: Why) -> ReplyBytes
 }
 
 /// What is told of the reply of a step.
-fn told_by(alloc: Global, group: Group, tally: Tally, reply: Reply) -> ReplyBytes
-    ensures { Says (IsDecisionBytes group tally reply) result }
+fn told_by(alloc: Global, timing: Timing, group: Group, tally: Tally, reply: Reply) -> ReplyBytes
+    ensures { Says (IsDecisionBytes timing group tally reply) result }
 {
     match reply {
-        Reply::Decided(decision) => told_of(alloc, group, tally, why_of(decision)),
+        Reply::Decided(decision) => told_of(alloc, timing, group, tally, why_of(decision)),
         _ => short(),
     }
 }
@@ -112,15 +115,15 @@ fn decide_by_step(
     instance: &mut Instance,
     group: Group,
     tally: Tally,
-    now: Moment,
+    timing: Timing,
 ) -> ReplyBytes
-    ensures { IsDecidedByStep now group tally instance.old result instance.new }
+    ensures { IsDecidedByStep timing group tally instance.old result instance.new }
 {
     let Ok(event) = group.event(alloc, &tally) else {
         return short();
     };
-    match instance.step(event, now) {
-        Ok(outcome) => told_by(alloc, group, tally, outcome.reply),
+    match instance.step(event, timing.now) {
+        Ok(outcome) => told_by(alloc, timing, group, tally, outcome.reply),
         Err(error) => tell(alloc, &table::refused(error)),
     }
 }
@@ -131,12 +134,12 @@ pub fn settle(
     instance: &mut Instance,
     group: Group,
     tally: Tally,
-    now: Moment,
+    timing: Timing,
 ) -> ReplyBytes
-    ensures { IsSettled now group tally instance.old result instance.new }
+    ensures { IsSettled timing group tally instance.old result instance.new }
 {
     if tally.has_none() {
-        return told_of(alloc, group, tally, Why::Muted);
+        return told_of(alloc, timing, group, tally, Why::Muted);
     }
-    decide_by_step(alloc, instance, group, tally, now)
+    decide_by_step(alloc, instance, group, tally, timing)
 }

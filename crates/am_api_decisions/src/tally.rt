@@ -1,13 +1,17 @@
 //! What came of the alerts that were asked.
 
-ghost use Rattle.std.specs.Prelude.{◌≡◌, ◌&&◌, ◌==◌, [], ◌∷◌, OnOk, false, length};
+ghost use Rattle.std.specs.Prelude.{◌≡◌, ◌&&◌, ◌==◌, ◌-◌, [], ◌∷◌, IfOk, OnOk, false, length, take};
 ghost use Rattle.am_api_decisions.specs.Asking.{counted_with, nothing_counted};
 
 use am_alert_hash::alert_hash;
 use am_decision_json::{Alert, Muted};
 use am_matcher::Ids;
+use am_wire::Text;
 use std::alloc::{AllocError, Global};
 use std::marker::Model;
+
+/// How many of the silences that mute an alert are named, so that the alerts of a message bound what an answer takes.
+const MOST_NAMED: usize = 16;
 
 /// What came of alerts: the hashes of those that no silence mutes, by whether they fire, and those that are muted.
 #[derive(Drop)]
@@ -24,6 +28,35 @@ impl Model for Tally {
     ghost Value = { Counted };
 
     ghost view = { λ t. record { firing = t.firing.items; resolved = t.resolved.items; muted = map silenced_in t.muted.items } };
+}
+
+/// Copies of identifiers.
+fn copied_ids(alloc: Global, ids: &[Text]) -> Result<Vec<Text>, AllocError>
+    ensures { IfOk result (λ copies. copies.items ≡ ids.now) }
+{
+    let mut copies = Vec::with_capacity(alloc, ids.len())?;
+    for id in ids {
+        copies.push(id.try_clone(alloc)?)?;
+    }
+    Ok(copies)
+}
+
+/// The first identifiers, as many as are named.
+fn named(alloc: Global, ids: &[Text]) -> Result<Vec<Text>, AllocError>
+    ensures { IfOk result (λ named. named.items ≡ take 16 ids.now) }
+{
+    if ids.len() > MOST_NAMED {
+        copied_ids(alloc, &ids[..MOST_NAMED])
+    } else {
+        copied_ids(alloc, ids)
+    }
+}
+
+/// How many identifiers there are beside those that are named.
+fn unnamed(ids: &[Text]) -> u64
+    ensures { result ≡ length ids.now - 16 }
+{
+    ids.len().saturating_sub(MOST_NAMED) as u64
 }
 
 impl Tally {
@@ -59,13 +92,15 @@ impl Tally {
     }
 
     /// Adds an alert that silences mute.
-    fn add_muted(&mut self, alert: Alert, ids: Ids) -> Result<(), AllocError>
-        requires { (length ids == 0) ≡ false }
-        ensures { OnOk result (self.new ≡ counted_with self.old (record { alert = alert; ids = ids } ∷ [])) }
+    fn add_muted(&mut self, alloc: Global, alert: Alert, ids: &[Text]) -> Result<(), AllocError>
+        requires { (length ids.now == 0) ≡ false }
+        ensures { OnOk result (self.new ≡ counted_with self.old (record { alert = alert; ids = ids.now } ∷ [])) }
     {
+        let silenced_by = named(alloc, ids)?;
         self.muted.push(Muted {
             labels: alert.labels,
-            silenced_by: ids.into_vec(),
+            silenced_by,
+            more: unnamed(ids),
         })?;
         Ok(())
     }
@@ -81,7 +116,7 @@ impl Tally {
         if ids.as_slice().is_empty() {
             self.add_open(alloc, &alert)
         } else {
-            self.add_muted(alert, ids)
+            self.add_muted(alloc, alert, ids.as_slice())
         }
     }
 }

@@ -3,7 +3,7 @@
 /// The fields of the head that are about the page: its type, and what a browser is to let it do.
 pub const FIELDS: &str = "\
 content-type: text/html; charset=utf-8\r\n\
-content-security-policy: default-src 'none'; script-src 'sha256-Fufr/AvKFkwy9rpRklzbTo8Lsa2cW1fG2ysveQptAL8='; style-src 'sha256-AVZGnS2QOhhFd8sEJaR8CHArex1rcFLfvaMCskM1bNw='; connect-src 'self'; img-src data:; base-uri 'none'; form-action 'none'; frame-ancestors 'none'; require-trusted-types-for 'script'; trusted-types 'none'\r\n\
+content-security-policy: default-src 'none'; script-src 'sha256-O3HxMdc5mSCBaa34mHx5NOUVP9C6UEI/QeH/+VXJyIc='; style-src 'sha256-AVZGnS2QOhhFd8sEJaR8CHArex1rcFLfvaMCskM1bNw='; connect-src 'self'; img-src data:; base-uri 'none'; form-action 'none'; frame-ancestors 'none'; require-trusted-types-for 'script'; trusted-types 'none'\r\n\
 x-content-type-options: nosniff\r\n\
 referrer-policy: no-referrer\r\n\
 cache-control: no-cache\r\n\
@@ -848,16 +848,24 @@ const openAlert = (query) => {\n\
 \x20\x20if (at(\"labels\").value) judge();\n\
 };\n\
 \n\
+// How many silences mute an alert, of which so many are shown and more aren't.\n\
+const mutingWords = (shown, more) => {\n\
+\x20\x20if (shown === 0) return \"No silence mutes it.\";\n\
+\x20\x20if (shown + more === 1) return \"1 silence mutes it:\";\n\
+\x20\x20return more === 0 ? `${shown} silences mute it:` : `${shown + more} silences mute it; the first ${shown}:`;\n\
+};\n\
+\n\
 // Asks the member which silences mute an alert with these labels. It decides nothing: the alert is told as one that has ended.\n\
 const judge = () => act(at(\"find\"), async () => {\n\
 \x20\x20const labels = labelsIn(at(\"labels\").value), here = route;\n\
 \x20\x20if (!labels) throw new Fault(\"Write the labels as alertname=\\\"Down\\\", instance=\\\"db1:9100\\\", or as JSON.\", \"labels\");\n\
 \x20\x20const { muted } = await post(\"v1/decide?wait=false\", { groupKey: \"page\", receiver: \"page\", alerts: [{ status: \"resolved\", labels }] });\n\
-\x20\x20const silences = await Promise.all((muted[0]?.silencedBy ?? []).slice(0, MOST_ROWS).map((id) => ask(pathOf(id))));\n\
+\x20\x20const { silencedBy = [], silencedByMore = 0 } = muted[0] ?? {};\n\
+\x20\x20const silences = await Promise.all(silencedBy.map((id) => ask(pathOf(id))));\n\
 \x20\x20if (here !== route) return;\n\
 \x20\x20blame(at(\"labels\"), \"\");\n\
 \x20\x20at(\"muting\").replaceChildren(...silences.map(rowOf));\n\
-\x20\x20at(\"muted\").textContent = silences.length === 0 ? \"No silence mutes it.\" : silences.length === 1 ? \"1 silence mutes it:\" : `${silences.length} silences mute it:`;\n\
+\x20\x20at(\"muted\").textContent = mutingWords(silences.length, silencedByMore);\n\
 }, ({ word }) => (word === \"labels\" ? at(\"labels\") : null));\n\
 \n\
 const find = () => {\n\

@@ -2,7 +2,7 @@
 
 use crate::members::print_held;
 use am_api_decisions::{
-    Asked, Deciding, Question, asked_of, begin_log, is_for_decisions, log_notice,
+    Asked, Deciding, Question, Timing, asked_of, begin_log, is_for_decisions, log_notice,
 };
 use am_api_silences::{PendingAnswer, PendingReply, ReplyBytes, refuse};
 use am_http::{Read, Refusal, Request, read_request};
@@ -35,6 +35,9 @@ fn refused(case: &Case, refusal: &Refusal) -> ReplyBytes {
     refuse(case.alloc, refusal).making.finish(case.alloc)
 }
 
+/// How many seconds a turn has of a member that `new` begins.
+const TURN_SECONDS: u64 = 15;
+
 /// What is decided: the first alerts are asked, and then the others.
 fn decided(
     case: &Case,
@@ -44,7 +47,14 @@ fn decided(
 ) -> ReplyBytes {
     let deciding = Deciding::new(case.alloc, question);
     match deciding.go_on(case.alloc, instance, calling.most, calling.now) {
-        Ok(deciding) => deciding.decide(case.alloc, instance, calling.then),
+        Ok(deciding) => deciding.decide(
+            case.alloc,
+            instance,
+            Timing {
+                now: calling.then,
+                turn_seconds: TURN_SECONDS,
+            },
+        ),
         Err(refusal) => refused(case, &refusal),
     }
 }

@@ -5,6 +5,7 @@ ghost use Rattle.std.specs.Prelude.{◌≡◌, ◌≢◌};
 mod diff;
 mod instance;
 mod live;
+mod mend;
 mod options;
 
 use am_jobs::{FoldJob, Form, Job, ShowJob, StateName, VERSION, is_file};
@@ -90,13 +91,14 @@ pub fn words_of<R: Env + AllocGlobal>(rt: &R) -> Result<Vec<String>, WordsError>
 }
 
 /// The tasks, in the order of the help.
-static TASKS: [Task; 7] = [
+static TASKS: [Task; 8] = [
     Task::Replay,
     Task::Fold,
     Task::Show,
     Task::Diff,
     Task::Pull,
     Task::Push,
+    Task::Mend,
     Task::Instance,
 ];
 
@@ -109,6 +111,7 @@ enum Task {
     Diff,
     Pull,
     Push,
+    Mend,
     Instance,
 }
 
@@ -140,6 +143,7 @@ fn task_command<'a>(alloc: Global, task: Task) -> Result<Command<'a>, AllocError
         Task::Diff => diff::command(alloc, diff::NAME),
         Task::Pull => live::pull_command(alloc, live::PULL),
         Task::Push => live::push_command(alloc, live::PUSH),
+        Task::Mend => mend::command(alloc, mend::NAME),
         Task::Instance => instance::command(alloc, instance::NAME),
     }
 }
@@ -168,7 +172,7 @@ static REPLAY_OPTIONS: [Named; 1] = [Named {
     help: "Also draws what was played, in this file as SVG; a schedule of over 2,000 steps is refused then",
 }];
 
-static FOLD_OPTIONS: [Named; 4] = [
+static FOLD_OPTIONS: [Named; 5] = [
     Named {
         name: "state",
         value: "STATE",
@@ -186,6 +190,12 @@ static FOLD_OPTIONS: [Named; 4] = [
         value: "",
         takes: Takes::Nothing,
         help: LOG_HELP,
+    },
+    Named {
+        name: MOST_BYTES,
+        value: "BYTES",
+        takes: Takes::Default("67108864"),
+        help: "How many bytes each input and the result may have, 1 to 4294967295",
     },
     Named {
         name: FILE,
@@ -256,6 +266,9 @@ fn read_other<'a>(alloc: Global, matches: &ArgMatches<'a>) -> Result<Job<'a>, Wo
     if let Some(flags) = matches.subcommand_matches(live::PUSH) {
         return live::read_push(alloc, flags);
     }
+    if let Some(flags) = matches.subcommand_matches(mend::NAME) {
+        return mend::read_job(alloc, flags);
+    }
     read_local(alloc, matches)
 }
 
@@ -289,14 +302,28 @@ fn read_show<'a>(alloc: Global, flags: &ArgMatches<'a>) -> Result<Job<'a>, Words
 /// The rows that are to be folded.
 fn read_fold<'a>(alloc: Global, flags: &ArgMatches<'a>) -> Result<Job<'a>, WordsError> {
     let files = Vec::from_slice(alloc, flags.get_strs(FILE).unwrap_or(&[]))?;
-    match now_beside(flags, &files) {
-        Ok(now) => Ok(Job::Fold(FoldJob {
+    match fold_numbers(flags, &files) {
+        Ok((now, most)) => Ok(Job::Fold(FoldJob {
             state: state_of(flags),
             files,
             has_logs: flags.get_flag(LOG),
             now: now.unwrap_or(Moment::LEAST),
+            most,
         })),
         Err(text) => Err(mistake(fold_command(alloc, "am_tool fold"), text)),
+    }
+}
+
+/// The moment that an option names, where it is given, and the most bytes, or what is said of what is at fault.
+fn fold_numbers(
+    flags: &ArgMatches<'_>,
+    files: &[&str],
+) -> Result<(Option<Moment>, u32), &'static str> {
+    let now = now_beside(flags, files)?;
+    let word = flags.get_str(MOST_BYTES).unwrap_or("");
+    match number_within(1, MOST_OF_MOST_BYTES, word) {
+        Some(most) => Ok((now, most as u32)),
+        None => Err(BAD_MOST_BYTES),
     }
 }
 
@@ -374,6 +401,15 @@ const JSON: &str = "json";
 
 /// The name of the option for the logs beside files.
 const LOG: &str = "log";
+
+/// The name of the option for the most bytes.
+const MOST_BYTES: &str = "most-bytes";
+
+/// The largest number that it takes.
+const MOST_OF_MOST_BYTES: u64 = 4_294_967_295;
+
+const BAD_MOST_BYTES: &str =
+    "invalid value for '--most-bytes <BYTES>': a whole number from 1 to 4294967295 is wanted, in digits alone";
 
 /// The name of the words that name files.
 const FILE: &str = "file";

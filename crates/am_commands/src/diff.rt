@@ -1,30 +1,40 @@
 //! How replicas differ.
 
+ghost use Rattle.std.specs.Prelude.{◌≡◌, IfOk, IfErr, ℕ, List};
+ghost use Rattle.std.specs.Io.KnownBytes.{Appends};
+ghost use Rattle.std.specs.List.{AllZip};
+ghost use Rattle.am_report.specs.Later.{has_later_source};
+ghost use Rattle.am_report.specs.Sources.{Source as NamedMap};
+ghost use Rattle.am_commands.specs.Reading.{IsRead};
+ghost use Rattle.am_commands.specs.Differing.{IsReport, StopsReport, StopsDiff};
+
+use crate::fault::{SourceFault, Stopped, add, report_stopped};
+use crate::figures::write_figures;
 use crate::host::{Host, Streams};
-use crate::live::ask_all;
+use crate::live::Shown;
 use crate::moment::{moment_of, warn};
+use crate::opened::{Keys, Opened, Origin, Reading, open};
 use crate::replica::told_by;
-use crate::source::{Keys, Origin, ReadFault, Source, add, open_row, report_read};
-use am_faults::{Fault, report, status};
-use am_jobs::{DiffJob, Form, PullJob, SourceWord, StateName};
-use am_merge::Held;
+use crate::source::{Input, Source, read_sources};
+use am_faults::{report, status};
+use am_jobs::{DiffJob, PullJob, Report, SourceWord, StateName};
 use am_nflog::MeshEntry;
 use am_report::{
-    DiffError, DiffOutcome, InJson, Input, Manner, Replica, ReportLine, diff_json, diff_rows,
-    has_later_source, write_differences, write_differences_json,
+    Compared, InJson, Manner, Replica, ReportLine, has_later_source, write_differences,
+    write_differences_json,
 };
 use am_silence::MeshSilence;
 use am_snapshot::SnapshotError;
-use am_version_order::{Moment, Version};
-use am_wire::Message;
+use am_version_order::Moment;
+use am_wire::MOST_MESSAGE_BYTES;
 use std::alloc::{AllocError, Global};
-use std::io::{BufReader, Read, Stdin, Stdout, Write};
+use std::io::{BufReader, Stdin, Write};
 use std::mem;
 
 /// A source that is opened.
-type Opened<'a> = Input<'a, BufReader<Origin>>;
+type OpenedInput<'a> = Input<'a, Opened<BufReader<Origin>>>;
 
-/// Compares the sources of a job, and answers the exit status of the program.
+/// Compares the sources of a job, and returns the exit status of the program.
 pub fn run_diff<'a, R: Host>(rt: &R, streams: Streams, job: &DiffJob<'a>) -> u8 {
     let now = match moment_of(rt, job.now) {
         Ok(now) => now,
@@ -32,12 +42,27 @@ pub fn run_diff<'a, R: Host>(rt: &R, streams: Streams, job: &DiffJob<'a>) -> u8 
     };
     match compare(rt, streams, job, now) {
         Ok(outcome) => tell(rt, job, outcome),
-        Err(fault) => report_read(rt, &fault),
+        Err(stopped) => report_stopped(rt, name_of(job, &stopped), &stopped),
     }
 }
 
-/// Warns of an early moment, and answers the exit status of the program.
-fn tell<R: Host>(rt: &R, job: &DiffJob<'_>, outcome: DiffOutcome) -> u8 {
+/// Returns the name of the source that is at fault.
+fn name_of<'a>(job: &DiffJob<'a>, stopped: &Stopped) -> Option<&'a str> {
+    let source = job.sources.get(stopped.number()?)?;
+    Some(source.name)
+}
+
+/// What came of a comparison.
+#[derive(Clone, Copy)]
+pub struct Outcome {
+    /// There is a difference.
+    pub found: bool,
+    /// Something that was read was updated after the moment.
+    pub has_later: bool,
+}
+
+/// Warns of an early moment, and returns the exit status of the program.
+fn tell<R: Host>(rt: &R, job: &DiffJob<'_>, outcome: Outcome) -> u8 {
     if outcome.has_later {
         warn(rt, job.now);
     }
@@ -48,225 +73,183 @@ fn tell<R: Host>(rt: &R, job: &DiffJob<'_>, outcome: DiffOutcome) -> u8 {
     }
 }
 
+/// What is compared of sources, and how it is told.
+#[derive(Clone, Copy)]
+pub struct Comparison {
+    pub compared: Compared,
+    pub report: Report,
+    /// The moment, and how lines are told.
+    pub manner: Manner,
+}
+
 /// Writes all differences to standard output.
 fn compare<'a, R: Host>(
     rt: &R,
     streams: Streams,
     job: &DiffJob<'a>,
     now: Moment,
-) -> Result<DiffOutcome, ReadFault<'a>> {
-    if job.is_live() {
-        return compare_live(rt, streams, job, now);
-    }
-    if !job.has_logs {
-        return compare_opened(rt, streams, job, now);
-    }
-    match job.state {
-        StateName::Silences => compare_logged::<R, MeshSilence>(rt, streams, job, now),
-        StateName::Log => compare_logged::<R, MeshEntry>(rt, streams, job, now),
-    }
-}
-
-/// Writes all differences of what sources show, of which one at least is a server, to standard output.
-fn compare_live<'a, R: Host>(
-    rt: &R,
-    streams: Streams,
-    job: &DiffJob<'a>,
-    now: Moment,
-) -> Result<DiffOutcome, ReadFault<'a>> {
-    let replicas = ask_all(rt, streams.input, job)?;
-    compare_all(rt.alloc(), job, now, replicas, streams.output)
-}
-
-/// Writes all differences of rows to standard output.
-fn compare_opened<'a, R: Host>(
-    rt: &R,
-    streams: Streams,
-    job: &DiffJob<'a>,
-    now: Moment,
-) -> Result<DiffOutcome, ReadFault<'a>> {
+) -> Result<Outcome, Stopped> {
     let Streams { input, mut output } = streams;
-    let mut inputs = open_all(rt, input, job)?;
-    match compare_rows(rt.alloc(), job, now, &mut inputs, &mut output) {
-        Ok(outcome) => Ok(outcome),
-        Err(error) => Err(named(job, error)),
-    }
-}
-
-/// Why sources of rows were not compared.
-fn named<'a>(job: &DiffJob<'a>, error: DiffError) -> ReadFault<'a> {
-    match error {
-        DiffError::Source { number, fault } => match job.sources.get(number) {
-            Some(source) => ReadFault::Source(source.name, Fault::Snapshot(fault)),
-            None => ReadFault::from(fault),
+    let how = Comparison {
+        compared: job.compared,
+        report: job.report,
+        manner: Manner {
+            moment: now,
+            has_expiries: !job.is_live(),
+            is_long: job.is_long,
         },
-        DiffError::Write { written } => ReadFault::from(SnapshotError::Write { written }),
-        DiffError::Memory => ReadFault::Fault(Fault::Memory(AllocError)),
+    };
+    let alloc = rt.alloc();
+    if job.is_live() {
+        let mut inputs = live_inputs(rt, input, job)?;
+        return diff_sources::<MeshSilence, _, _>(alloc, &mut inputs, &how, &mut output);
+    }
+    let mut inputs = open_all(rt, input, job)?;
+    match job.state {
+        StateName::Silences => {
+            diff_sources::<MeshSilence, _, _>(alloc, &mut inputs, &how, &mut output)
+        }
+        StateName::Log => diff_sources::<MeshEntry, _, _>(alloc, &mut inputs, &how, &mut output),
     }
 }
 
-/// Opens all sources.
-fn open_all<'a, R: Host>(
-    rt: &R,
+/// Returns the sources of a job, of which one at least is a server: each is asked or opened when it is read.
+fn live_inputs<'a, R: Host>(
+    rt: &'a R,
     input: Stdin,
-    job: &DiffJob<'a>,
-) -> Result<Vec<Opened<'a>>, ReadFault<'a>> {
+    job: &'a DiffJob<'a>,
+) -> Result<Vec<Input<'a, Shown<'a, R>>>, AllocError> {
     let mut inputs = Vec::new(rt.alloc());
     for source in &job.sources {
-        let name = source.name;
-        let reader = open_source(rt, input, job, source)?;
-        add(&mut inputs, name, Input { name, reader })?;
+        inputs.push(Input {
+            name: source.name,
+            source: Shown {
+                rt,
+                input,
+                job,
+                word: *source,
+            },
+        })?;
     }
     Ok(inputs)
 }
 
-/// Opens the row of a source: what a replica tells, a file, or standard input.
-pub fn open_source<'a, R: Host>(
+/// Opens all sources before one is read.
+fn open_all<'a, R: Host>(
     rt: &R,
     input: Stdin,
     job: &DiffJob<'a>,
-    source: &SourceWord<'a>,
-) -> Result<BufReader<Origin>, ReadFault<'a>> {
-    if let Some(pull) = pull_of(job, source) {
-        return told_by(rt, &pull);
+) -> Result<Vec<OpenedInput<'a>>, Stopped> {
+    let mut inputs = Vec::new(rt.alloc());
+    for source in &job.sources {
+        match open_source(rt, input, job, source) {
+            Ok(opened) => add(
+                &mut inputs,
+                Input {
+                    name: source.name,
+                    source: opened,
+                },
+            )?,
+            Err(fault) => {
+                return Err(Stopped::Source {
+                    number: inputs.len(),
+                    fault,
+                });
+            }
+        }
     }
-    match open_row(rt, input, source.file) {
-        Ok(reader) => Ok(reader),
-        Err(fault) => Err(ReadFault::Source(source.name, Fault::File(fault))),
-    }
+    Ok(inputs)
 }
 
-/// What a replica is asked, where the source is one that is asked by gossip.
-fn pull_of<'a>(job: &DiffJob<'a>, source: &SourceWord<'a>) -> Option<PullJob<'a>> {
-    let replica = source.replica()?;
-    Some(PullJob {
+/// How the rows of sources are read.
+const READING: Reading = Reading {
+    keys: Keys::Repeated,
+    most: MOST_MESSAGE_BYTES as u32,
+};
+
+/// Opens a source: what a replica tells, beside which no logs stand, a file, or standard input.
+pub fn open_source<R: Host>(
+    rt: &R,
+    input: Stdin,
+    job: &DiffJob<'_>,
+    source: &SourceWord<'_>,
+) -> Result<Opened<BufReader<Origin>>, SourceFault> {
+    let Some(replica) = source.replica() else {
+        return open(rt, input, source.file, job.has_logs, READING);
+    };
+    let pull = PullJob {
         state: job.state,
         name: source.name,
         replica,
         time_limit: job.time_limit,
+    };
+    Ok(Opened {
+        row: Some(told_by(rt, &pull)?),
+        logs: None,
+        reading: READING,
     })
 }
 
-/// Writes all differences of files, each joined with the logs beside it, to standard output.
-fn compare_logged<'a, R: Host, V: ReportLine + InJson + Message>(
-    rt: &R,
-    streams: Streams,
-    job: &DiffJob<'a>,
-    now: Moment,
-) -> Result<DiffOutcome, ReadFault<'a>> {
-    let opened = open_logged(rt, streams.input, job)?;
-    let replicas: Vec<Replica<'a, V>> = read_logged(rt.alloc(), opened)?;
-    compare_all(rt.alloc(), job, now, replicas, streams.output)
-}
-
-/// Writes all differences of what sources hold to standard output. What was read is forgotten: the process ends then, and its
-/// memory with it.
-fn compare_all<'a, V: ReportLine + InJson>(
+/// Writes all differences of maps in the form that is asked for. Returns whether there is one.
+fn write_report<V: ReportLine + InJson, W: Write>(
     alloc: Global,
-    job: &DiffJob<'_>,
-    now: Moment,
-    replicas: Vec<Replica<'_, V>>,
-    mut output: Stdout,
-) -> Result<DiffOutcome, ReadFault<'a>> {
-    let outcome = compare_held(alloc, job, now, &replicas, &mut output);
-    mem::forget(replicas);
-    Ok(outcome?)
-}
-
-/// Opens all sources, each with the logs beside it.
-fn open_logged<'a, R: Host>(
-    rt: &R,
-    input: Stdin,
-    job: &DiffJob<'a>,
-) -> Result<Vec<Source<'a>>, ReadFault<'a>> {
-    let mut opened = Vec::new(rt.alloc());
-    for source in &job.sources {
-        let name = source.name;
-        let source = open_with_logs(rt, input, job, source)?;
-        add(&mut opened, name, source)?;
-    }
-    Ok(opened)
-}
-
-/// Opens a source with the logs beside it; a replica that is asked by gossip has none.
-fn open_with_logs<'a, R: Host>(
-    rt: &R,
-    input: Stdin,
-    job: &DiffJob<'a>,
-    source: &SourceWord<'a>,
-) -> Result<Source<'a>, ReadFault<'a>> {
-    match pull_of(job, source) {
-        Some(pull) => match told_by(rt, &pull) {
-            Ok(row) => Ok(Source::told(rt.alloc(), source.name, row)),
-            Err(fault) => Err(fault),
-        },
-        None => Source::open(rt, input, source.name, source.file, true),
-    }
-}
-
-/// Reads all sources, each to its end before the next.
-fn read_logged<'a, V: Version + Message>(
-    alloc: Global,
-    opened: Vec<Source<'a>>,
-) -> Result<Vec<Replica<'a, V>>, ReadFault<'a>> {
-    let mut replicas = Vec::new(alloc);
-    for source in opened {
-        let name = source.name();
-        let held: Held<V> = source.read(alloc, Keys::Repeated)?;
-        add(&mut replicas, name, Replica::new(name, held))?;
-    }
-    Ok(replicas)
-}
-
-/// How the lines of a job are told.
-fn manner_of(job: &DiffJob<'_>, now: Moment) -> Manner {
-    Manner {
-        moment: now,
-        has_expiries: !job.is_live(),
-        is_long: job.is_long,
-    }
-}
-
-/// Writes all differences of what sources hold.
-fn compare_held<V: ReportLine + InJson, W: Write>(
-    alloc: Global,
-    job: &DiffJob<'_>,
-    now: Moment,
     replicas: &[Replica<'_, V>],
-    output: &mut W,
-) -> Result<DiffOutcome, SnapshotError> {
-    let has_later = has_later_source(replicas, now);
-    let found = match job.form {
-        Form::Lines => {
-            let manner = manner_of(job, now);
-            write_differences(alloc, replicas, job.compared, &manner, output)?
-        }
-        Form::Json => write_differences_json(alloc, replicas, job.compared, now, output)?,
-    };
-    Ok(DiffOutcome { found, has_later })
+    how: &Comparison,
+    writer: &mut W,
+) -> Result<bool, SnapshotError>
+    ensures told { IfOk result (λ found. (text : List ℕ) ×
+        IsReport V.seen V.Key.cmp V.begins V.told V.more V.key_data V.named V.value how.now replicas.now found text ×
+        Appends (W.contents writer.old) (W.contents writer.new) text) }
+    ensures stopped { IfErr result (StopsReport V.seen V.Key.cmp V.begins V.told V.more V.key_data V.named V.value how.now replicas.now
+        W.contents writer.old writer.new) }
+{
+    let manner = &how.manner;
+    match how.report {
+        Report::Lines => write_differences(alloc, replicas, how.compared, manner, writer),
+        Report::Json => write_differences_json(
+            alloc,
+            replicas,
+            how.compared,
+            manner.moment,
+            writer,
+        ),
+        Report::Figures => write_figures(alloc, replicas, how.compared, manner.moment, writer),
+    }
 }
 
-/// Writes all differences of rows.
-fn compare_rows<I: Read + Drop, W: Write>(
+/// Reads sources, and then writes all their differences: the keys at which they differ, in order.
+///
+/// What was read is forgotten: the process is to end then, and its memory with it.
+///
+/// # Errors
+///
+/// Those of [`read_sources`], before a byte goes out, and then [`Stopped::Told`] where memory runs out or a write fails.
+pub fn diff_sources<V: ReportLine + InJson, S: Source<V>, W: Write>(
     alloc: Global,
-    job: &DiffJob<'_>,
-    now: Moment,
-    inputs: &mut [Input<'_, I>],
-    output: &mut W,
-) -> Result<DiffOutcome, DiffError> {
-    let manner = manner_of(job, now);
-    match (job.form, job.state) {
-        (Form::Lines, StateName::Silences) => {
-            diff_rows::<MeshSilence, _, _>(alloc, inputs, job.compared, &manner, output)
-        }
-        (Form::Lines, StateName::Log) => {
-            diff_rows::<MeshEntry, _, _>(alloc, inputs, job.compared, &manner, output)
-        }
-        (Form::Json, StateName::Silences) => {
-            diff_json::<MeshSilence, _, _>(alloc, inputs, job.compared, now, output)
-        }
-        (Form::Json, StateName::Log) => {
-            diff_json::<MeshEntry, _, _>(alloc, inputs, job.compared, now, output)
-        }
+    inputs: &mut [Input<'_, S>],
+    how: &Comparison,
+    writer: &mut W,
+) -> Result<Outcome, Stopped>
+    // PROMISE: `diff` prints exactly the lines, or the array, of all keys at which its sources differ.
+    ensures told { IfOk result (λ outcome. (sources : List (NamedMap V)) ×
+        AllZip (IsRead V.seen V.Key.cmp S.gives) inputs.old sources ×
+        (outcome.has_later ≡ has_later_source V.seen how.now.manner.moment sources) × (text : List ℕ) ×
+        IsReport V.seen V.Key.cmp V.begins V.told V.more V.key_data V.named V.value how.now sources outcome.found text ×
+        Appends (W.contents writer.old) (W.contents writer.new) text) }
+
+    // PROMISE: If a source is at fault, `diff` tells of the first one, and prints nothing.
+    ensures stopped { IfErr result (StopsDiff V.seen V.Key.cmp V.begins V.told V.more V.key_data V.named V.value how.now
+        S.gives S.stops inputs.old W.contents writer.old writer.new) }
+{
+    let replicas: Vec<Replica<'_, V>> = match read_sources(alloc, inputs) {
+        Ok(replicas) => replicas,
+        Err(stopped) => return Err(stopped),
+    };
+    let has_later = has_later_source(&replicas, how.manner.moment);
+    let written = write_report(alloc, &replicas, how, writer);
+    mem::forget(replicas);
+    match written {
+        Ok(found) => Ok(Outcome { found, has_later }),
+        Err(error) => Err(Stopped::Told(error)),
     }
 }

@@ -1,118 +1,122 @@
-//! Rows, folded.
+//! Sources, folded.
 
-ghost use Rattle.std.specs.Prelude.{ℕ, List, IfSome, OnOk};
-ghost use Rattle.std.specs.Io.KnownBytes.{Appends};
-ghost use Rattle.am_snapshot.specs.Folds.{IsFold};
+ghost use Rattle.std.specs.Prelude.{OnOk, IfErr};
+ghost use Rattle.am_commands.specs.Folding.{IsFoldRow};
+ghost use Rattle.am_commands.specs.Telling.{IsTold, StopsTelling};
 
+use crate::fault::{Stopped, add, report_stopped};
 use crate::host::{Host, Streams};
-use crate::source::{Keys, ReadFault, Source, report_read};
-use am_faults::{Fault, report, status};
-use am_jobs::{FoldJob, StateName};
+use crate::opened::{Keys, Reading, Unopened};
+use crate::source::{Input, Source, join_sources};
+use am_faults::status;
+use am_jobs::{FoldJob, STANDARD_INPUT, StateName};
 use am_merge::Held;
 use am_nflog::MeshEntry;
 use am_silence::MeshSilence;
-use am_snapshot::{SnapshotError, fold_held, save};
-use am_version_order::{Moment, Version};
+use am_snapshot::save_within;
+use am_version_order::Version;
 use am_wire::Message;
 use std::alloc::{AllocError, Global};
-use std::io::{BufReader, Read, Stdin, Write};
+use std::io::{Stdin, Stdout, Write};
 use std::mem;
 
-/// Writes the fold of what a job names to standard output, and answers the exit status of the program.
+/// Writes the fold of what a job names to standard output, and returns the exit status of the program.
 pub fn run_fold<R: Host>(rt: &R, streams: Streams, job: &FoldJob<'_>) -> u8 {
-    if job.files.is_empty() {
-        run_on_input(rt, streams, job)
-    } else {
-        run_on_files(rt, streams, job)
-    }
-}
-
-/// Folds standard input, and answers the exit status of the program.
-fn run_on_input<R: Host>(rt: &R, streams: Streams, job: &FoldJob<'_>) -> u8 {
-    match fold_input(rt.alloc(), streams, job) {
-        Ok(()) => status::DONE,
-        Err(fault) => report(rt, fault),
-    }
-}
-
-/// Folds the row that stands on standard input.
-fn fold_input(alloc: Global, streams: Streams, job: &FoldJob<'_>) -> Result<(), Fault> {
     let Streams { input, mut output } = streams;
-    let Ok(mut input) = BufReader::new(alloc, input) else {
-        return Err(Fault::Memory(AllocError));
-    };
-    let now = job.now;
-    match job.state {
-        StateName::Silences => fold_row::<MeshSilence, _, _>(alloc, &mut input, &mut output, now),
-        StateName::Log => fold_row::<MeshEntry, _, _>(alloc, &mut input, &mut output, now),
-    }
-}
-
-/// Writes the fold of the row that stands on the input.
-///
-/// What was read is forgotten: the process ends then, and its memory with it.
-fn fold_row<V: Version + Message, I: Read, W: Write>(
-    alloc: Global,
-    input: &mut I,
-    output: &mut W,
-    now: Moment,
-) -> Result<(), Fault>
-    ensures folded { OnOk result (IfSome (I.remaining input.old) (λ bytes.
-        (row : List ℕ) × IsFold V.seen V.Key.cmp V.reads bytes row × Appends (W.contents output.old) (W.contents output.new) row)) }
-{
-    let folded = fold_held::<V, _, _>(alloc, input, output, now)?;
-    mem::forget(folded);
-    Ok(())
-}
-
-/// Folds the files of a job, and answers the exit status of the program.
-fn run_on_files<R: Host>(rt: &R, streams: Streams, job: &FoldJob<'_>) -> u8 {
     let folded = match job.state {
-        StateName::Silences => fold_files::<R, MeshSilence>(rt, streams, job),
-        StateName::Log => fold_files::<R, MeshEntry>(rt, streams, job),
+        StateName::Silences => fold_files::<R, MeshSilence>(rt, input, &mut output, job),
+        StateName::Log => fold_files::<R, MeshEntry>(rt, input, &mut output, job),
     };
     match folded {
         Ok(()) => status::DONE,
-        Err(fault) => report_read(rt, &fault),
+        Err(stopped) => report_stopped(rt, name_of(job, &stopped), &stopped),
     }
 }
 
-/// Writes the fold of the files of a job. What was read is forgotten: the process ends then, and its memory with it.
-fn fold_files<'a, R: Host, V: Version + Message>(
-    rt: &R,
-    streams: Streams,
-    job: &FoldJob<'a>,
-) -> Result<(), ReadFault<'a>> {
-    let Streams { input, mut output } = streams;
-    let held = read_all::<R, V>(rt, input, job)?;
-    let written = save(rt.alloc(), &held, &mut output);
-    mem::forget(held);
-    written?;
-    Ok(())
+/// Returns the name of the file that is at fault; standard input has none where no file is named.
+fn name_of<'a>(job: &FoldJob<'a>, stopped: &Stopped) -> Option<&'a str> {
+    job.files.get(stopped.number()?).copied()
 }
 
-/// The join of what all files have. Each is opened and read to its end before the next.
-fn read_all<'a, R: Host, V: Version + Message>(
+/// Folds the files of a job, or standard input where it names none.
+fn fold_files<R: Host, V: Version + Message>(
     rt: &R,
     input: Stdin,
-    job: &FoldJob<'a>,
-) -> Result<Held<V>, ReadFault<'a>> {
-    let mut all = Held::new(rt.alloc());
-    for file in &job.files {
-        let source = Source::open(rt, input, file, file, job.has_logs)?;
-        let held: Held<V> = source.read(rt.alloc(), Keys::Repeated)?;
-        all = join(all, held)?;
-    }
-    Ok(all)
+    output: &mut Stdout,
+    job: &FoldJob<'_>,
+) -> Result<(), Stopped> {
+    let mut inputs = inputs_of(rt, input, job)?;
+    fold_sources::<V, _, _>(rt.alloc(), &mut inputs, job.most, output)
 }
 
-/// The join of two states.
-fn join<V: Version>(mut all: Held<V>, more: Held<V>) -> Result<Held<V>, SnapshotError> {
-    if all.is_empty() {
-        return Ok(more);
+/// Returns the sources of a job.
+fn inputs_of<'a, R: Host>(
+    rt: &'a R,
+    input: Stdin,
+    job: &FoldJob<'a>,
+) -> Result<Vec<Input<'a, Unopened<'a, R>>>, AllocError> {
+    let mut inputs = Vec::new(rt.alloc());
+    if job.files.is_empty() {
+        add(&mut inputs, input_of(rt, input, job, STANDARD_INPUT))?;
     }
-    match all.merge(&more, Moment::LEAST) {
-        Ok(_) => Ok(all),
-        Err(_) => Err(SnapshotError::Memory),
+    for file in &job.files {
+        add(&mut inputs, input_of(rt, input, job, file))?;
+    }
+    Ok(inputs)
+}
+
+/// Returns one source of a job.
+fn input_of<'a, R: Host>(
+    rt: &'a R,
+    input: Stdin,
+    job: &FoldJob<'a>,
+    file: &'a str,
+) -> Input<'a, Unopened<'a, R>> {
+    let reading = Reading {
+        keys: Keys::Repeated,
+        most: job.most,
+    };
+    Input {
+        name: file,
+        source: Unopened {
+            rt,
+            input,
+            file,
+            has_logs: job.has_logs,
+            reading,
+        },
+    }
+}
+
+/// Writes the fold of sources, a row of at most `most` bytes: the greatest version of each key that one of them holds, in the
+/// order of the keys.
+///
+/// What was read is forgotten: the process is to end then, and its memory with it.
+///
+/// # Errors
+///
+/// Those of [`join_sources`], before a byte goes out, and then those of [`save_within`].
+pub fn fold_sources<V: Version, S: Source<V>, W: Write>(
+    alloc: Global,
+    inputs: &mut [Input<'_, S>],
+    most: u32,
+    writer: &mut W,
+) -> Result<(), Stopped>
+    // PROMISE: `fold` writes the greatest version of each key in all its files, and no other.
+    ensures row { OnOk result (IsTold V.seen V.Key.cmp S.gives inputs.old W.contents (IsFoldRow V.seen V.Key.cmp) writer.old writer.new) }
+
+    // PROMISE: If a file is at fault, `fold` tells of the first one, and writes nothing.
+    ensures stopped { IfErr result (StopsTelling V.seen V.Key.cmp S.gives inputs.old W.contents (IsFoldRow V.seen V.Key.cmp) S.stops
+        writer.old writer.new) }
+{
+    let folded: Held<V> = match join_sources(alloc, inputs) {
+        Ok(folded) => folded,
+        Err(stopped) => return Err(stopped),
+    };
+    let written = save_within(alloc, &folded, writer, most);
+    mem::forget(folded);
+    match written {
+        Ok(_) => Ok(()),
+        Err(error) => Err(Stopped::Told(error)),
     }
 }

@@ -3,19 +3,26 @@
 #![tactic(auto)]
 
 mod diff;
+mod fault;
+mod figures;
 mod fold;
 mod host;
 mod live;
+mod mend;
+mod mending;
 mod moment;
+mod opened;
 mod pull;
 mod push;
 mod replica;
+mod rows;
 mod show;
 mod source;
 
 pub use diff::run_diff;
 pub use fold::run_fold;
 pub use host::{Host, Streams};
+pub use mend::run_mend;
 pub use pull::run_pull;
 pub use push::run_push;
 pub use show::run_show;

@@ -1,13 +1,19 @@
-//! What sources show, be they servers or files.
+//! What API v2 shows of sources, be they servers or files.
+
+ghost use Rattle.std.specs.Prelude.{IfOk};
+ghost use Rattle.std.specs.Ordering.{nat_cmp};
+ghost use Rattle.std.specs.Cmp.Lexicographic.{slice_cmp};
+ghost use Rattle.am_merge.specs.Maps.{IsMap};
+ghost use Rattle.am_silence.specs.Mesh.{mesh_version};
 
 use crate::diff::open_source;
+use crate::fault::SourceFault;
 use crate::host::Host;
-use crate::source::{Keys, ReadFault, Source, add};
+use crate::source::Source;
 use am_faults::Fault;
 use am_jobs::{DiffJob, SourceWord};
 use am_merge::Held;
 use am_peers::{Server, body_of, fetch, held_of, shown_of_row};
-use am_report::Replica;
 use am_silence::MeshSilence;
 use am_silence_json::read_silences;
 use am_snapshot::{SnapshotError, row_bytes, row_length};
@@ -15,72 +21,66 @@ use std::alloc::{AllocError, Global};
 use std::io::Stdin;
 use std::time::Duration;
 
-/// What all sources show, each opened or asked, and read to its end, before the next.
-pub fn ask_all<'a, R: Host>(
-    rt: &R,
-    input: Stdin,
-    job: &DiffJob<'a>,
-) -> Result<Vec<Replica<'a, MeshSilence>>, ReadFault<'a>> {
-    let mut replicas = Vec::new(rt.alloc());
-    for source in &job.sources {
-        let name = source.name;
-        let held = shown_by(rt, input, job, source)?;
-        add(&mut replicas, name, Replica::new(name, held))?;
-    }
-    Ok(replicas)
+/// A source of which is read what API v2 shows: a server that is asked then, or a file that is opened then.
+pub struct Shown<'a, R: Host> {
+    pub rt: &'a R,
+    pub input: Stdin,
+    pub job: &'a DiffJob<'a>,
+    pub word: SourceWord<'a>,
 }
 
-/// What a source shows.
-fn shown_by<'a, R: Host>(
-    rt: &R,
-    input: Stdin,
-    job: &DiffJob<'a>,
-    source: &SourceWord<'a>,
-) -> Result<Held<MeshSilence>, ReadFault<'a>> {
-    if let Some(server) = source.server() {
-        return match shown_by_server(rt, &server, job.time_limit) {
-            Ok(held) => Ok(held),
-            Err(fault) => Err(ReadFault::Source(source.name, fault)),
-        };
-    }
-    if job.has_logs && source.replica().is_none() {
-        return shown_by_logged(rt, input, source);
-    }
-    shown_by_row(rt, input, job, source)
-}
-
-/// What the row of a source shows.
-fn shown_by_row<'a, R: Host>(
-    rt: &R,
-    input: Stdin,
-    job: &DiffJob<'a>,
-    source: &SourceWord<'a>,
-) -> Result<Held<MeshSilence>, ReadFault<'a>> {
-    let mut reader = open_source(rt, input, job, source)?;
-    match shown_of_row(rt.alloc(), &mut reader) {
-        Ok(held) => Ok(held),
-        Err(error) => Err(ReadFault::Source(source.name, Fault::Snapshot(error))),
+impl<'a, R: Host> Drop for Shown<'a, R> {
+    fn drop(self) {
+        let Self {
+            rt: _,
+            input: _,
+            job: _,
+            word: _,
+        } = self;
     }
 }
 
-/// What a file shows that is joined with the logs beside it.
-fn shown_by_logged<'a, R: Host>(
+/// No clause says what a server or a path gives; what it gives is the map.
+impl<'a, R: Host> Source<MeshSilence> for Shown<'a, R> {
+    ghost use Rattle.std.specs.Prelude.{⊤};
+
+    ghost gives = { λ _ _. ⊤ };
+
+    ghost stops = { λ _ _. ⊤ };
+
+    fn read(&mut self, alloc: Global) -> Result<Held<MeshSilence>, SourceFault> {
+        match self.word.server() {
+            Some(server) => match shown_by_server(self.rt, &server, self.job.time_limit) {
+                Ok(held) => Ok(held),
+                Err(fault) => Err(SourceFault::Own(fault)),
+            },
+            None => shown_by_row(alloc, self.rt, self.input, self.job, &self.word),
+        }
+    }
+}
+
+/// What API v2 shows of a source that is opened.
+fn shown_by_row<R: Host>(
+    alloc: Global,
     rt: &R,
     input: Stdin,
-    source: &SourceWord<'a>,
-) -> Result<Held<MeshSilence>, ReadFault<'a>> {
-    let name = source.name;
-    let alloc = rt.alloc();
-    let source = Source::open(rt, input, name, source.file, true)?;
-    let held: Held<MeshSilence> = source.read(alloc, Keys::Repeated)?;
+    job: &DiffJob<'_>,
+    source: &SourceWord<'_>,
+) -> Result<Held<MeshSilence>, SourceFault>
+    ensures { IfOk result (IsMap mesh_version (slice_cmp nat_cmp)) }
+{
+    let mut opened = open_source(rt, input, job, source)?;
+    let held: Held<MeshSilence> = opened.read(alloc)?;
     match shown_of(alloc, &held) {
         Ok(shown) => Ok(shown),
-        Err(error) => Err(ReadFault::Source(name, Fault::Snapshot(error))),
+        Err(error) => Err(SourceFault::Own(Fault::Snapshot(error))),
     }
 }
 
-/// What a state shows, by its row.
-fn shown_of(alloc: Global, held: &Held<MeshSilence>) -> Result<Held<MeshSilence>, SnapshotError> {
+/// What API v2 shows of a map, by its row.
+fn shown_of(alloc: Global, held: &Held<MeshSilence>) -> Result<Held<MeshSilence>, SnapshotError>
+    ensures { IfOk result (IsMap mesh_version (slice_cmp nat_cmp)) }
+{
     let Some(length) = row_length(held) else {
         return Err(SnapshotError::TooLarge);
     };
@@ -93,7 +93,9 @@ fn shown_by_server<R: Host>(
     rt: &R,
     server: &Server<'_>,
     time_limit: Duration,
-) -> Result<Held<MeshSilence>, Fault> {
+) -> Result<Held<MeshSilence>, Fault>
+    ensures { IfOk result (IsMap mesh_version (slice_cmp nat_cmp)) }
+{
     let alloc = rt.alloc();
     let reply = fetch(alloc, rt, server, time_limit)?;
     let list = read_silences(alloc, body_of(&reply)?)?;

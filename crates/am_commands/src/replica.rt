@@ -1,7 +1,8 @@
 //! Running replicas, which are asked by their gossip.
 
+use crate::fault::SourceFault;
 use crate::host::Host;
-use crate::source::{Origin, ReadFault};
+use crate::opened::Origin;
 use am_faults::Fault;
 use am_gossip::StateKey;
 use am_jobs::{PullJob, StateName};
@@ -16,6 +17,11 @@ use std::io::{self, BufReader, Read};
 
 /// The most bytes to which an answer is unpacked.
 const MOST_BYTES: usize = 268_435_456;
+
+/// The states that go with a pull: none, in ten bytes of a field that nobody reads. Their count, which ends the head of the request,
+/// is a line feed, and so are some of them: who listens for HTTP sees a request that is none, and refuses it at once, where it
+/// would wait for the end of its first line.
+pub const NO_STATES: &[u8] = b"\x7a\x08\r\n\r\n\r\n\r\n";
 
 /// The most bytes of a replica's own words that are kept.
 const MOST_WORDS: usize = 200;
@@ -54,25 +60,21 @@ enum Answer<'m> {
 }
 
 /// Sends a replica states, perhaps none, and gives the row of a state that it held before. Once it answered it has taken them.
-pub fn exchange<'a, R: Host>(
-    rt: &R,
-    job: &PullJob<'a>,
-    states: &[u8],
-) -> Result<Vec<u8>, ReadFault<'a>> {
+pub fn exchange<R: Host>(rt: &R, job: &PullJob<'_>, states: &[u8]) -> Result<Vec<u8>, SourceFault> {
     let message = answer_of(rt, job, states)?;
     let row = row_of(rt.alloc(), job, &message)?;
-    copied(rt.alloc(), job, row)
+    copied(rt.alloc(), row)
 }
 
 /// Sends a replica states, and gives its message.
-pub fn answer_of<'a, R: Host>(
+pub fn answer_of<R: Host>(
     rt: &R,
-    job: &PullJob<'a>,
+    job: &PullJob<'_>,
     states: &[u8],
-) -> Result<Vec<u8>, ReadFault<'a>> {
+) -> Result<Vec<u8>, SourceFault> {
     match message_of(rt, job, states) {
         Ok(message) => Ok(message),
-        Err(fault) => Err(ReadFault::Source(job.name, fault)),
+        Err(fault) => Err(SourceFault::Own(fault)),
     }
 }
 
@@ -85,26 +87,26 @@ fn message_of<R: Host>(rt: &R, job: &PullJob<'_>, states: &[u8]) -> Result<Vec<u
 }
 
 /// The row in a replica's message, which isn't copied.
-pub fn row_of<'a, 'm>(
+pub fn row_of<'m>(
     alloc: Global,
-    job: &PullJob<'a>,
+    job: &PullJob<'_>,
     message: &'m [u8],
-) -> Result<&'m [u8], ReadFault<'a>> {
+) -> Result<&'m [u8], SourceFault> {
     match said_in(alloc, message, key_of(job.state)) {
         Ok(Answer::Row(row)) => Ok(row),
         Ok(Answer::Words(words)) => {
-            let words = copied(alloc, job, first_words(words))?;
-            Err(ReadFault::Words(job.name, words))
+            let words = copied(alloc, first_words(words))?;
+            Err(SourceFault::Words(words))
         }
-        Err(fault) => Err(ReadFault::Source(job.name, fault)),
+        Err(fault) => Err(SourceFault::Own(fault)),
     }
 }
 
 /// A copy of bytes of a replica's message.
-fn copied<'a>(alloc: Global, job: &PullJob<'a>, bytes: &[u8]) -> Result<Vec<u8>, ReadFault<'a>> {
+fn copied(alloc: Global, bytes: &[u8]) -> Result<Vec<u8>, SourceFault> {
     match bytes.to_vec(alloc) {
         Ok(bytes) => Ok(bytes),
-        Err(error) => Err(ReadFault::Source(job.name, Fault::Memory(error))),
+        Err(error) => Err(SourceFault::Own(Fault::Memory(error))),
     }
 }
 
@@ -125,23 +127,23 @@ fn first_words(words: &[u8]) -> &[u8] {
 }
 
 /// What a replica tells of a state, as a row that is to be read.
-pub fn told_by<'a, R: Host>(rt: &R, job: &PullJob<'a>) -> Result<BufReader<Origin>, ReadFault<'a>> {
-    let bytes = exchange(rt, job, &[])?;
+pub fn told_by<R: Host>(rt: &R, job: &PullJob<'_>) -> Result<BufReader<Origin>, SourceFault> {
+    let bytes = exchange(rt, job, NO_STATES)?;
     match BufReader::new(rt.alloc(), Origin::Replica(ToldRow { bytes, at: 0 })) {
         Ok(reader) => Ok(reader),
-        Err(_) => Err(ReadFault::Source(job.name, Fault::Memory(AllocError))),
+        Err(_) => Err(SourceFault::Own(Fault::Memory(AllocError))),
     }
 }
 
 /// What a replica holds of a state.
-pub fn held_by<'a, R: Host, V: Version + Message>(
+pub fn held_by<R: Host, V: Version + Message>(
     rt: &R,
-    job: &PullJob<'a>,
-) -> Result<Held<V>, ReadFault<'a>> {
-    let message = answer_of(rt, job, &[])?;
+    job: &PullJob<'_>,
+) -> Result<Held<V>, SourceFault> {
+    let message = answer_of(rt, job, NO_STATES)?;
     let row = row_of(rt.alloc(), job, &message)?;
     match load_bytes(rt.alloc(), row) {
         Ok(held) => Ok(held),
-        Err(error) => Err(ReadFault::Source(job.name, Fault::Snapshot(error))),
+        Err(error) => Err(SourceFault::Own(Fault::Snapshot(error))),
     }
 }

@@ -97,8 +97,8 @@ muted_again : (m : Muted) → IsMuted m → ReadsAgain (muted_data m) 2
 muted_again m h =
     let ids = strings_again (λ (text : List ℕ). text) m.silenced_by.items in
     record {
-      value = rw (labels_value m.labels h.in_order, ids.value) refl;
-      numbers = (labels_numbers m.labels, (ids.numbers, tt));
+      value = rw (labels_value m.labels h.in_order, ids.value, number_of-decimal m.more h.more) refl;
+      numbers = (labels_numbers m.labels, (ids.numbers, (IsNumber-decimal m.more h.more, tt)));
       depth = omega (arith, labels_depth m.labels, ids.depth);
     }
 
@@ -116,10 +116,13 @@ answer_again a h =
     let resolved = strings_again hash_text a.resolved in
     let index_fits : a.index < 2 ^ 64 = omega (arith, h.index) in
     record {
-      value = rw (firing.value, number_of-decimal a.index index_fits, muted.value, number_of-decimal a.repeat h.repeat, resolved.value) refl;
+      value = rw (firing.value, number_of-decimal a.index index_fits, muted.value, number_of-decimal a.repeat h.repeat, resolved.value, number_of-decimal a.turn_seconds h.turn_seconds) refl;
       numbers = (
-        firing.numbers,
-        (tt, (IsNumber-decimal a.index index_fits, (tt, (muted.numbers, (tt, (tt, (tt, (IsNumber-decimal a.repeat h.repeat, (resolved.numbers, tt))))))))),
+        tt,
+        (
+          firing.numbers,
+          (tt, (IsNumber-decimal a.index index_fits, (tt, (muted.numbers, (tt, (tt, (tt, (IsNumber-decimal a.repeat h.repeat, (resolved.numbers, (IsNumber-decimal a.turn_seconds h.turn_seconds, tt)))))))))),
+        ),
       );
       depth = omega (arith, firing.depth, muted.depth, resolved.depth);
     }

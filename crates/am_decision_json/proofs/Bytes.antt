@@ -79,9 +79,12 @@ labels_utf8 (label ∷ labels) h =
     let first = All-head IsLabel label labels h in
     (first.name, first.value, labels_utf8 labels (All-tail IsLabel label labels h))
 
+number_utf8 : (n : ℕ) → n < 2 ^ 64 → IsUtf8 (decimal n)
+number_utf8 n h = IsUtf8-from_ascii (decimal n) (IsAscii-decimal n h)
+
 muted_utf8 : (m : Muted) → IsMuted m → HasTexts (muted_data m)
 muted_utf8 m h =
-    (IsUtf8-are_ascii _ refl, labels_utf8 m.labels h.labels, (IsUtf8-are_ascii _ refl, strings_utf8 m.silenced_by.items h.silenced_by, tt))
+    (IsUtf8-are_ascii _ refl, labels_utf8 m.labels h.labels, (IsUtf8-are_ascii _ refl, strings_utf8 m.silenced_by.items h.silenced_by, (IsUtf8-are_ascii _ refl, number_utf8 m.more h.more, tt)))
 
 all_muted_utf8 : (ms : List Muted) → All IsMuted ms → ItemsHaveTexts (items_of (map muted_data ms))
 all_muted_utf8 [] h = tt
@@ -99,39 +102,40 @@ why_utf8 (whys.Notify reason) = reason_utf8 reason
 why_utf8 whys.Skip = IsUtf8-are_ascii _ refl
 why_utf8 whys.Muted = IsUtf8-are_ascii _ refl
 
-number_utf8 : (n : ℕ) → n < 2 ^ 64 → IsUtf8 (decimal n)
-number_utf8 n h = IsUtf8-from_ascii (decimal n) (IsAscii-decimal n h)
-
 answer_texts : (a : Answer) → IsAnswer a → HasTexts (answer_data a)
 unfolding answer_data
 answer_texts a h = (
   IsUtf8-are_ascii _ refl,
-  hashes_utf8 a.firing,
+  h.decided_at,
   (
     IsUtf8-are_ascii _ refl,
-    h.group_key,
+    hashes_utf8 a.firing,
     (
       IsUtf8-are_ascii _ refl,
-      number_utf8 a.index (omega (arith, h.index)),
+      h.group_key,
       (
         IsUtf8-are_ascii _ refl,
-        h.integration,
+        number_utf8 a.index (omega (arith, h.index)),
         (
           IsUtf8-are_ascii _ refl,
-          all_muted_utf8 a.muted.items h.muted,
+          h.integration,
           (
             IsUtf8-are_ascii _ refl,
-            tt,
+            all_muted_utf8 a.muted.items h.muted,
             (
               IsUtf8-are_ascii _ refl,
-              why_utf8 a.reason,
+              tt,
               (
                 IsUtf8-are_ascii _ refl,
-                h.receiver,
+                why_utf8 a.reason,
                 (
                   IsUtf8-are_ascii _ refl,
-                  number_utf8 a.repeat h.repeat,
-                  (IsUtf8-are_ascii _ refl, hashes_utf8 a.resolved, tt),
+                  h.receiver,
+                  (
+                    IsUtf8-are_ascii _ refl,
+                    number_utf8 a.repeat h.repeat,
+                    (IsUtf8-are_ascii _ refl, hashes_utf8 a.resolved, (IsUtf8-are_ascii _ refl, number_utf8 a.turn_seconds h.turn_seconds, tt)),
+                  ),
                 ),
               ),
             ),

@@ -1,16 +1,17 @@
 -- An answer as it is posted back.
-use Rattle.std.proofs.Common.{◌≡◌, ℕ, ◌<◌, ◌*◌, ◌^◌, List, [], ◌∷◌, map, Some, Ok, refl, ap, ◌∙◌}
-use Rattle.std.specs.Prelude.{All, option_map, option_and_then}
+use Rattle.std.proofs.Common.{◌≡◌, ℕ, ◌<◌, ◌*◌, ◌^◌, List, [], ◌∷◌, map, None, Some, Ok, refl, ap, ◌∙◌}
+use Rattle.std.specs.Prelude.{All, codes, option_map, option_and_then}
 use Rattle.std.proofs.lemmas.Bool.{lt-ltb}
 use Rattle.std.proofs.lemmas.List.Elements.{All-head, All-tail}
 use Rattle.serde_json.specs.Data.{Data}
 use Rattle.serde_json.specs.View.{items_of}
 use Rattle.serde_json.specs.Written.{compact_text}
-use Rattle.am_silence_json.specs.Posts.{IsObjectText}
+use Rattle.am_silence_json.specs.Moments.{ReadsMoment}
+use Rattle.am_silence_json.specs.Posts.{HasMoment, IsObjectText}
 use Rattle.am_decision_json.specs.declared.answer.Answer.{Answer}
 use Rattle.am_decision_json.specs.Hashes.{hashes_of, hash_data}
 use Rattle.am_decision_json.specs.Answers.{answer_data}
-use Rattle.am_decision_json.specs.Notices.{notice_of, IsNotice}
+use Rattle.am_decision_json.specs.Notices.{undated_in, IsNotice}
 use Rattle.am_decision_json.specs.Sound.{IsAnswer, IsToNotify, notice_from}
 use Rattle.am_decision_json.proofs.Digits.{hash_again}
 use Rattle.am_decision_json.proofs.Again.{answer_is_read}
@@ -26,9 +27,9 @@ hashes_again (hash ∷ hashes) h =
     ap (option_and_then (λ (x : ℕ). option_map (λ (xs : List ℕ). x ∷ xs) others)) (hash_again hash (All-head IsHash hash hashes h))
     ∙ ap (option_map (λ (xs : List ℕ). hash ∷ xs)) (hashes_again hashes (All-tail IsHash hash hashes h))
 
-pub noticed : (a : Answer) → IsAnswer a → IsToNotify a → notice_of (answer_data a) ≡ Ok (notice_from a)
-unfolding notice_of answer_data
-noticed a h told =
+undated : (a : Answer) (m : ℕ) → IsAnswer a → IsToNotify a → undated_in (answer_data a) ≡ Ok (record (notice_from a m) { decided_at = None })
+unfolding undated_in answer_data
+undated a m h told =
     rw (
       lt-ltb a.index (2 ^ 32) h.index,
       lt-ltb 0 a.repeat told.some,
@@ -38,11 +39,16 @@ noticed a h told =
       hashes_again a.resolved h.resolved,
     ) refl
 
+decided : (a : Answer) (m : ℕ) → ReadsMoment a.decided_at m → HasMoment (codes "decidedAt") (answer_data a) m
+unfolding answer_data
+decided a m spelled = record { text = a.decided_at; here = refl; spelled = spelled }
+
 pub answer_text : (a : Answer) → IsAnswer a → IsObjectText (compact_text (answer_data a)) (answer_data a)
 unfolding answer_data
 answer_text a h = record { utf8 = answer_utf8 a h; text = answer_is_read a h; is_object = refl }
 
-pub answer_notice : (a : Answer) (d : Data) → IsAnswer a → IsToNotify a → IsObjectText (compact_text (answer_data a)) d → IsNotice d (notice_from a)
-answer_notice a d h told text =
+pub answer_notice : (a : Answer) (d : Data) (m : ℕ) → IsAnswer a → IsToNotify a → ReadsMoment a.decided_at m
+    → IsObjectText (compact_text (answer_data a)) d → IsNotice d (notice_from a m)
+answer_notice a d m h told spelled text =
     let same : answer_data a ≡ d = cc (answer_is_read a h, text.text) in
-    rw (← same) (noticed a h told)
+    rw (← same) (record { notified = undated a m h told; decided_at = decided a m spelled })

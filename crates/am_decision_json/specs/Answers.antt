@@ -37,7 +37,8 @@ abbrev pub muted_data : Muted → Data
 muted_data m =
     object (
     member (codes "labels") (object (label_members m.labels)) (
-    member (codes "silencedBy") (array (items_of (map string m.silenced_by.items))) no_members))
+    member (codes "silencedBy") (array (items_of (map string m.silenced_by.items))) (
+    member (codes "silencedByMore") (number (unsigned m.more)) no_members)))
 
 -- the tokens of a label
 abbrev pub label_tokens : Label → List Token
@@ -49,6 +50,7 @@ label_tokens label = key_token label.name ∷ string_token label.value ∷ []
 unfoldable pub answer_data : Answer → Data
 answer_data a =
     object (
+    member (codes "decidedAt") (string a.decided_at) (
     member (codes "firing") (hashes_data a.firing) (
     member (codes "groupKey") (string a.group_key) (
     member (codes "index") (number (unsigned a.index)) (
@@ -58,7 +60,8 @@ answer_data a =
     member (codes "reason") (string (why_text a.reason)) (
     member (codes "receiver") (string a.receiver) (
     member (codes "repeat") (number (unsigned a.repeat)) (
-    member (codes "resolved") (hashes_data a.resolved) no_members))))))))))
+    member (codes "resolved") (hashes_data a.resolved) (
+    member (codes "turnSeconds") (number (unsigned a.turn_seconds)) no_members))))))))))))
 
 -- what a notice is answered: whether its entry was logged
 abbrev pub logged_data : Bool → Data

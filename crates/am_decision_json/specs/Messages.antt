@@ -1,7 +1,7 @@
 -- A message of Alertmanager's webhook, version 4 (`webhook_config`): a JSON object (RFC 8259). Keys that are not named here
 -- are passed over.
-use Rattle.std.specs.Prelude.{◌≡◌, ℕ, Bool, true, false, ◌&&◌, if◌then◌else◌, List, [], ◌∷◌, codes, Option, Some, None, is_some}
-use Rattle.std.specs.Prelude.{option_map, option_and_then, ok_or, Result, Ok, Err}
+use Rattle.std.specs.Prelude.{◌≡◌, ℕ, Bool, true, false, ◌&&◌, nat_lt, if◌then◌else◌, List, [], ◌∷◌, codes, Option, Some, None, is_some}
+use Rattle.std.specs.Prelude.{option_map, option_and_then, ok_or, unwrap_or, Result, Ok, Err}
 use Rattle.std.specs.Str.{bytes_eq}
 use Rattle.serde_json.specs.Data.{Data, Items, no_items, item, Members, no_members, member}
 use Rattle.serde_json.specs.Find.{get, as_str, as_array, as_object}
@@ -11,6 +11,7 @@ use Rattle.am_decision_json.specs.declared.key.MessageKey.{MessageKey}
 use Rattle.am_decision_json.specs.declared.key.MessageKey.TheVariants as keys
 use Rattle.am_decision_json.specs.declared.message.Alert.{Alert}
 use Rattle.am_decision_json.specs.declared.message.Message.{Message}
+use Rattle.am_decision_json.specs.Found.{number_in}
 use Rattle.am_decision_json.specs.Orders.{AreInOrder}
 use Rattle.am_decision_json.specs.Steps.{◌>>=◌, each}
 
@@ -91,9 +92,24 @@ message_of d = do
   alerts ← alerts_in d
   Ok (record { group_key = group_key; receiver = receiver; alerts = alerts })
 
--- the object is this message
-abbrev pub IsMessage : Data → Message → Type 0
-IsMessage d m = message_of d ≡ Ok (said m)
+-- the object says this, whether or not alerts were left out
+abbrev pub Says : Data → Message → Type 0
+Says d m = message_of d ≡ Ok (said m)
+
+-- alerts were left out: `truncatedAlerts` is a whole number above 0
+abbrev pub is_truncated : Data → Bool
+is_truncated d = nat_lt 0 (unwrap_or (number_in (codes "truncatedAlerts") d) 0)
+
+-- the object is this message, with all alerts
+pub record IsMessage (d : Data) (m : Message) : Type 0 where
+  pub says : Says d m
+  pub whole : is_truncated d ≡ false
+
+-- alerts were left out of the message, which has no other fault
+pub record IsTruncated (d : Data) : Type 0 where
+  pub message : Message
+  pub says : Says d message
+  pub truncated : is_truncated d ≡ true
 
 -- what stands at this key is wanting or of another kind, and nothing before it is
 abbrev pub IsFirstFault : Data → MessageKey → Type 0

@@ -1,9 +1,10 @@
 -- What was notified: an answer as it is posted back, a JSON object (RFC 8259). Keys that are not named here are passed over.
-use Rattle.std.specs.Prelude.{◌≡◌, ℕ, ◌*◌, ◌^◌, ◌&&◌, nat_lt, Bool, false, if◌then◌else◌, List, codes, Option, Some, None}
+use Rattle.std.specs.Prelude.{◌≡◌, ◌≢◌, ◌⊎◌, ℕ, ◌*◌, ◌^◌, ◌&&◌, nat_lt, Bool, false, if◌then◌else◌, List, codes, Option, Some, None}
 use Rattle.std.specs.Prelude.{option_and_then, unwrap_or, ok_or, Result, Ok, Err}
 use Rattle.serde_json.specs.Data.{Data}
+use Rattle.serde_json.specs.Find.{get}
 use Rattle.am_nflog.specs.declared.receiver.Receiver.{Receiver}
-use Rattle.am_silence_json.specs.Posts.{text_in, truth_in}
+use Rattle.am_silence_json.specs.Posts.{text_in, truth_in, HasMoment}
 use Rattle.am_decision_json.specs.declared.key.MessageKey.{MessageKey}
 use Rattle.am_decision_json.specs.declared.key.MessageKey.TheVariants as keys
 use Rattle.am_decision_json.specs.declared.notice.Notice.{Notice}
@@ -46,19 +47,41 @@ hash_lists_of d = do
   resolved ← ok_or (hashes_in (codes "resolved") d) keys.Resolved
   Ok (firing, resolved)
 
--- what an object says was notified, or the key of its first fault
-unfoldable pub notice_of : Data → Result Notice MessageKey
-notice_of d = do
+-- what an object says was notified, without the moment of the decision, or the key of its first fault
+unfoldable pub undated_in : Data → Result Notice MessageKey
+undated_in d = do
   group_key ← ok_or (text_in (codes "groupKey") d) keys.GroupKey
   receiver ← receiver_of d
   repeat ← ok_or (repeat_in d) keys.Repeat
   hashes ← if is_told d then hash_lists_of d else Err keys.Notify
-  Ok (record { group_key = group_key; receiver = receiver; firing = hashes.0; resolved = hashes.1; repeat = repeat })
+  Ok (record { group_key = group_key; receiver = receiver; firing = hashes.0; resolved = hashes.1; repeat = repeat; decided_at = None })
+
+-- the object is this notice, which leaves out when it was decided
+abbrev pub IsUndated : Data → Notice → Type 0
+IsUndated d n = undated_in d ≡ Ok n
+
+-- when it was decided; that may be wanting
+abbrev pub IsDecidedAt : Data → Option ℕ → Type 0
+IsDecidedAt d None = get (codes "decidedAt") d ≡ None
+IsDecidedAt d (Some moment) = HasMoment (codes "decidedAt") d moment
+
+-- there is something in place of that moment, which is none
+pub record HasBadMoment (d : Data) : Type 0 where
+  pub there : get (codes "decidedAt") d ≢ None
+  pub none : (moment : ℕ) → ¬ HasMoment (codes "decidedAt") d moment
 
 -- the object is this notice
-abbrev pub IsNotice : Data → Notice → Type 0
-IsNotice d n = notice_of d ≡ Ok n
+pub record IsNotice (d : Data) (n : Notice) : Type 0 where
+  pub notified : IsUndated d (record n { decided_at = None })
+  pub decided_at : IsDecidedAt d n.decided_at
+
+-- the moment of the decision is at fault, and nothing before it is
+pub record IsMomentFault (d : Data) (key : MessageKey) : Type 0 where
+  pub named : key ≡ keys.DecidedAt
+  pub notice : Notice
+  pub notified : IsUndated d notice
+  pub bad : HasBadMoment d
 
 -- what stands at this key is wanting or of another kind, and nothing before it is
 abbrev pub IsFirstFault : Data → MessageKey → Type 0
-IsFirstFault d key = notice_of d ≡ Err key
+IsFirstFault d key = (undated_in d ≡ Err key) ⊎ IsMomentFault d key

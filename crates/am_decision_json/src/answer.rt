@@ -6,6 +6,7 @@ ghost use Rattle.am_decision_json.specs.Answers.{reason_text, why_text};
 use am_dedup::Reason;
 use am_matcher::Labels;
 use am_nflog::Hashes;
+use am_silence_json::moments::MomentText;
 use am_wire::Text;
 
 /// Why a group is notified, or why not.
@@ -44,16 +45,20 @@ impl Why {
     }
 }
 
-/// A muted alert, and the identifiers of the silences that mute it.
+/// A muted alert, and the identifiers of silences that mute it.
 #[derive(Drop)]
 pub struct Muted {
     pub labels: Labels,
     pub silenced_by: Vec<Text>,
+    /// How many silences mute it beside those.
+    pub more: u64,
 }
 
 /// Whether to notify, and all that is to be logged once that was done.
 #[derive(Drop)]
 pub struct Answer {
+    /// When it was decided.
+    pub decided_at: MomentText,
     /// The hashes of the alerts that fire and aren't muted.
     pub firing: Hashes,
     pub group_key: Text,
@@ -68,4 +73,6 @@ pub struct Answer {
     pub repeat: u64,
     /// The hashes of the alerts that are resolved and aren't muted.
     pub resolved: Hashes,
+    /// How long each member's turn is, in seconds.
+    pub turn_seconds: u64,
 }

@@ -18,6 +18,7 @@ pub fn object_in(alloc: Global, body: &[u8]) -> Result<Value, MessageError>
     ensures read { IfOk result (λ v. IsObjectText body.now (view v)) }
     ensures bad_json { IsErrOf result errors.BadJson → (d : Data) → ¬ IsObjectText body.now d }
     ensures key { (key : MessageKey) → result ≢ Err (errors.BadMessage key) }
+    ensures whole { result ≢ Err errors.Truncated }
 {
     let Ok(text) = str::from_utf8(body) else {
         return Err(MessageError::BadJson);

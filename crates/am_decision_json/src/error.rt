@@ -14,6 +14,9 @@ pub enum MessageError {
     /// What stands at this key is wanting or of another kind.
     #[error("bad message: {0}")]
     BadMessage(MessageKey),
+    /// Alerts were left out of the message.
+    #[error("truncated alerts")]
+    Truncated,
     #[error("out of memory")]
     Memory,
 }

@@ -1,11 +1,13 @@
 //! What stands at a key of an object.
 
-ghost use Rattle.std.specs.Prelude.{◌≡◌, option_copied, option_map, option_and_then};
+ghost use Rattle.std.specs.Prelude.{◌≡◌, ℕ, IfSome, Some, option_copied, option_map, option_and_then};
 ghost use Rattle.serde_json.specs.Find.{as_array, get};
 ghost use Rattle.serde_json.specs.View.{view, items_view};
-ghost use Rattle.am_silence_json.specs.Posts.{text_in, truth_in};
+ghost use Rattle.am_silence_json.specs.Posts.{text_in, truth_in, HasMoment};
 ghost use Rattle.am_decision_json.specs.Found.{number_in};
 
+use am_silence_json::moments::read_moment;
+use am_version_order::Moment;
 use serde_json::Value;
 
 /// The text at a key.
@@ -13,6 +15,15 @@ pub fn text_in<'v>(object: &'v Value, key: &str) -> Option<&'v str>
     ensures { option_copied result ≡ text_in key.now (view object.now) }
 {
     object.get(key).and_then(Value::as_str)
+}
+
+/// The moment whose text stands at a key.
+pub fn moment_in(object: &Value, key: &str) -> Option<Moment>
+    ensures value { IfSome result (HasMoment key.now (view object.now)) }
+    ensures only { (m : ℕ) → HasMoment key.now (view object.now) m → result ≡ Some m }
+{
+    let text = text_in(object, key)?;
+    read_moment(text)
 }
 
 /// The truth value at a key.

@@ -17,6 +17,7 @@ pub enum MessageKey {
     Notify,
     Firing,
     Resolved,
+    DecidedAt,
 }
 
 impl MessageKey {
@@ -36,6 +37,7 @@ impl MessageKey {
             MessageKey::Notify => "notify",
             MessageKey::Firing => "firing",
             MessageKey::Resolved => "resolved",
+            MessageKey::DecidedAt => "decidedAt",
         }
     }
 }

@@ -3,6 +3,7 @@
 ghost use Rattle.std.specs.Prelude.{◌≡◌, ℕ, ◌<◌, ◌^◌, Some};
 ghost use Rattle.serde_json.specs.Data.{Data};
 ghost use Rattle.serde_json.specs.Written.{compact_text};
+ghost use Rattle.am_silence_json.specs.Moments.{ReadsMoment};
 ghost use Rattle.am_silence_json.specs.Posts.{IsObjectText};
 ghost use Rattle.am_decision_json.specs.declared.answer.Answer.{Answer};
 ghost use Rattle.am_decision_json.specs.Hashes.{hash_text, hash_of};
@@ -20,9 +21,10 @@ pub fn a_written_answer_is_read()
     ensures { (a : Answer) → IsAnswer a → IsObjectText (compact_text (answer_data a)) (answer_data a) }
 {}
 
-/// What [`write_answer`](crate::write_answer) writes of an answer to notify is read as the notice that says the same.
+/// What [`write_answer`](crate::write_answer) writes of an answer to notify is read as the notice that says the same, of a
+/// decision at the moment that the answer's text spells.
 pub fn a_written_answer_is_a_notice()
     // PROMISE: An answer that says to notify is read back as the notice that says the same.
-    ensures { (a : Answer) (d : Data) → IsAnswer a → IsToNotify a → IsObjectText (compact_text (answer_data a)) d →
-        IsNotice d (notice_from a) }
+    ensures { (a : Answer) (d : Data) (m : ℕ) → IsAnswer a → IsToNotify a → ReadsMoment a.decided_at m →
+        IsObjectText (compact_text (answer_data a)) d → IsNotice d (notice_from a m) }
 {}

@@ -8,11 +8,11 @@ ghost use Rattle.am_decision_json.specs.declared.error.MessageError.TheVariants 
 ghost use Rattle.am_decision_json.specs.declared.key.MessageKey.{MessageKey};
 ghost use Rattle.am_decision_json.specs.Steps.{each};
 ghost use Rattle.am_decision_json.specs.Messages.{firing_of, firing_in, are_objects, are_some_objects, objects_in, alert_of, alerts_in};
-ghost use Rattle.am_decision_json.specs.Messages.{IsInOrder, IsMessage, IsFirstFault};
+ghost use Rattle.am_decision_json.specs.Messages.{IsInOrder, IsMessage, IsFirstFault, IsTruncated, Says, is_truncated};
 
 use crate::bodies::object_in;
 use crate::error::MessageError;
-use crate::find::{array_in, text_in};
+use crate::find::{array_in, number_in, text_in};
 use crate::key::MessageKey;
 use crate::labels::read_labels;
 use am_matcher::Labels;
@@ -63,6 +63,7 @@ fn read_alert(alloc: Global, value: &Value) -> Result<Alert, MessageError>
     ensures in_order { IfOk result IsInOrder }
     ensures wrong { (key : MessageKey) → IsErrOf result (errors.BadMessage key) → alert_of (view value.now) ≡ Err key }
     ensures object { result ≢ Err errors.BadJson }
+    ensures whole { result ≢ Err errors.Truncated }
 {
     let Some(labels) = read_labels(alloc, value)? else {
         return Err(MessageError::BadMessage(MessageKey::Labels));
@@ -80,6 +81,7 @@ fn read_each(alloc: Global, values: &[Value]) -> Result<Vec<Alert>, MessageError
     ensures wrong { (key : MessageKey) → IsErrOf result (errors.BadMessage key) →
         each alert_of (items_view values.now) ≡ Err key }
     ensures object { result ≢ Err errors.BadJson }
+    ensures whole { result ≢ Err errors.Truncated }
 {
     let mut alerts = Vec::with_capacity(alloc, values.len())?;
     for value in values {
@@ -127,6 +129,7 @@ fn read_alerts(alloc: Global, object: &Value) -> Result<Vec<Alert>, MessageError
     ensures in_order { IfOk result (λ alerts. All IsInOrder alerts.items) }
     ensures wrong { (key : MessageKey) → IsErrOf result (errors.BadMessage key) → alerts_in (view object.now) ≡ Err key }
     ensures object { result ≢ Err errors.BadJson }
+    ensures whole { result ≢ Err errors.Truncated }
 {
     match objects_in(object) {
         Some(values) => read_each(alloc, values),
@@ -134,13 +137,21 @@ fn read_alerts(alloc: Global, object: &Value) -> Result<Vec<Alert>, MessageError
     }
 }
 
-/// The message that an object is.
+/// Whether alerts were left out of a message.
+fn is_truncated(object: &Value) -> bool
+    ensures { result ≡ is_truncated (view object.now) }
+{
+    number_in(object, "truncatedAlerts").unwrap_or(0) > 0
+}
+
+/// The message that an object is, whether or not alerts were left out of it.
 #[tactic(auto, unfolding(crate::specs::Messages::message_of))]
-fn read_object(alloc: Global, object: &Value) -> Result<Message, MessageError>
-    ensures read { IfOk result (IsMessage (view object.now)) }
+fn read_said(alloc: Global, object: &Value) -> Result<Message, MessageError>
+    ensures read { IfOk result (Says (view object.now)) }
     ensures in_order { IfOk result (λ m. All IsInOrder m.alerts.items) }
     ensures wrong { (key : MessageKey) → IsErrOf result (errors.BadMessage key) → IsFirstFault (view object.now) key }
     ensures object { result ≢ Err errors.BadJson }
+    ensures whole { result ≢ Err errors.Truncated }
 {
     let Some(group_key) = text_in(object, "groupKey") else {
         return Err(MessageError::BadMessage(MessageKey::GroupKey));
@@ -165,7 +176,8 @@ fn read_object(alloc: Global, object: &Value) -> Result<Message, MessageError>
 ///
 /// [`MessageError::BadJson`] where the body is no JSON, or no object; else [`MessageError::BadMessage`] with the first key
 /// that is wanting or of another kind: `groupKey`, `receiver`, `alerts`, which has to be an array of objects, one at least,
-/// and then of each alert `labels` and `status`; [`MessageError::Memory`] where memory runs out.
+/// and then of each alert `labels` and `status`; then [`MessageError::Truncated`] where `truncatedAlerts` is a whole number
+/// above 0; [`MessageError::Memory`] where memory runs out.
 pub fn read_message(alloc: Global, body: &[u8]) -> Result<Message, MessageError>
     // PROMISE: A webhook message is read as its object says, no alert left out.
     ensures message { IfOk result (λ m. (d : Data) × IsObjectText body.now d × IsMessage d m) }
@@ -173,8 +185,13 @@ pub fn read_message(alloc: Global, body: &[u8]) -> Result<Message, MessageError>
     ensures bad_json { IsErrOf result errors.BadJson → (d : Data) → ¬ IsObjectText body.now d }
     ensures wrong { (key : MessageKey) → IsErrOf result (errors.BadMessage key) →
         (d : Data) × IsObjectText body.now d × IsFirstFault d key }
+    // PROMISE: A message that alerts were left out of is refused.
+    ensures truncated { IsErrOf result errors.Truncated → (d : Data) × IsObjectText body.now d × IsTruncated d }
 {
     let object = object_in(alloc, body)?;
-    let message = read_object(alloc, &object)?;
+    let message = read_said(alloc, &object)?;
+    if is_truncated(&object) {
+        return Err(MessageError::Truncated);
+    }
     Ok(message)
 }

@@ -1,21 +1,22 @@
 //! What was notified: an answer, as it is posted back.
 
-ghost use Rattle.std.specs.Prelude.{◌≡◌, ◌≢◌, IfOk, IsErrOf, Ok, Err};
+ghost use Rattle.std.specs.Prelude.{◌≡◌, ◌≢◌, IfOk, IfErr, IsErrOf, None, Ok, Err};
 ghost use Rattle.serde_json.specs.Data.{Data};
 ghost use Rattle.serde_json.specs.View.{view};
 ghost use Rattle.am_silence_json.specs.Posts.{IsObjectText};
 ghost use Rattle.am_decision_json.specs.declared.error.MessageError.TheVariants as errors;
 ghost use Rattle.am_decision_json.specs.declared.key.MessageKey.{MessageKey};
-ghost use Rattle.am_decision_json.specs.Notices.{index_of, index_in, interval_of, repeat_in, is_told, receiver_of, hash_lists_of};
-ghost use Rattle.am_decision_json.specs.Notices.{IsNotice, IsFirstFault};
+ghost use Rattle.am_decision_json.specs.declared.key.MessageKey.TheVariants as keys;
+ghost use Rattle.am_decision_json.specs.Notices.{index_of, index_in, interval_of, repeat_in, is_told, receiver_of, hash_lists_of, undated_in};
+ghost use Rattle.am_decision_json.specs.Notices.{IsNotice, IsFirstFault, IsDecidedAt, HasBadMoment, IsUndated};
 
 use crate::bodies::object_in;
 use crate::error::MessageError;
-use crate::find::{number_in, text_in, truth_in};
+use crate::find::{moment_in, number_in, text_in, truth_in};
 use crate::hashes::read_hashes;
 use crate::key::MessageKey;
 use am_nflog::{Hashes, Receiver, ReceiverRef};
-use am_version_order::Interval;
+use am_version_order::{Interval, Moment};
 use am_wire::Text;
 use serde_json::Value;
 use std::alloc::Global;
@@ -28,6 +29,8 @@ pub struct Notice {
     pub firing: Hashes,
     pub resolved: Hashes,
     pub repeat: Interval,
+    /// When it was decided, if that is known.
+    pub decided_at: Option<Moment>,
 }
 
 /// A number of 32 bits.
@@ -74,6 +77,7 @@ fn read_receiver(alloc: Global, object: &Value) -> Result<Receiver, MessageError
     ensures read { IfOk result (λ receiver. receiver_of (view object.now) ≡ Ok receiver) }
     ensures wrong { (key : MessageKey) → IsErrOf result (errors.BadMessage key) → receiver_of (view object.now) ≡ Err key }
     ensures object { result ≢ Err errors.BadJson }
+    ensures whole { result ≢ Err errors.Truncated }
 {
     let Some(group_name) = text_in(object, "receiver") else {
         return Err(MessageError::BadMessage(MessageKey::Receiver));
@@ -93,6 +97,7 @@ fn read_lists(alloc: Global, object: &Value) -> Result<(Hashes, Hashes), Message
     ensures read { IfOk result (λ lists. hash_lists_of (view object.now) ≡ Ok lists) }
     ensures wrong { (key : MessageKey) → IsErrOf result (errors.BadMessage key) → hash_lists_of (view object.now) ≡ Err key }
     ensures object { result ≢ Err errors.BadJson }
+    ensures whole { result ≢ Err errors.Truncated }
 {
     let Some(firing) = read_hashes(alloc, object, "firing")? else {
         return Err(MessageError::BadMessage(MessageKey::Firing));
@@ -103,12 +108,28 @@ fn read_lists(alloc: Global, object: &Value) -> Result<(Hashes, Hashes), Message
     Ok((firing, resolved))
 }
 
-/// The notice that an object is.
-#[tactic(auto, unfolding(crate::specs::Notices::notice_of))]
-fn read_object(alloc: Global, object: &Value) -> Result<Notice, MessageError>
-    ensures read { IfOk result (IsNotice (view object.now)) }
-    ensures wrong { (key : MessageKey) → IsErrOf result (errors.BadMessage key) → IsFirstFault (view object.now) key }
+/// When it was decided, if that is told.
+fn read_decided_at(object: &Value) -> Result<Option<Moment>, MessageError>
+    ensures read { IfOk result (IsDecidedAt (view object.now)) }
+    ensures wrong { IfErr result (λ e. (e ≡ errors.BadMessage keys.DecidedAt) × HasBadMoment (view object.now)) }
+{
+    if object.get("decidedAt").is_none() {
+        return Ok(None);
+    }
+    match moment_in(object, "decidedAt") {
+        Some(moment) => Ok(Some(moment)),
+        None => Err(MessageError::BadMessage(MessageKey::DecidedAt)),
+    }
+}
+
+/// The notice that an object is, but for the moment of its decision.
+#[tactic(auto, unfolding(crate::specs::Notices::undated_in))]
+fn read_undated(alloc: Global, object: &Value) -> Result<Notice, MessageError>
+    ensures read { IfOk result (IsUndated (view object.now)) }
+    ensures undated { IfOk result (λ n. n.decided_at ≡ None) }
+    ensures wrong { (key : MessageKey) → IsErrOf result (errors.BadMessage key) → undated_in (view object.now) ≡ Err key }
     ensures object { result ≢ Err errors.BadJson }
+    ensures whole { result ≢ Err errors.Truncated }
 {
     let Some(group_key) = text_in(object, "groupKey") else {
         return Err(MessageError::BadMessage(MessageKey::GroupKey));
@@ -128,6 +149,22 @@ fn read_object(alloc: Global, object: &Value) -> Result<Notice, MessageError>
         firing,
         resolved,
         repeat,
+        decided_at: None,
+    })
+}
+
+/// The notice that an object is.
+fn read_object(alloc: Global, object: &Value) -> Result<Notice, MessageError>
+    ensures read { IfOk result (IsNotice (view object.now)) }
+    ensures wrong { (key : MessageKey) → IsErrOf result (errors.BadMessage key) → IsFirstFault (view object.now) key }
+    ensures object { result ≢ Err errors.BadJson }
+    ensures whole { result ≢ Err errors.Truncated }
+{
+    let notice = read_undated(alloc, object)?;
+    let decided_at = read_decided_at(object)?;
+    Ok(Notice {
+        decided_at,
+        ..notice
     })
 }
 
@@ -138,12 +175,13 @@ fn read_object(alloc: Global, object: &Value) -> Result<Notice, MessageError>
 ///
 /// [`MessageError::BadJson`] where the body is no JSON, or no object; else [`MessageError::BadMessage`] with the first key
 /// that is wanting or of another kind, in the order `groupKey`, `receiver`, `integration`, `index`, `repeat`, `notify`, which
-/// has to be true, `firing`, `resolved`; [`MessageError::Memory`] where memory runs out.
+/// has to be true, `firing`, `resolved`, `decidedAt`, which may be wanting; [`MessageError::Memory`] where memory runs out.
 pub fn read_notice(alloc: Global, body: &[u8]) -> Result<Notice, MessageError>
     ensures notice { IfOk result (λ n. (d : Data) × IsObjectText body.now d × IsNotice d n) }
     ensures bad_json { IsErrOf result errors.BadJson → (d : Data) → ¬ IsObjectText body.now d }
     ensures wrong { (key : MessageKey) → IsErrOf result (errors.BadMessage key) →
         (d : Data) × IsObjectText body.now d × IsFirstFault d key }
+    ensures whole { result ≢ Err errors.Truncated }
 {
     let object = object_in(alloc, body)?;
     let notice = read_object(alloc, &object)?;

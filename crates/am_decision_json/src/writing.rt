@@ -115,6 +115,7 @@ fn add_muted(out: &mut Writer, muted: &Muted) -> Result<(), AllocError>
     add(out, Token::BeginObject)?;
     add_labels(out, muted.labels.as_slice())?;
     add_ids(out, muted.silenced_by.as_slice())?;
+    add_number(out, "silencedByMore", muted.more)?;
     add(out, Token::EndObject)?;
     Ok(())
 }
@@ -146,6 +147,7 @@ pub fn add_answer(out: &mut Writer, answer: &Answer) -> Result<(), AllocError>
     ensures { OnOk result (Adds out.old out.new (data_tokens (answer_data answer.now))) }
 {
     add(out, Token::BeginObject)?;
+    add_text(out, "decidedAt", answer.decided_at.as_str())?;
     add_hashes(out, "firing", answer.firing.iter())?;
     add_text(out, "groupKey", answer.group_key.as_str())?;
     add_index(out, answer.index)?;
@@ -156,6 +158,7 @@ pub fn add_answer(out: &mut Writer, answer: &Answer) -> Result<(), AllocError>
     add_text(out, "receiver", answer.receiver.as_str())?;
     add_number(out, "repeat", answer.repeat)?;
     add_hashes(out, "resolved", answer.resolved.iter())?;
+    add_number(out, "turnSeconds", answer.turn_seconds)?;
     add(out, Token::EndObject)?;
     Ok(())
 }

@@ -15,9 +15,10 @@ use Rattle.am_api_silences.specs.Answers.{Answered}
 use Rattle.am_api_silences.specs.declared.replies.ReplyBytes.{ReplyBytes}
 use Rattle.am_api_decisions.specs.Asking.{AreAsked, AskedAlert, Counted, IsStopped, StopsAt}
 use Rattle.am_api_decisions.specs.Deciding.{IsGoingOn, Underway}
-use Rattle.am_api_decisions.specs.Noticing.{IsLogged, notified_event}
+use Rattle.am_api_decisions.specs.Noticing.{IsNoticed, IsNoticedBy, is_late, notified_event}
 use Rattle.am_api_decisions.specs.Settling.{IsDecided, IsSettledBy, decide_event, has_none}
 use Rattle.am_api_decisions.specs.declared.group.Group.{Group}
+use Rattle.am_api_decisions.specs.declared.timing.Timing.{Timing}
 use Rattle.am_member.specs.Lives.{IsOwnEvent}
 use Rattle.am_dialogue.specs.Answered.{AreOwnSteps, ByItself}
 
@@ -56,18 +57,23 @@ pub going_on_made : (now most : ℕ) (before : Underway) (old : InstanceState) (
 going_on_made now most before old (Ok after) new on = asked_made now on.asked old new on.on.steps
 going_on_made now most before old (Err refusal) new stopped = stopped_made now before old _ new stopped
 
-settled_made : (muted : Bool) (now : ℕ) (group : Group) (counted : Counted) (old : InstanceState) (reply : ReplyBytes) (new : InstanceState) →
-    IsSettledBy muted now group counted old reply new → ByItself old new
-settled_made true now group counted old reply new whole = nothing_made old new whole.same
-settled_made false now group counted old reply new (inl none) = nothing_made old new none.1
-settled_made false now group counted old reply new (inr step) = one_made old new (decide_event group counted) now step.0 tt step.1
+settled_made : (muted : Bool) (timing : Timing) (group : Group) (counted : Counted) (old : InstanceState) (reply : ReplyBytes) (new : InstanceState) →
+    IsSettledBy muted timing group counted old reply new → ByItself old new
+settled_made true timing group counted old reply new whole = nothing_made old new whole.same
+settled_made false timing group counted old reply new (inl none) = nothing_made old new none.1
+settled_made false timing group counted old reply new (inr step) = one_made old new (decide_event group counted) timing.now step.0 tt step.1
 
 -- a decision that is made
-pub decided_made : (now : ℕ) (before : Underway) (old : InstanceState) (reply : ReplyBytes) (new : InstanceState) → IsDecided now before old reply new → ByItself old new
-decided_made now before old reply new (inl all) =
-    made_on old all.mid new (asked_made now all.asked old all.mid all.all.steps) (settled_made (has_none all.counted) now before.group all.counted all.mid reply new all.settled)
-decided_made now before old reply new (inr cut) = stopped_made now before old cut.line new cut.stopped
+pub decided_made : (timing : Timing) (before : Underway) (old : InstanceState) (reply : ReplyBytes) (new : InstanceState) → IsDecided timing before old reply new → ByItself old new
+decided_made timing before old reply new (inl all) =
+    made_on old all.mid new (asked_made timing.now all.asked old all.mid all.all.steps) (settled_made (has_none all.counted) timing before.group all.counted all.mid reply new all.settled)
+decided_made timing before old reply new (inr cut) = stopped_made timing.now before old cut.line new cut.stopped
 
--- a notice that is logged
-pub logged_made : (now : ℕ) (notice : Notice) (old : InstanceState) (answered : Answered) (new : InstanceState) → IsLogged now notice old answered new → ByItself old new
-logged_made now notice old answered new logged = one_made old new (notified_event notice) now logged.0 tt logged.1
+noticed_made : (late : Bool) (now : ℕ) (notice : Notice) (old : InstanceState) (answered : Answered) (new : InstanceState) → IsNoticedBy late now notice old answered new → ByItself old new
+noticed_made true now notice old answered new passed = nothing_made old new passed.same
+noticed_made false now notice old answered new logged = one_made old new (notified_event notice) now logged.0 tt logged.1
+
+-- a notice that is logged, or comes too late for that
+pub logged_made : (now : ℕ) (notice : Notice) (old : InstanceState) (answered : Answered) (new : InstanceState) → IsNoticed now notice old answered new → ByItself old new
+logged_made now notice old answered new (inl noticed) = noticed_made (is_late notice old) now notice old answered new noticed
+logged_made now notice old answered new (inr unread) = nothing_made old new unread.same

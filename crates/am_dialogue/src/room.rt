@@ -1,55 +1,72 @@
-//! By how many bytes what was said lets the row of the silences grow.
+//! By how many bytes what was said lets the rows of the states grow.
 
 use am_api_silences::Read;
 use am_gossip::{Frame, Part, StateKey};
 use am_http::session::SessionOutput;
-use am_http::{Call, call_of};
+use am_http::{Call, Request, call_of};
 
-/// How many bytes a post may add to the row of the silences beside those of its body.
+/// How many bytes a post or a notice may add to a row beside those of its body.
 const BESIDE_BODY: u64 = 512;
 
-/// How many bytes a part of a frame brings for the silences.
-fn part_bytes(part: &Part) -> u64 {
-    match part.key {
-        StateKey::Sil => part.bytes.as_slice().len() as u64,
-        StateKey::Nfl => 0,
+/// How many bytes a part of a frame brings for a state.
+fn part_bytes(part: &Part, state: StateKey) -> u64 {
+    if part.key == state {
+        part.bytes.as_slice().len() as u64
+    } else {
+        0
     }
 }
 
-/// How many bytes parts bring for the silences.
-fn parts_bytes(parts: &[Part]) -> u64 {
+/// How many bytes parts bring for a state.
+fn parts_bytes(parts: &[Part], state: StateKey) -> u64 {
     let mut bytes: u64 = 0;
     for part in parts {
-        bytes = bytes.saturating_add(part_bytes(part));
+        bytes = bytes.saturating_add(part_bytes(part, state));
     }
     bytes
 }
 
-/// How many bytes a frame brings for the silences.
-fn frame_bytes(frame: &Frame) -> u64 {
+/// Returns how many bytes a frame brings for a state.
+pub fn frame_bytes(frame: &Frame, state: StateKey) -> u64 {
     match frame {
-        Frame::Delta(part) => part_bytes(part),
-        Frame::Push(state) | Frame::Pull(state) => parts_bytes(state.parts()),
+        Frame::Delta(part) => part_bytes(part, state),
+        Frame::Push(full) | Frame::Pull(full) => parts_bytes(full.parts(), state),
         Frame::Tick => 0,
     }
 }
 
-/// By how many bytes a post lets the row grow at the most, where something is posted.
+/// Returns by how many bytes a request lets the row grow that it is for, at the most: a post the silences, a notice the log.
+pub fn request_bytes(request: &Request) -> u64 {
+    BESIDE_BODY.saturating_add(request.body.len() as u64)
+}
+
+/// By how many bytes a post lets the row of the silences grow at the most, where something is posted.
 pub fn post_bytes(said: &SessionOutput) -> Option<u64> {
     let Some(Read::Whole(request)) = &said.request else {
         return None;
     };
     match call_of(&request.method, &request.target) {
-        Ok(Call::Post) => Some(BESIDE_BODY.saturating_add(request.body.len() as u64)),
+        Ok(Call::Post) => Some(request_bytes(request)),
         _ => None,
     }
 }
 
-/// By how many bytes what was said lets the row grow at the most, but for the ends of silences.
-pub fn bytes_said(said: &SessionOutput) -> u64 {
-    let mut bytes = post_bytes(said).unwrap_or(0);
-    for frame in &said.frames {
-        bytes = bytes.saturating_add(frame_bytes(frame));
+/// By how many bytes the frames that were said let the row of a state grow at the most.
+fn bytes_of_frames(frames: &[Frame], state: StateKey) -> u64 {
+    let mut bytes: u64 = 0;
+    for frame in frames {
+        bytes = bytes.saturating_add(frame_bytes(frame, state));
     }
     bytes
+}
+
+/// By how many bytes what was said lets the row of the silences grow at the most, but for the ends of silences.
+pub fn silences_said(said: &SessionOutput) -> u64 {
+    let posted = post_bytes(said).unwrap_or(0);
+    posted.saturating_add(bytes_of_frames(&said.frames, StateKey::Sil))
+}
+
+/// By how many bytes the frames that were said let the row of the log grow at the most.
+pub fn log_said(said: &SessionOutput) -> u64 {
+    bytes_of_frames(&said.frames, StateKey::Nfl)
 }

@@ -12,7 +12,7 @@ mod system;
 
 pub use disk::Disk;
 pub use error::FileFault;
-pub use opening::is_there;
+pub use opening::{is_own_file_there, is_there};
 pub use paths::{are_one_file, target_of};
 pub use saving::{directory_of, save_file};
-pub use system::{SystemDisk, SystemFile, new_file, sync_directory};
+pub use system::{SystemDisk, SystemFile, make_like, new_file, sync_directory};

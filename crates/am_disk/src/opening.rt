@@ -25,6 +25,23 @@ fn found_by(said: io::Result<bool>) -> Result<bool, FileFault>
     }
 }
 
+/// Whether a link stands at a path.
+fn is_link<R: Files + AllocGlobal>(rt: &R, path: &str) -> bool {
+    fs::read_link(rt, path).is_ok()
+}
+
+/// Returns whether a file is there, as [`is_there`] does, and refuses a link: what would be written went where it leads.
+///
+/// # Errors
+///
+/// [`FileFault::NotAFile`], also of a link, and what the system says.
+pub fn is_own_file_there<R: Files + AllocGlobal>(rt: &R, path: &str) -> Result<bool, FileFault> {
+    if is_link(rt, path) {
+        return Err(FileFault::NotAFile);
+    }
+    is_there(rt, path)
+}
+
 /// Whether a file is there. What is no file isn't opened, since that may wait for ever.
 ///
 /// # Errors

@@ -136,19 +136,28 @@ fn sync<R: Files>(system: &R, path: &str) -> io::Result<()> {
     opened.sync_all()
 }
 
-/// A new file at a path, with the permissions of the file that it is to replace. Whatever stood at the path is taken away first,
-/// so that nothing is written through a link.
+/// Makes a file at a path at which nothing stands, with the permissions of another file, if that is there.
+///
+/// # Errors
+///
+/// What the system says, as a [`FileFault`].
+pub fn make_like<R: Files>(rt: &R, path: &str, other: &str) -> Result<R::File, FileFault> {
+    let file = File::create_new(rt, path)?;
+    if let Ok(found) = fs::metadata(rt, other) {
+        file.set_permissions(found.permissions())?;
+    }
+    Ok(file)
+}
+
+/// Makes a file at a path, with the permissions of the file that it is to replace. Whatever stood at the path is taken away
+/// first, so that nothing is written through a link.
 ///
 /// # Errors
 ///
 /// What the system says, as a [`FileFault`].
 pub fn new_file<R: Files>(rt: &R, path: &str, replaced: &str) -> Result<R::File, FileFault> {
     let _ = fs::remove_file(rt, path);
-    let file = File::create_new(rt, path)?;
-    if let Ok(found) = fs::metadata(rt, replaced) {
-        file.set_permissions(found.permissions())?;
-    }
-    Ok(file)
+    make_like(rt, path, replaced)
 }
 
 /// Hands a directory to the disk: which files it has, and by which names.

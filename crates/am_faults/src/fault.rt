@@ -1,6 +1,7 @@
 //! What is printed of a fault.
 
-ghost use Rattle.std.specs.Prelude.{◌<◌, ◌≤◌};
+ghost use Rattle.std.specs.Prelude.{◌≡◌, ◌<◌, ◌≤◌};
+ghost use Rattle.am_faults.specs.Statuses.{answer_status, fault_status, file_status, row_status, secret_status, server_status};
 
 mod lines;
 mod meaning;
@@ -37,7 +38,8 @@ pub fn print_count<R: Eprint>(rt: &R, count: u64, fault: &Fault, occasion: &Occa
 
 /// Prints a fault on standard error: its words, and to a person what it means. Gives the exit status of the program.
 pub fn report<R: Eprint + HasAudience>(rt: &R, fault: Fault) -> u8
-    ensures { (1 ≤ result) × (result ≤ 4) }
+    ensures status { result ≡ fault_status fault }
+    ensures some { (1 ≤ result) × (result ≤ 4) }
 {
     let remark = rt.audience().told(fault.meaning());
     let _ = eprintln!(rt; "am_tool: {fault}{remark}");
@@ -47,7 +49,8 @@ pub fn report<R: Eprint + HasAudience>(rt: &R, fault: Fault) -> u8
 /// Prints a fault on standard error as [`report`] does, behind the name of the source that is at fault. Gives the exit status of
 /// the program.
 pub fn report_source<R: Eprint + HasAudience>(rt: &R, name: &str, fault: Fault) -> u8
-    ensures { (1 ≤ result) × (result ≤ 4) }
+    ensures status { result ≡ fault_status fault }
+    ensures some { (1 ≤ result) × (result ≤ 4) }
 {
     let (name, remark) = (Word(name.as_bytes()), rt.audience().told(fault.meaning()));
     let _ = eprintln!(rt; "am_tool: {name} {fault}{remark}");
@@ -151,7 +154,8 @@ impl Fault {
 
     /// The exit status of the program, which is none of a job that is done.
     pub fn status(self) -> u8
-        ensures { (1 ≤ result) × (result ≤ 4) }
+        ensures status { result ≡ fault_status self }
+        ensures some { (1 ≤ result) × (result ≤ 4) }
     {
         match self {
             Fault::Snapshot(error) => status_of_snapshot(error),
@@ -215,7 +219,8 @@ fn kind_of_connection(fault: &ConnectionFault) -> usize
 
 /// The exit status where a row is at fault.
 fn status_of_snapshot(error: SnapshotError) -> u8
-    ensures { (1 ≤ result) × (result ≤ 4) }
+    ensures status { result ≡ row_status error }
+    ensures some { (1 ≤ result) × (result ≤ 4) }
 {
     match error {
         SnapshotError::Wire(_) | SnapshotError::DuplicateKey | SnapshotError::TooLarge => {
@@ -228,7 +233,8 @@ fn status_of_snapshot(error: SnapshotError) -> u8
 
 /// The exit status where a file is at fault.
 fn status_of_file(fault: FileFault) -> u8
-    ensures { (1 ≤ result) × (result ≤ 4) }
+    ensures status { result ≡ file_status fault }
+    ensures some { (1 ≤ result) × (result ≤ 4) }
 {
     match fault {
         FileFault::File(_) | FileFault::NotAFile | FileFault::Locked => status::OUTSIDE,
@@ -238,7 +244,8 @@ fn status_of_file(fault: FileFault) -> u8
 
 /// The exit status where a server is at fault.
 fn status_of_server(fault: ServerFault) -> u8
-    ensures { (1 ≤ result) × (result ≤ 4) }
+    ensures status { result ≡ server_status fault }
+    ensures some { (1 ≤ result) × (result ≤ 4) }
 {
     match fault {
         ServerFault::Connect(_) | ServerFault::Write { .. } | ServerFault::Read { .. } => {
@@ -251,7 +258,8 @@ fn status_of_server(fault: ServerFault) -> u8
 
 /// The exit status where what a replica answered is at fault.
 fn status_of_answer(error: AnswerError) -> u8
-    ensures { (1 ≤ result) × (result ≤ 4) }
+    ensures status { result ≡ answer_status error }
+    ensures some { (1 ≤ result) × (result ≤ 4) }
 {
     match error {
         AnswerError::Row(error) => status_of_snapshot(SnapshotError::from(error)),
@@ -262,7 +270,8 @@ fn status_of_answer(error: AnswerError) -> u8
 
 /// The exit status where a secret is at fault.
 fn status_of_secret(fault: SecretFault) -> u8
-    ensures { (1 ≤ result) × (result ≤ 4) }
+    ensures status { result ≡ secret_status fault }
+    ensures some { (1 ≤ result) × (result ≤ 4) }
 {
     match fault {
         SecretFault::File(_) | SecretFault::Read(_) => status::OUTSIDE,

@@ -2,7 +2,7 @@
 
 use crate::beside::{LOG, OLD_LOG, beside, remove_logs};
 use crate::reading::{LogEnd, NO_LOG, fault_of};
-use am_disk::{FileFault, directory_of, sync_directory};
+use am_disk::{FileFault, directory_of, make_like, sync_directory};
 use am_journal::{Found, Journal, LogError, LogFile, open_file};
 use am_snapshot::SnapshotError;
 use std::alloc::Global;
@@ -35,30 +35,29 @@ fn log_in(file: File, end: u64) -> Result<Journal<LogFile<Found>>, FileFault> {
     }
 }
 
-/// A new log at a path at which nothing stands, which is in its directory from now on.
-fn new_log<R: Files<File = File>>(
+/// A new log beside a file, where none stands: it has the permissions of the file, and is in its directory from now on.
+fn new_log<R: Files<File = File> + AllocGlobal>(
     rt: &R,
-    path: &str,
+    file: &str,
 ) -> Result<Journal<LogFile<Found>>, FileFault> {
-    let journal = log_in(File::create_new(rt, path)?, 0)?;
-    sync_directory(rt, directory_of(path))?;
+    let name = beside(rt.alloc(), file, LOG)?;
+    let journal = log_in(make_like(rt, name.as_str(), file)?, 0)?;
+    sync_directory(rt, directory_of(name.as_str()))?;
     Ok(journal)
 }
 
-/// The log that was read up to its end, or a new one where there was none. It is in its directory from now on: the process that
-/// made it may have ended before it handed that to the disk.
-fn old_log<R: Files<File = File>>(
+/// The log beside a file that was read up to its end. It is in its directory from now on: the process that made it may have
+/// ended before it handed that to the disk.
+fn old_log<R: Files<File = File> + AllocGlobal>(
     rt: &R,
-    path: &str,
-    read: Option<LogEnd>,
+    file: &str,
+    read: LogEnd,
 ) -> Result<Journal<LogFile<Found>>, FileFault> {
-    let Some(LogEnd { end, .. }) = read else {
-        return new_log(rt, path);
-    };
+    let name = beside(rt.alloc(), file, LOG)?;
     let mut how = OpenOptions::new();
     how.read(true).write(true);
-    let journal = log_in(how.open(rt, path)?, end)?;
-    sync_directory(rt, directory_of(path))?;
+    let journal = log_in(how.open(rt, name.as_str())?, read.end)?;
+    sync_directory(rt, directory_of(name.as_str()))?;
     Ok(journal)
 }
 
@@ -73,8 +72,10 @@ impl StateLog {
         path: &str,
         read: Option<LogEnd>,
     ) -> Result<StateLog, FileFault> {
-        let name = beside(rt.alloc(), path, LOG)?;
-        let journal = old_log(rt, name.as_str(), read)?;
+        let journal = match read {
+            Some(read) => old_log(rt, path, read)?,
+            None => new_log(rt, path)?,
+        };
         Ok(StateLog {
             journal: Some(journal),
             batch: Vec::new(rt.alloc()),
@@ -150,7 +151,7 @@ impl StateLog {
         }
         fs::rename(rt, name.as_str(), old.as_str())?;
         self.journal = None;
-        self.journal = Some(new_log(rt, name.as_str())?);
+        self.journal = Some(new_log(rt, path)?);
         Ok(())
     }
 
@@ -167,8 +168,7 @@ impl StateLog {
         self.journal = None;
         self.batch.clear();
         remove_logs(rt, path)?;
-        let name = beside(rt.alloc(), path, LOG)?;
-        self.journal = Some(new_log(rt, name.as_str())?);
+        self.journal = Some(new_log(rt, path)?);
         Ok(())
     }
 }

@@ -5,7 +5,7 @@ ghost use Rattle.am_merge.specs.Views.{HoldsBest};
 ghost use Rattle.am_files.specs.Logs.{JoinsLog, ReadsOn};
 
 use crate::beside::beside;
-use am_disk::{FileFault, is_there};
+use am_disk::{FileFault, is_own_file_there, is_there};
 use am_journal::{Batches, LogError, settle};
 use am_merge::{Held, HeldBuilder};
 use am_snapshot::SnapshotError;
@@ -211,18 +211,18 @@ pub fn opened<R: Files<File = File> + AllocGlobal>(
     Ok(Some(BufReader::new(rt.alloc(), file)?))
 }
 
-/// A log beside a file, if one is there: as it stands on the disk.
+/// A log beside a file, if one is there: as it stands on the disk. A link is refused, since a member renames its logs.
 ///
 /// # Errors
 ///
-/// Those of [`opened`].
+/// Those of [`opened`], of a link [`FileFault::NotAFile`].
 pub fn opened_log<R: Files<File = File> + AllocGlobal>(
     rt: &R,
     path: &str,
     ending: &str,
 ) -> Result<Option<BufReader<File>>, FileFault> {
     let name = beside(rt.alloc(), path, ending)?;
-    if !is_there(rt, name.as_str())? {
+    if !is_own_file_there(rt, name.as_str())? {
         return Ok(None);
     }
     let file = fs::open(rt, name.as_str())?;

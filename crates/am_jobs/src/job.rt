@@ -22,6 +22,8 @@ pub enum Job<'a> {
     Pull(PullJob<'a>),
     /// Versions are to be sent to a running replica.
     Push(PushJob<'a>),
+    /// Running replicas are to be compared, and perhaps mended.
+    Mend(MendJob<'a>),
     /// A member is to be run.
     Instance(Options<'a>),
 }
@@ -37,6 +39,8 @@ pub struct FoldJob<'a> {
     pub has_logs: bool,
     /// The moment of taking.
     pub now: Moment,
+    /// The most bytes of each input, and of the fold.
+    pub most: u32,
 }
 
 /// A snapshot of which is to be shown what is live.
@@ -63,6 +67,17 @@ pub enum Form {
     Json,
 }
 
+/// How differences are told.
+#[derive(Clone, Copy)]
+pub enum Report {
+    /// In lines of words.
+    Lines,
+    /// As one line of JSON.
+    Json,
+    /// As figures in Prometheus' text format.
+    Figures,
+}
+
 /// A state that instances share.
 #[derive(Clone, Copy, PartialEq, Eq)]
 pub enum StateName {
@@ -79,8 +94,8 @@ pub struct DiffJob<'a> {
     pub state: StateName,
     /// What of them is compared.
     pub compared: Compared,
-    /// How the differences are printed.
-    pub form: Form,
+    /// How the differences are told.
+    pub report: Report,
     /// Below the line of a version stands more of it.
     pub is_long: bool,
     /// The moment; without it, the clock's.
@@ -120,6 +135,19 @@ pub struct PushJob<'a> {
     pub to: PullJob<'a>,
     /// Nothing is sent, and it is told what would be.
     pub is_dry: bool,
+    /// The moment; without it, the clock's.
+    pub now: Option<Moment>,
+}
+
+/// Which running replicas are to be compared, and perhaps mended.
+#[derive(Drop)]
+pub struct MendJob<'a> {
+    /// The state that is compared.
+    pub state: StateName,
+    /// The replicas, 2 to 16, whose names differ.
+    pub replicas: Vec<PullJob<'a>>,
+    /// Each is sent what it lacks.
+    pub is_applied: bool,
     /// The moment; without it, the clock's.
     pub now: Option<Moment>,
 }

@@ -5,7 +5,7 @@ mod job;
 mod options;
 mod source;
 
-pub use job::{DiffJob, FoldJob, Form, Job, PullJob, PushJob, ShowJob, StateName};
+pub use job::{DiffJob, FoldJob, Form, Job, MendJob, PullJob, PushJob, Report, ShowJob, StateName};
 pub use options::Options;
 pub use source::{STANDARD_INPUT, SourceWord, are_live, is_file};
 

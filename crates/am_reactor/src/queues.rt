@@ -16,7 +16,7 @@ pub struct ConnectionQueues {
     pub waiting: Queue,
     /// Those of which a reply waits for the next commit.
     pub held_back: Queue,
-    /// Those of which a reply waits for its moment, the one that is due first first. Their time doesn't count.
+    /// Those of which a reply waits for its moment, in the order in which they began to. Their time doesn't count.
     pub deferred: Queue,
     /// Those whose session waits for nothing, the one on which nothing has moved for longest first.
     pub by_motion: Queue,

@@ -120,8 +120,8 @@ pub trait Service {
     fn release(&mut self, session: &mut Self::Session)
         ensures { does self.old session.old Released self.new session.new };
 
-    /// The moment for which the reply of a session waits, where one does. Of two sessions that wait so, the one that began
-    /// first is due first.
+    /// The moment for which the reply of a session waits, where one does. It is asked in each turn, and may come earlier than it
+    /// was said before.
     fn due(&self, session: &Self::Session) -> Option<Instant>
         ensures { due session.now result };
 

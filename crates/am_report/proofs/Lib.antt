@@ -13,7 +13,6 @@ pub mod Naming
 pub mod GroupLines
 pub mod Whole
 pub mod Differing
-pub mod ReadSources
 pub mod Adding
 pub mod OneValue
 pub mod Named

@@ -7,12 +7,10 @@ pub mod Lists
 pub mod Views
 pub mod WordLaws
 pub mod Later
-pub mod Shows
 pub mod Texts
 pub mod Ranked
 pub mod ReportLine
 pub mod Long
 pub mod Versions
 pub mod Written
-pub mod Reads
 pub mod Json

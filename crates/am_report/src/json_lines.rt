@@ -12,5 +12,5 @@ mod view;
 mod writing;
 
 pub use values::InJson;
-pub use view::{show_json, write_view_json};
-pub use writing::{diff_json, write_differences_json};
+pub use view::write_view_json;
+pub use writing::write_differences_json;

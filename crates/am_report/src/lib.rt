@@ -1,4 +1,4 @@
-//! What is told of maps: views and snapshots as lines, and the differences of several sources, both in lines and in JSON.
+//! What is told of maps: views, and the differences of several sources, both in lines and in JSON.
 #![tactic(auto)]
 
 mod compared;
@@ -7,7 +7,6 @@ pub mod difference_laws;
 mod differences;
 mod group_lines;
 mod groups;
-mod inputs;
 pub mod json_lines;
 mod later;
 pub mod line_laws;
@@ -19,7 +18,6 @@ mod names;
 mod part;
 mod replica;
 mod report_line;
-mod show;
 mod shown;
 mod side;
 mod view;
@@ -31,15 +29,13 @@ mod writing;
 pub use compared::Compared;
 pub use differences::next_difference;
 pub use groups::{greatest_of, is_behind_by, next_below};
-pub use inputs::{DiffError, DiffOutcome, Input, diff_rows, read_sources};
-pub use json_lines::{InJson, diff_json, show_json, write_differences_json, write_view_json};
+pub use json_lines::{InJson, write_differences_json, write_view_json};
 pub use later::{has_later, has_later_source};
 pub use lists::{Numbers, Texts};
 pub use manner::Manner;
 pub use part::Part;
 pub use replica::{Replica, sides_of};
 pub use report_line::ReportLine;
-pub use show::{Shown, show_log, show_silences};
 pub use shown::append_shown;
 pub use side::Side;
 pub use view::{append_view, write_view};

@@ -12,7 +12,7 @@ use Rattle.std.proofs.lemmas.Result.{OkIff-at_ok, OkIff-at_err}
 use Rattle.std.proofs.lemmas.Str.Parse.{IsNumeralModel, numerals_by_fold, parse_digits, digits_value_short}
 use Rattle.am_schedule.specs.Numbers.{decimal_of, decimal_behind, count_in}
 
-pub own : IsNumeralModel (λ ds. list_all is_ascii_digit ds ≡ true) (decimal_behind 0)
+own : IsNumeralModel (λ ds. list_all is_ascii_digit ds ≡ true) (decimal_behind 0)
 own = numerals_by_fold _ (search rules) decimal_behind (search rules)
 
 -- what is parsed of digits
@@ -21,7 +21,7 @@ unfolding decimal_of
 parsed word r h digits = parse_digits own 64 word r h digits
 
 -- digits are a number where it has 64 bits
-pub digits_count : (word : List ℕ) → 0 < length word → list_all is_ascii_digit word ≡ true → count_in word ≡ (if nat_lt (decimal_of word) (2 ^ 64) then Some (decimal_of word) else None)
+digits_count : (word : List ℕ) → 0 < length word → list_all is_ascii_digit word ≡ true → count_in word ≡ (if nat_lt (decimal_of word) (2 ^ 64) then Some (decimal_of word) else None)
 unfolding count_in
 digits_count word some digits = rw (digits, lt-ltb 0 (length word) some)
 

@@ -1,8 +1,5 @@
 pub mod Decimals
 pub mod EventRows
-pub mod WrittenWords
-pub mod WrittenLines
-pub mod WrittenTexts
 pub mod OneRow
 pub mod Pairs
 pub mod States

@@ -12,7 +12,7 @@ one_part_by p x xs false is e later =
     rw (is, later (omega arith))
 
 -- a text with no separator is one part
-pub one_part : (p : ℕ → Bool) (xs : List ℕ) → position_or_len p xs ≡ length xs → slice_split p xs ≡ xs ∷ []
+one_part : (p : ℕ → Bool) (xs : List ℕ) → position_or_len p xs ≡ length xs → slice_split p xs ≡ xs ∷ []
 one_part p [] e = refl
 one_part p (x ∷ xs) e = one_part_by p x xs (p x) refl e (one_part p xs)
 

@@ -14,5 +14,4 @@ pub mod StepLines
 pub mod Clusters
 pub mod Schedules
 pub mod Readers
-pub mod Written
 pub mod Laws

@@ -31,17 +31,14 @@ group_in words = by_row [] no_version 4 group_row words
 unfoldable pub event_in : List (List ℕ) → (List ℕ → Option VersionLine) → Verb → List (List ℕ) → Result LineEvent FaultKind
 event_in names version verb words = by_row names version 4 (event_row verb) words
 
--- at T NAME VERB .., by the verb
-unfoldable pub event_line_in : List (List ℕ) → (List ℕ → Option VersionLine) → Verb → List (List ℕ) → Result Line FaultKind
-event_line_in names version verb words = do
+-- at T NAME VERB ..
+unfoldable pub member_line_in : List (List ℕ) → (List ℕ → Option VersionLine) → List (List ℕ) → Result Line FaultKind
+member_line_in names version words = do
+  verb ← or_fault faults.Words (verb_in words)
   at ← value_at names moment (word_at 1 words)
   name ← value_at names member (word_at 2 words)
   event ← event_in names version verb words
   Ok (kinds.Step (actions.Event at name event))
-
--- at T NAME VERB ..
-unfoldable pub member_line_in : List (List ℕ) → (List ℕ → Option VersionLine) → List (List ℕ) → Result Line FaultKind
-member_line_in names version words = or_fault faults.Words (verb_in words) >>= λ verb. event_line_in names version verb words
 
 -- at T deliver N
 unfoldable pub deliver_in : List (List ℕ) → Result Line FaultKind

@@ -70,12 +70,13 @@ fn has_name(names: &[Word], word: &str) -> bool
 
 /// The numbers and the names of a cluster line.
 #[tactic(auto, unfolding(crate::specs::Clusters::cluster_parts))]
-fn cluster_parts(alloc: Global, words: &[&str]) -> Result<ClusterLine, FaultKind>
-    ensures { GivesUnlessMemory result (cluster_parts (map (λ w. w.now) words.now)) }
+fn cluster_parts(alloc: Global, line: &str) -> Result<ClusterLine, FaultKind>
+    ensures { GivesUnlessMemory result (cluster_parts (words_of line.now)) }
 {
-    let retention = cluster_seconds(words, 1)?;
-    let peer_timeout = cluster_seconds(words, 2)?;
-    let names = names(alloc, behind(words, 3))?;
+    let retention = cluster_seconds(line, 1)?;
+    let peer_timeout = cluster_seconds(line, 2)?;
+    let words = split_words(alloc, line)?;
+    let names = names(alloc, behind(&words, 3))?;
     Ok(ClusterLine {
         names,
         retention,
@@ -84,10 +85,10 @@ fn cluster_parts(alloc: Global, words: &[&str]) -> Result<ClusterLine, FaultKind
 }
 
 /// An interval of the cluster line.
-fn cluster_seconds(words: &[&str], place: usize) -> Result<Interval, FaultKind>
-    ensures { result ≡ as_cluster (read_at seconds_in place (map (λ w. w.now) words.now)) }
+fn cluster_seconds(line: &str, place: usize) -> Result<Interval, FaultKind>
+    ensures { result ≡ as_cluster (read_at seconds_in place (words_of line.now)) }
 {
-    seconds_at(words, place).ok().ok_or(FaultKind::Cluster)
+    seconds_at(line, place).ok().ok_or(FaultKind::Cluster)
 }
 
 /// `cluster RETENTION TIMEOUT NAME ..`
@@ -100,6 +101,5 @@ pub(crate) fn cluster_line(alloc: Global, line: &str) -> Result<ClusterLine, Fau
     if word_of(line, 0) != "cluster" || count < 4 || count > 19 {
         return Err(FaultKind::Cluster);
     }
-    let words = split_words(alloc, line)?;
-    cluster_parts(alloc, &words)
+    cluster_parts(alloc, line)
 }

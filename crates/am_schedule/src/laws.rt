@@ -1,19 +1,11 @@
 //! What holds of all texts.
 
-ghost use Rattle.am_schedule.specs.Laws.{FirstIsTold, NoLaterIsTold, LineIsRead, TextIsRead, VersionIsRead, Unique, OneForm, OneVerb};
+ghost use Rattle.am_schedule.specs.Laws.{FirstIsTold, NoLaterIsTold, OneForm, OneVerb};
 
 /// Where two lines of a text are at fault, the first of them is told, and nothing of the later one.
 pub fn first_fault_is_told()
     ensures first { FirstIsTold }
     ensures no_later { NoLaterIsTold }
-{}
-
-/// What is written of a line is read as that line, and of no other.
-pub fn written_lines_are_read()
-    ensures read { LineIsRead }
-    ensures text { TextIsRead }
-    ensures version { VersionIsRead }
-    ensures unique { Unique }
 {}
 
 /// A line of words stands in one row of the table at most.

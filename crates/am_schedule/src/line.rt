@@ -1,22 +1,19 @@
 //! The lines that are steps, and the other lines behind the cluster's.
 
-ghost use Rattle.std.specs.Prelude.{◌≡◌, ◌==◌, ℕ, List, map, length, is_some, IsTrue, IfErr};
+ghost use Rattle.std.specs.Prelude.{◌≡◌, ◌==◌, length, is_some, IsTrue, IfErr};
 ghost use Rattle.am_schedule.specs.declared.error.FaultKind.TheVariants.{Memory};
 ghost use Rattle.am_schedule.specs.Readings.{GivesUnlessMemory};
 ghost use Rattle.am_schedule.specs.Tables.{value_in};
 ghost use Rattle.am_schedule.specs.Words.{words_of};
 ghost use Rattle.am_schedule.specs.Forms.{verb_in, has_at_form, has_line_form};
-ghost use Rattle.am_schedule.specs.StepLines.{deliver_in, settle_in, event_line_in, member_line_in, at_line_in, line_in};
+ghost use Rattle.am_schedule.specs.StepLines.{deliver_in, settle_in, member_line_in, at_line_in, line_in};
 
 use crate::error::FaultKind;
 use crate::events::event;
-use crate::form::{LineForm, Verb, verb_of};
-use crate::lists::member;
-use crate::numbers::count;
-use crate::places::{member_at, moment_at};
+use crate::form::{LineForm, verb_of};
+use crate::places::{count_at, member_at, moment_at, seconds_at};
 use crate::step::{Action, Line, Step, VersionLine};
-use crate::times::{moment, seconds};
-use crate::word::{Word, in_place, split_words, word_count, word_of};
+use crate::word::{Word, word_count, word_of};
 use std::alloc::Global;
 use std::collections::BTreeMap;
 
@@ -29,8 +26,8 @@ fn deliver_line(text: &str) -> Result<Line, FaultKind>
     if word_count(text) != 4 {
         return Err(FaultKind::Words);
     }
-    let at = in_place(moment(word_of(text, 1)), word_of(text, 1))?;
-    let frame = in_place(count(word_of(text, 3)), word_of(text, 3))?;
+    let at = moment_at(text, 1)?;
+    let frame = count_at(text, 3)?;
     Ok(Line::Step(Step::new(Action::Deliver { at, frame })))
 }
 
@@ -43,25 +40,8 @@ fn settle_line(text: &str) -> Result<Line, FaultKind>
     if word_count(text) != 3 {
         return Err(FaultKind::Words);
     }
-    let at = in_place(moment(word_of(text, 1)), word_of(text, 1))?;
+    let at = moment_at(text, 1)?;
     Ok(Line::Settle(at))
-}
-
-/// `at T NAME ..`, by the verb
-#[tactic(auto, unfolding(crate::specs::StepLines::event_line_in))]
-fn event_line(
-    alloc: Global,
-    names: &[Word],
-    versions: &BTreeMap<&str, VersionLine>,
-    verb: Verb,
-    words: &[&str],
-) -> Result<Line, FaultKind>
-    ensures { GivesUnlessMemory result (event_line_in names.now (value_in versions.now) verb (map (λ w. w.now) words.now)) }
-{
-    let at = moment_at(words, 1)?;
-    let name = member_at(alloc, names, words, 2)?;
-    let event = event(alloc, names, versions, verb, words)?;
-    Ok(Line::Step(Step::new(Action::Event { at, name, event })))
 }
 
 /// `at T NAME ..`
@@ -76,8 +56,10 @@ fn member_line(
     ensures formed { IfErr result (λ kind. kind ≡ Memory → IsTrue (is_some (verb_in (words_of text.now)))) }
 {
     let verb = verb_of(text).ok_or(FaultKind::Words)?;
-    let words = split_words(alloc, text)?;
-    event_line(alloc, names, versions, verb, &words)
+    let at = moment_at(text, 1)?;
+    let name = member_at(alloc, names, text, 2)?;
+    let event = event(alloc, names, versions, verb, text)?;
+    Ok(Line::Step(Step::new(Action::Event { at, name, event })))
 }
 
 /// A line behind `at`: no member is called `deliver` or `settle`.
@@ -113,20 +95,20 @@ pub(crate) fn line(
     match form {
         LineForm::At => at_line(alloc, names, versions, text),
         LineForm::Stop => {
-            let name = member(alloc, names, word_of(text, 1))?;
+            let name = member_at(alloc, names, text, 1)?;
             Ok(Line::Step(Step::new(Action::Stop { name })))
         }
         LineForm::Save => {
-            let name = member(alloc, names, word_of(text, 1))?;
+            let name = member_at(alloc, names, text, 1)?;
             Ok(Line::Step(Step::new(Action::Save { name })))
         }
         LineForm::Lose => {
-            let frame = in_place(count(word_of(text, 1)), word_of(text, 1))?;
+            let frame = count_at(text, 1)?;
             Ok(Line::Step(Step::new(Action::Lose { frame })))
         }
         LineForm::Timely => {
-            let spread = in_place(seconds(word_of(text, 1)), word_of(text, 1))?;
-            let flight = in_place(seconds(word_of(text, 2)), word_of(text, 2))?;
+            let spread = seconds_at(text, 1)?;
+            let flight = seconds_at(text, 2)?;
             Ok(Line::Timely(spread, flight))
         }
         LineForm::Frames => Ok(Line::Frames),

@@ -15,7 +15,7 @@ use crate::line::line;
 use crate::step::{Line, VersionLine};
 use crate::table::{empty_table, look_up, set_value};
 use crate::versions::version_line;
-use crate::word::{MAX_WORD, split_words, word_of};
+use crate::word::{MAX_WORD, word_of};
 use std::alloc::Global;
 use std::collections::BTreeMap;
 
@@ -43,8 +43,7 @@ fn definition(
     if label.is_empty() || label.len() > MAX_WORD || look_up(versions, label).is_some() {
         return Err(FaultKind::Name);
     }
-    let words = split_words(alloc, line)?;
-    version_line(alloc, form, &words)
+    version_line(alloc, form, line)
 }
 
 /// What the lines that were read say.

@@ -4,6 +4,7 @@ ghost use Rattle.std.specs.Prelude.{◌≡◌, ℕ, List, [], ◌∷◌, ◌++�
 ghost use Rattle.am_schedule.specs.declared.error.FaultKind.TheVariants.{Memory};
 ghost use Rattle.am_schedule.specs.Readings.{GivesUnlessMemory};
 ghost use Rattle.am_schedule.specs.Tables.{value_in};
+ghost use Rattle.am_schedule.specs.Words.{words_of};
 ghost use Rattle.am_schedule.specs.VersionLines.{silence_in, log_in, version_in};
 ghost use Rattle.am_schedule.specs.Labels.{silence_of, log_of, of_one_state, versions_in};
 
@@ -19,16 +20,16 @@ use std::collections::BTreeMap;
 
 /// `sil LABEL ID UPDATED STARTS ENDS EXPIRES NAME VALUE`
 #[tactic(auto, unfolding(crate::specs::VersionLines::silence_in))]
-fn silence_line(alloc: Global, words: &[&str]) -> Result<SilenceLine, FaultKind>
-    ensures { GivesUnlessMemory result (silence_in (map (λ w. w.now) words.now)) }
+fn silence_line(alloc: Global, line: &str) -> Result<SilenceLine, FaultKind>
+    ensures { GivesUnlessMemory result (silence_in (words_of line.now)) }
 {
-    let id = text_at(alloc, words, 2)?;
-    let updated = whole_moment_at(words, 3)?;
-    let starts = whole_moment_at(words, 4)?;
-    let ends = whole_moment_at(words, 5)?;
-    let expires = whole_moment_at(words, 6)?;
-    let name = text_at(alloc, words, 7)?;
-    let value = text_at(alloc, words, 8)?;
+    let id = text_at(alloc, line, 2)?;
+    let updated = whole_moment_at(line, 3)?;
+    let starts = whole_moment_at(line, 4)?;
+    let ends = whole_moment_at(line, 5)?;
+    let expires = whole_moment_at(line, 6)?;
+    let name = text_at(alloc, line, 7)?;
+    let value = text_at(alloc, line, 8)?;
     Ok(SilenceLine {
         id,
         updated,
@@ -42,15 +43,15 @@ fn silence_line(alloc: Global, words: &[&str]) -> Result<SilenceLine, FaultKind>
 
 /// `nfl LABEL GROUP RECEIVER UPDATED EXPIRES FIRING RESOLVED`
 #[tactic(auto, unfolding(crate::specs::VersionLines::log_in))]
-fn log_line(alloc: Global, words: &[&str]) -> Result<LogLine, FaultKind>
-    ensures { GivesUnlessMemory result (log_in (map (λ w. w.now) words.now)) }
+fn log_line(alloc: Global, line: &str) -> Result<LogLine, FaultKind>
+    ensures { GivesUnlessMemory result (log_in (words_of line.now)) }
 {
-    let group = text_at(alloc, words, 2)?;
-    let receiver = text_at(alloc, words, 3)?;
-    let updated = whole_moment_at(words, 4)?;
-    let expires = whole_moment_at(words, 5)?;
-    let firing = hashes_at(alloc, words, 6)?;
-    let resolved = hashes_at(alloc, words, 7)?;
+    let group = text_at(alloc, line, 2)?;
+    let receiver = text_at(alloc, line, 3)?;
+    let updated = whole_moment_at(line, 4)?;
+    let expires = whole_moment_at(line, 5)?;
+    let firing = hashes_at(alloc, line, 6)?;
+    let resolved = hashes_at(alloc, line, 7)?;
     Ok(LogLine {
         group,
         receiver,
@@ -66,18 +67,18 @@ fn log_line(alloc: Global, words: &[&str]) -> Result<LogLine, FaultKind>
 pub(crate) fn version_line(
     alloc: Global,
     form: VersionForm,
-    words: &[&str],
+    line: &str,
 ) -> Result<VersionLine, FaultKind>
-    ensures { GivesUnlessMemory result (version_in form (map (λ w. w.now) words.now)) }
+    ensures { GivesUnlessMemory result (version_in form (words_of line.now)) }
 {
     match form {
         VersionForm::Silence => {
-            let line = silence_line(alloc, words)?;
-            Ok(VersionLine::Silence(Shared::new(alloc, line)?))
+            let silence = silence_line(alloc, line)?;
+            Ok(VersionLine::Silence(Shared::new(alloc, silence)?))
         }
         VersionForm::Log => {
-            let line = log_line(alloc, words)?;
-            Ok(VersionLine::Log(Shared::new(alloc, line)?))
+            let entry = log_line(alloc, line)?;
+            Ok(VersionLine::Log(Shared::new(alloc, entry)?))
         }
     }
 }

@@ -95,14 +95,6 @@ pub(crate) fn word_of(line: &str, place: usize) -> &str
     line.split(' ').nth(place).unwrap_or("")
 }
 
-/// The word at a place, or the empty text behind the last one.
-#[tactic(auto, unfolding(crate::specs::Words::word_at))]
-pub(crate) fn word_at<'a>(words: &[&'a str], place: usize) -> &'a str
-    ensures { result.now ≡ word_at place (map (λ w. w.now) words.now) }
-{
-    words.get(place).copied().unwrap_or("")
-}
-
 /// The words behind a place.
 pub(crate) fn behind<'a>(words: &'a [&'a str], place: usize) -> &'a [&'a str]
     ensures { map (λ w. w.now) result.now ≡ drop place (map (λ w. w.now) words.now) }

@@ -6,7 +6,7 @@ mod process;
 mod started;
 mod times;
 
-pub use options::options_text;
+pub use options::{options_text, seconds_in};
 pub use process::Process;
 pub use started::Started;
 pub use times::report;

@@ -12,8 +12,8 @@ use std::time::Duration;
 #[derive(Drop)]
 pub struct Words<'a, 'b>(pub &'b Options<'a>);
 
-/// How many seconds a time between moments has.
-fn seconds_in(interval: Interval) -> u64 {
+/// Returns how many whole seconds a time between moments has.
+pub fn seconds_in(interval: Interval) -> u64 {
     let Some(epoch) = Moment::from_parts(0, 0) else {
         return 0;
     };

@@ -1,7 +1,7 @@
-//! What is printed of the times that a member keeps.
+//! The lines of a start: the times that a member keeps, and what an operator should know of its options.
 
 use am_jobs::Options;
-use am_peers::{Times, times_of};
+use am_peers::{Times, is_loopback, times_of};
 
 /// The times that a member keeps by its options, where it pulls by itself.
 fn times(options: &Options<'_>) -> Option<Times> {
@@ -10,8 +10,24 @@ fn times(options: &Options<'_>) -> Option<Times> {
     Some(times_of(every, limit))
 }
 
-/// Prints the times that a member keeps, and what is too short for them.
+/// Prints the times that a member keeps, and warnings where its options leave it open or are too short.
 pub fn report<R: Eprint>(rt: &R, options: &Options<'_>) {
+    report_times(rt, options);
+    report_address(rt, options);
+}
+
+/// Prints a warning where others than this machine reach the address at which requests are answered.
+fn report_address<R: Eprint>(rt: &R, options: &Options<'_>) {
+    let address = options.address;
+    if !is_loopback(address) {
+        let _ = eprintln!(rt;
+            "am_tool: warning: requests at {address} aren't authenticated: whoever reaches it may change silences"
+        );
+    }
+}
+
+/// Prints the times that a member keeps, and warnings where its options are too short for them.
+fn report_times<R: Eprint>(rt: &R, options: &Options<'_>) {
     let Some(times) = times(options) else {
         return;
     };

@@ -4,7 +4,7 @@
 mod refusal;
 
 use am_command_line::{job_of, words_of};
-use am_commands::{Streams, run_diff, run_fold, run_pull, run_push, run_show};
+use am_commands::{Streams, run_diff, run_fold, run_mend, run_pull, run_push, run_show};
 use am_jobs::Job;
 use am_player::run_replay;
 use std::process::ExitCode;
@@ -18,6 +18,7 @@ fn run<'a>(rt: &'a HostRuntime, job: Job<'a>) -> u8 {
         Job::Diff(job) => run_diff(rt, streams_of(rt), &job),
         Job::Pull(job) => run_pull(rt, streams_of(rt), &job),
         Job::Push(job) => run_push(rt, streams_of(rt), &job),
+        Job::Mend(job) => run_mend(rt, streams_of(rt), &job),
         Job::Instance(options) => am_daemon::run(rt, &options),
     }
 }

@@ -177,7 +177,7 @@ impl<R: AllocGlobal + Clock + Eprint + Files<File = File>> Upkeep<'_, R> {
         let most = self.options.most_bytes;
         match self.silences.part_logs(self.rt, instance.silences(), most) {
             Ok(bytes) => {
-                self.room.is_counted(bytes);
+                self.silences_room.is_counted(bytes);
                 self.compacting.go_on(Work::Silences(Compaction::new()));
             }
             Err(fault) => self.fail_silences(instance.config(), fault, now),
@@ -188,7 +188,10 @@ impl<R: AllocGlobal + Clock + Eprint + Files<File = File>> Upkeep<'_, R> {
         self.count_save_begun(false);
         let most = self.options.most_bytes;
         match self.log.part_logs(self.rt, instance.log(), most) {
-            Ok(_) => self.compacting.go_on(Work::Log(Compaction::new())),
+            Ok(bytes) => {
+                self.log_room.is_counted(bytes);
+                self.compacting.go_on(Work::Log(Compaction::new()));
+            }
             Err(fault) => self.fail_log(instance.config(), fault, now),
         }
     }

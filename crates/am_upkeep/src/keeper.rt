@@ -25,6 +25,14 @@ use std::mem;
 use std::rt::{Clock, Files};
 use std::time::{Duration, Instant};
 
+/// By how many bytes a silence may grow where it ends.
+const FOR_AN_END: u64 = 64;
+
+/// By how many bytes so many silences and one more may grow where they end.
+fn bytes_for_ends(silences: usize) -> u64 {
+    FOR_AN_END.saturating_mul((silences as u64).saturating_add(1))
+}
+
 /// Who keeps what a member holds: its files and logs, the lines that it prints, what it counts, and the frames that wait for
 /// peers. Who makes the steps of a member goes by this alone.
 pub trait Keeper {
@@ -60,12 +68,15 @@ pub trait Keeper {
     fn keeping(&self) -> Keeping
         ensures { result ≡ keeping_of self.now };
 
-    /// Something comes that may change what is held, and brings so many bytes for the silences at the most.
-    fn take(&mut self, bytes: u64, is_change: bool);
+    /// Something comes that may change what is held, and brings so many bytes for the silences and for the log at the most.
+    fn take(&mut self, silences: u64, log: u64, is_change: bool);
 
-    /// Whether there is room for so many bytes of a post. Where it doesn't look so, the silences are counted anew, once a
-    /// second.
-    fn has_room(&mut self, instance: &Instance, post: u64) -> bool;
+    /// Whether there is room for so many bytes of a post, and for the ends of all silences. Where it doesn't look so, the
+    /// silences are counted anew, once a second.
+    fn has_room_for_post(&mut self, instance: &Instance, post: u64) -> bool;
+
+    /// Whether the log has room for so many bytes of a notice. Where it doesn't look so, it is counted anew, once a second.
+    fn has_room_for_notice(&mut self, instance: &Instance, notice: u64) -> bool;
 
     /// Drops what has expired, and saves both states.
     fn tick(&mut self, instance: &mut Instance)
@@ -162,22 +173,20 @@ impl<R: AllocGlobal + Clock + Eprint + Files<File = File>> Keeper for Upkeep<'_,
         self.keeping
     }
 
-    fn take(&mut self, bytes: u64, is_change: bool) {
-        self.room.add(bytes);
+    fn take(&mut self, silences: u64, log: u64, is_change: bool) {
+        self.silences_room.add(silences);
+        self.log_room.add(log);
         self.is_changed |= is_change;
     }
 
-    fn has_room(&mut self, instance: &Instance, post: u64) -> bool {
+    fn has_room_for_post(&mut self, instance: &Instance, post: u64) -> bool {
         let silences = instance.silences();
-        if self.room.holds(post, silences.len()) {
-            return true;
-        }
-        if let Ok(now) = Instant::now(self.rt)
-            && self.room.is_count_due(now)
-        {
-            self.room.count(silences);
-        }
-        self.room.holds(post, silences.len())
+        let bytes = post.saturating_add(bytes_for_ends(silences.len()));
+        self.silences_room.makes(self.rt, silences, bytes)
+    }
+
+    fn has_room_for_notice(&mut self, instance: &Instance, notice: u64) -> bool {
+        self.log_room.makes(self.rt, instance.log(), notice)
     }
 
     fn tick(&mut self, instance: &mut Instance) {

@@ -171,7 +171,8 @@ fn upkeep_of<'a, R: AllocGlobal>(
         silences,
         log,
     } = loaded;
-    let room = Room::of(instance.silences(), options.most_bytes);
+    let silences_room = Room::of(instance.silences(), options.most_bytes);
+    let log_room = Room::of(instance.log(), options.most_bytes);
     let keeping = Keeping::new(instance.config().place_named(DISK));
     let is_changed = silences.owes_save() || log.owes_save();
     let upkeep = Upkeep {
@@ -180,7 +181,8 @@ fn upkeep_of<'a, R: AllocGlobal>(
         lock,
         silences,
         log,
-        room,
+        silences_room,
+        log_room,
         keeping,
         compacting: Compacting::new(),
         queue: Vec::new(rt.alloc()),

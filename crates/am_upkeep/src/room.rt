@@ -1,17 +1,15 @@
-//! How much room is left for silences.
+//! How much room is left for a state.
 
 use am_merge::Held;
 use am_snapshot::row_length_within;
 use am_version_order::Version;
+use std::rt::Clock;
 use std::time::{Duration, Instant};
-
-/// By how many bytes a silence may grow where it ends. Posts leave room for that.
-const FOR_AN_END: u64 = 64;
 
 /// After how many milliseconds the row is counted anew at the earliest.
 const COUNT_EVERY: u64 = 1_000;
 
-/// How many bytes the row of the silences may have, and how many it has at the most.
+/// How many bytes the row of a state may have, and how many it has at the most.
 #[derive(Clone, Copy)]
 pub struct Room {
     most: u32,
@@ -24,21 +22,21 @@ pub struct Room {
 }
 
 impl Room {
-    /// For these silences, whose row may have so many bytes.
-    pub fn of<V: Version>(silences: &Held<V>, most: u32) -> Room {
+    /// For a state that holds these, whose row may have so many bytes.
+    pub fn of<V: Version>(held: &Held<V>, most: u32) -> Room {
         let mut room = Room {
             most,
             counted: 0,
             come: 0,
             next_count: None,
         };
-        room.count(silences);
+        room.count(held);
         room
     }
 
     /// Counts the row, which takes no memory.
-    pub fn count<V: Version>(&mut self, silences: &Held<V>) {
-        self.is_counted(row_length_within(silences, self.most).unwrap_or(u64::MAX));
+    pub fn count<V: Version>(&mut self, held: &Held<V>) {
+        self.is_counted(row_length_within(held, self.most).unwrap_or(u64::MAX));
     }
 
     /// The row has so many bytes.
@@ -52,11 +50,23 @@ impl Room {
         self.come = self.come.saturating_add(bytes);
     }
 
-    /// Whether there is room for so many bytes of a post, and for the ends of so many silences and of its own.
-    pub fn holds(&self, post: u64, silences: usize) -> bool {
-        let ends = FOR_AN_END.saturating_mul((silences as u64).saturating_add(1));
+    /// Whether there is room for so many bytes more.
+    pub fn holds(&self, bytes: u64) -> bool {
         let had = self.counted.saturating_add(self.come);
-        had.saturating_add(post).saturating_add(ends) <= u64::from(self.most)
+        had.saturating_add(bytes) <= u64::from(self.most)
+    }
+
+    /// Whether there is room for so many bytes more. Where it doesn't look so, the row is counted anew, once a second.
+    pub fn makes<R: Clock, V: Version>(&mut self, rt: &R, held: &Held<V>, bytes: u64) -> bool {
+        if self.holds(bytes) {
+            return true;
+        }
+        if let Ok(now) = Instant::now(rt)
+            && self.is_count_due(now)
+        {
+            self.count(held);
+        }
+        self.holds(bytes)
     }
 
     /// Whether the row may be counted anew. If so, it may not again before a second is over.

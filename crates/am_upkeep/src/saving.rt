@@ -37,7 +37,7 @@ impl<R: AllocGlobal + Clock + Eprint + Files<File = File>> Upkeep<'_, R> {
         let most = self.options.most_bytes;
         match self.silences.save(self.rt, instance.silences(), most) {
             Ok(bytes) => {
-                self.room.is_counted(bytes);
+                self.silences_room.is_counted(bytes);
                 None
             }
             Err(fault) => {
@@ -51,7 +51,10 @@ impl<R: AllocGlobal + Clock + Eprint + Files<File = File>> Upkeep<'_, R> {
     fn save_log(&mut self, instance: &Instance) -> Option<Fault> {
         let most = self.options.most_bytes;
         match self.log.save(self.rt, instance.log(), most) {
-            Ok(_) => None,
+            Ok(bytes) => {
+                self.log_room.is_counted(bytes);
+                None
+            }
             Err(fault) => {
                 self.tell(instance.config(), Fault::Log(fault));
                 Some(Fault::Log(fault))

@@ -31,7 +31,9 @@ pub struct Upkeep<'a, R> {
     /// The file of the notification log.
     pub(crate) log: StateFile,
     /// How much room is left for silences.
-    pub(crate) room: Room,
+    pub(crate) silences_room: Room,
+    /// How much room is left for entries of the log.
+    pub(crate) log_room: Room,
     /// What is to be in the logs, where they are kept.
     pub(crate) keeping: Keeping,
     /// Which files are written anew while it serves.
@@ -56,7 +58,8 @@ impl<R> Drop for Upkeep<'_, R> {
             lock: _,
             silences: _,
             log: _,
-            room: _,
+            silences_room: _,
+            log_room: _,
             keeping: _,
             compacting: _,
             queue: _,

@@ -2,8 +2,8 @@
 
 use super::instance::time_limit;
 use super::options::{Named, Takes, Words, command_of};
-use super::{JSON, LOG, LOG_HELP, WordsError, form_of, log_mistake, mistake, now_of, state_of};
-use am_jobs::{DiffJob, Job, STANDARD_INPUT, SourceWord, StateName, are_live};
+use super::{JSON, LOG, LOG_HELP, WordsError, log_mistake, mistake, now_of, state_of};
+use am_jobs::{DiffJob, Job, Report, STANDARD_INPUT, SourceWord, StateName, are_live};
 use am_peers::port_of;
 use am_report::Compared;
 use am_version_order::Moment;
@@ -30,7 +30,7 @@ pub fn read_job<'a>(alloc: Global, flags: &ArgMatches<'a>) -> Result<Job<'a>, Wo
         Ok((now, time_limit)) => Ok(Job::Diff(DiffJob {
             state: state_of(flags),
             compared: compared_of(flags),
-            form: form_of(flags),
+            report: report_of(flags),
             is_long: flags.get_flag(LONG),
             now,
             sources,
@@ -82,6 +82,17 @@ fn gossip_mistake_of(sources: &[SourceWord<'_>]) -> Option<&'static str> {
     sources.iter().any(is_nowhere).then_some(BAD_GOSSIP)
 }
 
+/// How the options have differences told.
+fn report_of(flags: &ArgMatches<'_>) -> Report {
+    if flags.get_flag(JSON) {
+        Report::Json
+    } else if flags.get_flag(PROMETHEUS) {
+        Report::Figures
+    } else {
+        Report::Lines
+    }
+}
+
 fn compared_of(flags: &ArgMatches<'_>) -> Compared {
     if flags.get_flag(HELD) {
         Compared::Held
@@ -100,7 +111,7 @@ fn source_words<'a>(alloc: Global, words: &[&'a str]) -> Result<Vec<SourceWord<'
 }
 
 /// A source as NAME=FILE, which is cut at the first `=`, or as FILE, which is then its own name.
-fn source_of(word: &str) -> SourceWord<'_> {
+pub fn source_of(word: &str) -> SourceWord<'_> {
     match word.split_once('=') {
         Some((name, file)) => SourceWord { name, file },
         None => SourceWord {
@@ -162,7 +173,7 @@ fn is_address(file: &str) -> bool {
 }
 
 /// Whether two sources have one name.
-fn has_name_twice(sources: &[SourceWord<'_>]) -> bool {
+pub fn has_name_twice(sources: &[SourceWord<'_>]) -> bool {
     for (place, source) in sources.iter().enumerate() {
         let name = source.name;
         if sources[..place].iter().any(|other| other.name == name) {
@@ -177,17 +188,19 @@ const HELD: &str = "held";
 
 const LONG: &str = "long";
 
+const PROMETHEUS: &str = "prometheus";
+
 /// The name of the sources among the options.
 const SOURCES: &str = "source";
 
-const FEWEST_SOURCES: usize = 2;
+pub const FEWEST_SOURCES: usize = 2;
 
-const MOST_SOURCES: usize = 16;
+pub const MOST_SOURCES: usize = 16;
 
 const ABOUT: &str =
     "Reads what several replicas hold, and prints in key order at which keys they differ, and which of them counts";
 
-static OPTIONS: [Named; 8] = [
+static OPTIONS: [Named; 9] = [
     Named {
         name: "state",
         value: "STATE",
@@ -215,8 +228,14 @@ static OPTIONS: [Named; 8] = [
     Named {
         name: JSON,
         value: "",
-        takes: Takes::Nothing,
+        takes: Takes::NothingBeside(PROMETHEUS),
         help: "Prints the differences as a list in JSON, on one line, in place of the lines",
+    },
+    Named {
+        name: PROMETHEUS,
+        value: "",
+        takes: Takes::NothingBeside(LONG),
+        help: "Prints figures in Prometheus' text format in place of the lines: of each source at how many keys it holds none (missing) or a lesser version (behind), and the moment",
     },
     Named {
         name: "time-limit",
@@ -261,7 +280,8 @@ Examples:
   am_tool diff --state sil --long a=a.sil b=b.sil c=c.sil
   am_tool diff --state sil --log a=a.sil b=b.sil
   ssh b cat b.nfl | am_tool diff --state nfl --held a=a.nfl b=-
-  am_tool diff --state sil --json a=a.sil b=b.sil | jq -r '.[].key.id'";
+  am_tool diff --state sil --json a=a.sil b=b.sil | jq -r '.[].key.id'
+  am_tool diff --state sil --prometheus a=gossip://10.0.0.1:9094 b=gossip://10.0.0.2:9094";
 
 const BAD_NUMBER: &str = "invalid values for '<SOURCE>...': 2 to 16 sources are wanted";
 

@@ -73,7 +73,7 @@ const PUSH_ABOUT: &str =
     "Sends a running Alertmanager by its gossip those of the versions on standard input that it lacks, and tells which it doesn't hold then";
 
 /// How long a connection to the replica may last.
-const TIME_LIMIT: Named = Named {
+pub const TIME_LIMIT: Named = Named {
     name: "time-limit",
     value: "S",
     takes: Takes::Default("10"),

@@ -6,12 +6,15 @@ ghost use Rattle.am_dialogue.specs.Talks.{Closes, KeepsGone, Rests, talk_of};
 use super::counting::count_decision;
 use super::desk::Desk;
 use super::telling::time_between;
-use am_api_decisions::{Asked, Deciding, Notice, Question, asked_of, begin_log, log_notice};
+use am_api_decisions::{
+    Asked, Deciding, Notice, Question, Timing, asked_of, begin_log, log_notice,
+};
 use am_api_silences::{PendingAnswer, PendingReply, Read, Refusal, Request};
-use am_dialogue::{CallProgress, Conversation, Turn, Turns};
+use am_dialogue::{CallProgress, Conversation, Turn, Turns, request_bytes};
 use am_figures::Step;
 use am_http::session::SessionOutput;
 use am_instance::{FrameSender, Instance};
+use am_self::seconds_in;
 use am_upkeep::Keeper;
 use am_version_order::Moment;
 use std::alloc::Global;
@@ -154,7 +157,11 @@ impl<U: Keeper> Desk<'_, U> {
                 Some(due) => wait_for_turn(&mut self.turns, Turn::new(request, due)),
                 None => self.begin_deciding(instance, question),
             },
-            Ok(Asked::Notified(notice)) => self.log(instance, notice),
+            Ok(Asked::Notified(notice)) => self.log_in_room(
+                instance,
+                notice,
+                request_bytes(&request),
+            ),
             Ok(Asked::Log) => self.list_log(instance),
             Err(refusal) => Called::Refused(refusal),
         }
@@ -216,17 +223,28 @@ impl<U: Keeper> Desk<'_, U> {
     fn decide(&mut self, instance: &mut Instance, deciding: Deciding, now: Moment) -> Called
         ensures { ByItself instance.old instance.new }
     {
-        let reply = deciding.decide(self.alloc, instance, now);
+        let turn_seconds = seconds_in(self.upkeep.options().peer_timeout);
+        let reply = deciding.decide(self.alloc, instance, Timing { now, turn_seconds });
         count_decision(self.upkeep.figures(), reply.as_slice());
         let outbox = FrameSender::new(self.alloc);
         self.made(instance, PendingReply::Whole(reply), outbox)
+    }
+
+    /// Logs what was notified, where the log has room for so many bytes.
+    fn log_in_room(&mut self, instance: &mut Instance, notice: Notice, bytes: u64) -> Called
+        ensures { ByItself instance.old instance.new }
+    {
+        if !self.upkeep.has_room_for_notice(instance, bytes) {
+            return Called::Refused(Refusal::new(500, "state too large"));
+        }
+        self.upkeep.take(0, bytes, true);
+        self.log(instance, notice)
     }
 
     /// Logs what was notified.
     fn log(&mut self, instance: &mut Instance, notice: Notice) -> Called
         ensures { ByItself instance.old instance.new }
     {
-        self.upkeep.take(0, true);
         let now = self.upkeep.next_moment(instance.last());
         let PendingAnswer { making, outbox } = log_notice(self.alloc, instance, notice, now);
         self.made(instance, making, outbox)

@@ -11,8 +11,9 @@ ghost use Rattle.am_refusals.specs.declared.error.StepError.{StepError};
 use super::clerk::Clerk;
 use super::desk::Desk;
 use am_beside::Came;
+use am_dialogue::frame_bytes;
 use am_faults::Fault;
-use am_gossip::Frame;
+use am_gossip::{Frame, StateKey};
 use am_instance::{Config, Event, Instance, Place};
 use am_peers::Fault as ConnectionFault;
 use am_reactor::PeerBytes;
@@ -25,7 +26,11 @@ fn take_from<U: Keeper>(upkeep: &mut U, instance: &mut Instance, place: usize, f
 {
     let sender = place as Place;
     let now = upkeep.next_moment(instance.last());
-    upkeep.take(bytes_in(&frame), true);
+    let (silences, log) = (
+        frame_bytes(&frame, StateKey::Sil),
+        frame_bytes(&frame, StateKey::Nfl),
+    );
+    upkeep.take(silences, log, true);
     match instance.step(Event::Frame { sender, frame }, now) {
         Ok(outcome) => {
             let (_, outbox) = outcome.into_parts();
@@ -113,16 +118,4 @@ impl<U: Keeper> Clerk<'_, U> {
             }
         }
     }
-}
-
-/// How many bytes of rows a frame brings.
-fn bytes_in(frame: &Frame) -> u64 {
-    let Frame::Pull(state) = frame else {
-        return 0;
-    };
-    let mut bytes: u64 = 0;
-    for part in state.parts() {
-        bytes = bytes.saturating_add(part.bytes.as_slice().len() as u64);
-    }
-    bytes
 }

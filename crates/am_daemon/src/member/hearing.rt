@@ -10,7 +10,9 @@ use super::counting::count_said;
 use super::desk::{Desk, random_bits};
 use super::links::hand_all;
 use am_api_silences::PendingReply;
-use am_dialogue::{Conversation, asked_of_itself, bytes_said, ends_pull, is_nothing, may_change};
+use am_dialogue::{
+    Conversation, asked_of_itself, ends_pull, is_nothing, log_said, may_change, silences_said,
+};
 use am_faults::Fault;
 use am_figures::Request;
 use am_http::Refusal;
@@ -100,7 +102,8 @@ impl<U: Keeper> Desk<'_, U> {
     fn take_in(&mut self, instance: &mut Instance, dialogue: &mut Conversation, said: SessionOutput)
         ensures { IsTaken (spoken said) instance.old (talk_of dialogue.old) instance.new (talk_of dialogue.new) }
     {
-        self.upkeep.take(bytes_said(&said), may_change(&said));
+        self.upkeep
+            .take(silences_said(&said), log_said(&said), may_change(&said));
         let pulled = ends_pull(&said);
         let Spared { said, asks, ticks } = spare(said);
         let exchanged = self.make_steps(instance, &mut dialogue.session, said);

@@ -67,7 +67,7 @@ impl<U: Keeper> Desk<'_, U> {
         ensures heard { ¬ IsTrue result → talk_of dialogue.new ≡ talk_of dialogue.old }
     {
         match post_bytes(said) {
-            Some(bytes) if !self.upkeep.has_room(instance, bytes) => {
+            Some(bytes) if !self.upkeep.has_room_for_post(instance, bytes) => {
                 dialogue.refuse(self.alloc, &Refusal::new(500, "state too large"));
                 true
             }

@@ -24,6 +24,9 @@ const WRITE: &str = "a write failed after so many bytes, which went out";
 const LOST_READ: &str =
     "the connection failed, or its time was over, after so many bytes that came";
 
+const NO_ANSWER: &str =
+    "the connection failed, or its time was over, before anything came; is this the right port, and without TLS?";
+
 const LOST_WRITE: &str =
     "the connection failed, or its time was over, after so many bytes that went out";
 
@@ -184,6 +187,7 @@ fn meaning_of_server(fault: ServerFault) -> &'static str {
     match fault {
         ServerFault::Connect(kind) => meaning_of_connect(kind),
         ServerFault::Write { .. } => LOST_WRITE,
+        ServerFault::Read { at: 0 } => NO_ANSWER,
         ServerFault::Read { .. } => LOST_READ,
         ServerFault::TooLarge => "the reply has over 67,125,248 bytes",
         ServerFault::NoHead => "the reply is none of HTTP; is this an Alertmanager or a member?",
@@ -202,6 +206,8 @@ fn meaning_of_answer(error: AnswerError) -> &'static str {
         AnswerError::Kind(ENCRYPTED) => "the answer is encrypted, which is not spoken",
         AnswerError::Kind(LABELLED) => "the cluster has a label, which is not spoken",
         AnswerError::Kind(ALERT) => "the answer is of TLS, which is not spoken",
+        AnswerError::Kind(HTTP) =>
+            "the answer is of HTTP; the port of its gossip is wanted (--cluster.listen-address)",
         AnswerError::Kind(_) =>
             "the answer begins with no type of message that is one; is this the port of its gossip (--cluster.listen-address)?",
         AnswerError::Cut => "the answer ends in the middle",
@@ -219,13 +225,15 @@ fn meaning_of_answer(error: AnswerError) -> &'static str {
     }
 }
 
-/// The types of messages that are told apart among those that aren't read: one that is encrypted, one that has a label, and an
-/// alert of TLS (RFC 8446, section 5.1).
+/// The first bytes that are told apart of answers that aren't read: one that is encrypted, one that has a label, an alert of TLS
+/// (RFC 8446, section 5.1), and the `H` of HTTP.
 const ENCRYPTED: u8 = 10;
 
 const LABELLED: u8 = 244;
 
 const ALERT: u8 = 21;
+
+const HTTP: u8 = 72;
 
 /// What is wrong with what is compressed.
 fn meaning_of_lzw(error: LzwError) -> &'static str {

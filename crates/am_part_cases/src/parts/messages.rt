@@ -1,6 +1,6 @@
 //! Decisions in JSON: messages of a webhook, answers, and what was notified.
 
-use crate::common::{Case, Fault, Spelled, behind, cut, first};
+use crate::common::{Case, Fault, Printed, Spelled, behind, cut, first};
 use crate::parts::json;
 use am_decision_json::{
     Answer, MessageError, Muted, Why, read_message, read_notice, write_answer, write_logged,
@@ -8,6 +8,7 @@ use am_decision_json::{
 use am_dedup::Reason;
 use am_matcher::Labels;
 use am_nflog::{Hashes, Receiver};
+use am_silence_json::moments::write_moment;
 use std::alloc::AllocError;
 
 /// Cases of what programs that send pages post and get back.
@@ -63,7 +64,7 @@ fn print_receiver(case: &Case, receiver: &Receiver) {
     put!(case; receiver.group_name.as_str(), "/", receiver.integration.as_str(), "/", receiver.idx);
 }
 
-/// `page notice BODY`: the group key, the receiver, the repeat interval and the hashes.
+/// `page notice BODY`: the group key, the receiver, the repeat interval, the hashes, and when it was decided.
 fn notice(case: &Case, body: &str) {
     let body = case.unescaped(body);
     given!(notice = read(case, read_notice(case.alloc, body.as_slice())));
@@ -72,6 +73,9 @@ fn notice(case: &Case, body: &str) {
     put!(case; " every ", ?notice.repeat);
     case.print_hashes(" firing ", notice.firing.iter());
     case.print_hashes(" resolved ", notice.resolved.iter());
+    if let Some(decided_at) = notice.decided_at {
+        put!(case; " decided at ", @decided_at);
+    }
     case.put("\n");
 }
 
@@ -89,23 +93,30 @@ fn why(case: &Case, word: &str) -> Option<Why> {
     })
 }
 
-/// A muted alert: `job=x a=b by ID ID`.
+/// A muted alert: `job=x a=b by ID ID`, perhaps with ` and 3` behind it, for the silences that aren't named.
 impl Spelled for Muted {
     fn spelled(case: &Case, words: &str) -> Option<Muted> {
-        let (labels, ids) = cut(words, " by ");
+        let (labels, silences) = cut(words, " by ");
+        let (ids, more) = cut(silences, " and ");
         Some(Muted {
             labels: Labels::new(case.list(labels, " ")),
             silenced_by: case.list(ids, " "),
+            more: if more.is_empty() {
+                0
+            } else {
+                case.number(more)
+            },
         })
     }
 }
 
-/// `page answer WHY group GROUP to r/w/0 every 60 firing 1,2 resolved 3; MUTED; ..`
+/// `page answer WHY group GROUP to r/w/0 every 60 at 10 turn 15 firing 1,2 resolved 3; MUTED; ..`
 fn answer_of(case: &Case, words: &str) -> Option<Answer> {
     let (head, muted) = cut(words, "; ");
     let reason = why(case, first(head).0)?;
     let receiver = case.receiver(behind(head, " to ", "r/w/0"));
     Some(Answer {
+        decided_at: write_moment(case.moment(behind(head, " at ", "10"))),
         firing: Hashes::new(case.numbers(behind(head, " firing ", "-"))),
         group_key: case.text(behind(head, " group ", "g")),
         index: receiver.idx,
@@ -116,5 +127,6 @@ fn answer_of(case: &Case, words: &str) -> Option<Answer> {
         receiver: receiver.group_name,
         repeat: case.number(behind(head, " every ", "14400")),
         resolved: Hashes::new(case.numbers(behind(head, " resolved ", "-"))),
+        turn_seconds: case.number(behind(head, " turn ", "15")),
     })
 }

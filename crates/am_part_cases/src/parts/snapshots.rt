@@ -3,7 +3,7 @@
 use crate::common::{Brittle, Call, Case, Cut, Fault, Pieces, behind, cut, first};
 use am_merge::Held;
 use am_nflog::MeshEntry;
-use am_report::{show_log, show_silences};
+use am_report::write_view;
 use am_silence::MeshSilence;
 use am_snapshot::laws::what_is_saved_is_loaded;
 use am_snapshot::{SnapshotError, fold, load, save, take_row};
@@ -67,8 +67,14 @@ impl Call for Calling<'_> {
 impl Calling<'_> {
     fn done(&self, alloc: Global, reader: &mut Pieces<'_>, writer: &mut Brittle) -> Outcome {
         match (self.verb, self.state) {
-            ("show", "nfl") => Ok(show_log(alloc, reader, writer, self.now)?.written),
-            ("show", _) => Ok(show_silences(alloc, reader, writer, self.now)?.written),
+            ("show", "nfl") => {
+                let log: Held<MeshEntry> = load(alloc, reader)?;
+                write_view(alloc, &Held::new(alloc), &log, None, self.now, writer)
+            }
+            ("show", _) => {
+                let silences: Held<MeshSilence> = load(alloc, reader)?;
+                write_view(alloc, &silences, &Held::new(alloc), None, self.now, writer)
+            }
             ("send", _) => {
                 send(writer, reader.left)?;
                 Ok(reader.left.len() as u64)

@@ -1,13 +1,11 @@
 -- The line of all differences of sources, and what went out where writing it stopped.
--- X is the type of versions, R that of readers, `seen` is what the merge sees of a version, `key_data` is the value of a key, `name` and
--- `value` are the name and the value of the member that is a version, and `remaining` is what a reader has to give.
-use Rattle.std.specs.Prelude.{◌≡◌, ℕ, Bool, List, Option, Result, map}
-use Rattle.std.specs.List.{AllZip}
+-- X is the type of versions, `seen` is what the merge sees of one, `key_data` is the value of a key, and `name` and `value` are the name
+-- and the value of the member that is a version.
+use Rattle.std.specs.Prelude.{◌≡◌, ℕ, Bool, List, Option, map}
 use Rattle.std.specs.declared.cmp.Ordering.{Ordering}
 use Rattle.json.specs.Written.{Written}
 use Rattle.serde_json.specs.Data.{Data}
 use Rattle.am_version_order.specs.Versions.{Version}
-use Rattle.am_wire.specs.declared.error.WireError.{WireError}
 use Rattle.am_snapshot.specs.declared.error.SnapshotError.{SnapshotError}
 use Rattle.am_snapshot.specs.declared.error.SnapshotError.TheVariants.{Write, Memory}
 use Rattle.am_report.specs.Views.{StopsWriting}
@@ -15,10 +13,6 @@ use Rattle.am_report.specs.Sources.{Source}
 use Rattle.am_report.specs.Differences.{AreDifferences, Difference}
 use Rattle.am_report.specs.declared.compared.Compared.{Compared}
 use Rattle.am_report.specs.ReportLine.{is_any}
-use Rattle.am_report.specs.Reads.{IsRead, StopsReading}
-use Rattle.am_report.specs.declared.inputs.Input.{Input}
-use Rattle.am_report.specs.declared.inputs.DiffError.{DiffError}
-use Rattle.am_report.specs.declared.inputs.DiffError.TheVariants as errors
 use Rattle.am_silence_json.specs.Tokens.{Adds, row_tokens}
 use Rattle.am_report.specs.Json.Groups.{difference_data, differences_line}
 
@@ -45,13 +39,3 @@ module _ {K X : Type 0} (seen : X → Version K) (cmp : K → K → Ordering) (k
       (line : List ℕ) × (found : Bool) × IsLine sources found line × StopsWriting contents old new line (Write k)
   StopsLine sources contents old new Memory = new ≡ old
   StopsLine sources contents old new _ = ⊥
-
-  module _ {R : Type 0} (reads : ℕ → List ℕ → Result X WireError) (remaining : R → Option (List ℕ)) where
-    -- A source is at fault, or memory ran out, and the writer is as it was; or all were read, and exactly the first bytes of the line
-    -- went out, and not all.
-    abbrev pub StopsDiff : List (Input R) → List (Input R) → {W : Type 0} → (W → Option (List ℕ)) → W → W → DiffError → Type 0
-    StopsDiff inputs left contents old new (errors.Source number fault) =
-        (new ≡ old) × StopsReading seen cmp reads remaining inputs left (errors.Source number fault)
-    StopsDiff inputs left contents old new (errors.Write k) =
-        (sources : List (Source X)) × AllZip (IsRead seen cmp reads remaining) inputs sources × StopsLine sources contents old new (Write k)
-    StopsDiff inputs left contents old new errors.Memory = new ≡ old

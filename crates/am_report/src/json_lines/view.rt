@@ -1,31 +1,24 @@
 //! Views, written.
 
-ghost use Rattle.std.specs.Prelude.{◌≡◌, ◌⊎◌, List, length, map, IfOk, IfErr, IfSome, OnOk};
-ghost use Rattle.std.specs.Io.KnownBytes.{Appends, IsAtEnd};
+ghost use Rattle.std.specs.Prelude.{◌≡◌, length, map, IfOk, IfErr, OnOk};
+ghost use Rattle.std.specs.Io.KnownBytes.{Appends};
 ghost use Rattle.serde_json.specs.Data.{array};
 ghost use Rattle.serde_json.specs.View.{items_of};
 ghost use Rattle.am_merge.specs.Maps.{swept};
 ghost use Rattle.am_silence_json.specs.Tokens.{Adds, data_tokens, row_tokens};
-ghost use Rattle.am_snapshot.specs.Loads.{StopsLoad};
-ghost use Rattle.am_report.specs.Later.{has_later};
-ghost use Rattle.am_report.specs.Shows.{IsLoadedMap};
 ghost use Rattle.am_report.specs.Views.{StopsWriting};
 ghost use Rattle.am_report.specs.Json.Views.{view_line};
 
 use crate::json_lines::tokens::line_of;
 use crate::json_lines::values::InJson;
-use crate::later::has_later;
-use crate::show::Shown;
 use am_merge::Held;
 use am_silence_json::tokens::add;
-use am_snapshot::{SnapshotError, load};
+use am_snapshot::SnapshotError;
 use am_streams::send;
 use am_version_order::{Moment, Version};
-use am_wire::Message;
 use json::{Token, Writer};
 use std::alloc::{AllocError, Global};
-use std::io::{Read, Write};
-use std::mem;
+use std::io::Write;
 
 /// Adds the versions in view, without brackets.
 fn add_live<V: InJson>(
@@ -89,36 +82,4 @@ pub fn write_view_json<V: InJson, W: Write>(
     let line = view_line(alloc, held, now)?;
     send(writer, &line)?;
     Ok(line.len() as u64)
-}
-
-/// Writes the view of the map whose snapshot the whole input is, as [`write_view_json`] does.
-///
-/// What was read is forgotten: the process is to end then, and its memory with it.
-///
-/// # Errors
-///
-/// Those of [`load`], before a byte goes out, and then those of [`write_view_json`].
-pub fn show_json<V: InJson + Message, R: Read, W: Write>(
-    alloc: Global,
-    input: &mut R,
-    output: &mut W,
-    now: Moment,
-) -> Result<Shown, SnapshotError>
-    ensures shown { IfOk result (λ shown. IfSome (R.remaining input.old) (λ bytes. (held : List V) ×
-        IsLoadedMap V.seen V.Key.cmp V.reads bytes held ×
-        (shown.written ≡ length (view_line V.seen V.value now held)) ×
-        (shown.has_later ≡ has_later V.seen now held) ×
-        Appends (W.contents output.old) (W.contents output.new) (view_line V.seen V.value now held))) }
-    ensures end { OnOk result (IsAtEnd (R.remaining input.new)) }
-    ensures stopped { IfErr result (λ e. IfSome (R.remaining input.old) (λ bytes.
-        (StopsLoad V.seen V.reads bytes (R.remaining input.new) e × (output.new ≡ output.old))
-        ⊎ ((held : List V) × IsLoadedMap V.seen V.Key.cmp V.reads bytes held ×
-        StopsWriting W.contents output.old output.new (view_line V.seen V.value now held) e))) }
-{
-    let held = load::<V, _>(alloc, input)?;
-    let has_later = has_later(&held, now);
-    let written = write_view_json(alloc, &held, now, output);
-    mem::forget(held);
-    let written = written?;
-    Ok(Shown { written, has_later })
 }

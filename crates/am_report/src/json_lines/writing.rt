@@ -2,31 +2,24 @@
 
 ghost use Rattle.std.specs.Prelude.{◌≡◌, ℕ, List, map, All, IfOk, IfErr};
 ghost use Rattle.std.specs.Io.KnownBytes.{Appends};
-ghost use Rattle.std.specs.List.{AllZip};
 ghost use Rattle.am_merge.specs.Maps.{IsMap};
-ghost use Rattle.am_report.specs.Sources.{Source, rest_of};
-ghost use Rattle.am_report.specs.Later.{has_later_source};
-ghost use Rattle.am_report.specs.Reads.{IsRead};
-ghost use Rattle.am_report.specs.Json.Written.{AreAdded, IsLine, StopsLine, StopsDiff};
+ghost use Rattle.am_report.specs.Sources.{rest_of};
+ghost use Rattle.am_report.specs.Json.Written.{AreAdded, IsLine, StopsLine};
 
 use crate::compared::Compared;
 use crate::differences::next_difference;
-use crate::inputs::{DiffError, DiffOutcome, Input, read_sources};
 use crate::json_lines::difference::add_difference;
 use crate::json_lines::tokens::line_of;
 use crate::json_lines::values::InJson;
-use crate::later::has_later_source;
 use crate::replica::{Replica, sides_of};
 use crate::side::Side;
 use am_silence_json::tokens::add;
 use am_snapshot::SnapshotError;
 use am_streams::send;
 use am_version_order::Moment;
-use am_wire::Message;
 use json::{Token, Writer};
 use std::alloc::{AllocError, Global};
-use std::io::{Read, Write};
-use std::mem;
+use std::io::Write;
 
 /// Adds what is left of all differences on a walk, without brackets. Answers whether there is one.
 fn add_left<V: InJson>(
@@ -113,38 +106,4 @@ pub fn write_differences_json<V: InJson, W: Write>(
     let differences = differences_of(alloc, replicas, compared, now)?;
     send(writer, &differences.line)?;
     Ok(differences.found)
-}
-
-/// Reads sources as [`read_sources`] does, and then writes all their differences, as [`write_differences_json`] does.
-///
-/// What was read is forgotten: the process is to end then, and its memory with it.
-///
-/// # Errors
-///
-/// Those of [`read_sources`], before a byte goes out, and then those of [`write_differences_json`].
-pub fn diff_json<V: InJson + Message, R: Read + Drop, W: Write>(
-    alloc: Global,
-    inputs: &mut [Input<'_, R>],
-    compared: Compared,
-    now: Moment,
-    writer: &mut W,
-) -> Result<DiffOutcome, DiffError>
-    // PROMISE: `diff --json` prints one array of exactly these differences.
-    ensures line { IfOk result (λ outcome. (sources : List (Source V)) ×
-        AllZip (IsRead V.seen V.Key.cmp V.reads R.remaining) inputs.old sources ×
-        (outcome.has_later ≡ has_later_source V.seen now sources) ×
-        (line : List ℕ) × IsLine V.seen V.Key.cmp V.key_data V.named (V.value now) compared now sources outcome.found line ×
-        Appends (W.contents writer.old) (W.contents writer.new) line) }
-    ensures stopped { IfErr result (StopsDiff V.seen V.Key.cmp V.key_data V.named (V.value now) compared now
-        V.reads R.remaining inputs.old inputs.new W.contents writer.old writer.new) }
-{
-    let replicas: Vec<Replica<'_, V>> = read_sources(alloc, inputs)?;
-    let has_later = has_later_source(&replicas, now);
-    let written = write_differences_json(alloc, &replicas, compared, now, writer);
-    mem::forget(replicas);
-    match written {
-        Ok(found) => Ok(DiffOutcome { found, has_later }),
-        Err(SnapshotError::Write { written }) => Err(DiffError::Write { written }),
-        Err(_) => Err(DiffError::Memory),
-    }
 }

@@ -3,13 +3,13 @@ use Rattle.std.proofs.lemmas.Result.{err_from_is_err_and}
 use Rattle.am_schedule.proofs.EventRows.{event_by}
 use Rattle.am_schedule.proofs.events.event.Goals as goal
 
-pub returns-in_ok-line-in-Post : goal.returns-in_ok-line-in-Post
-returns-in_ok-line-in-Post c = rw (c.in-Post.is, event_by, c.in_ok-line-in-Post.ensures) refl
+pub returns-in_ok-post-in-Post : goal.returns-in_ok-post-in-Post
+returns-in_ok-post-in-Post c = rw (c.in-Post.is, event_by, c.in_ok-post-in-Post.ensures) refl
 
-pub returns-in_err-line-in-Post : goal.returns-in_err-line-in-Post
-returns-in_err-line-in-Post c =
-    let p = err_from_is_err_and c.from_residual-in_err-line-in-Post.result c.from_residual-in_err-line-in-Post.ensures.1 in
-    rw (c.in-Post.is, event_by, p.1, p.2) (λ other. rw (c.in_err-line-in-Post.ensures other) refl)
+pub returns-in_err-post-in-Post : goal.returns-in_err-post-in-Post
+returns-in_err-post-in-Post c =
+    let p = err_from_is_err_and c.from_residual-in_err-post-in-Post.result c.from_residual-in_err-post-in-Post.ensures.1 in
+    rw (c.in-Post.is, event_by, p.1, p.2) (λ other. rw (c.in_err-post-in-Post.ensures other) refl)
 
 pub returns-in_ok-group-in-Notified : goal.returns-in_ok-group-in-Notified
 returns-in_ok-group-in-Notified c = rw (c.in-Notified.is, event_by, c.in_ok-group-in-Notified.ensures) refl

@@ -1,0 +1,5 @@
+pub mod ReadSources
+pub mod Folds
+pub mod Found
+pub mod Stopping
+pub mod RowStops

@@ -1,0 +1,54 @@
+-- What is told of the differences of sources, and what went out where that stopped.
+-- X is the type of versions, S that of sources, as where sources are read; `begins`, `told` and `more` are the words of lines, and
+-- `key_data`, `name` and `value` the values of JSON, as where differences are told; `contents` is what a writer holds.
+use Rattle.std.specs.Prelude.{◌≡◌, ℕ, ◌<◌, Bool, List, length, take, Option}
+use Rattle.std.specs.Io.KnownBytes.{Appends}
+use Rattle.std.specs.List.{AllZip}
+use Rattle.std.specs.declared.cmp.Ordering.{Ordering}
+use Rattle.serde_json.specs.Data.{Data}
+use Rattle.am_version_order.specs.Versions.{Version}
+use Rattle.am_report.specs.Sources.{Source}
+use Rattle.am_report.specs.Written.{AreLines}
+use Rattle.am_report.specs.Json.Written.{IsLine}
+use Rattle.am_report.specs.declared.manner.Manner.{Manner}
+use Rattle.am_jobs.specs.declared.job.Report.{Report}
+use Rattle.am_jobs.specs.declared.job.Report.TheVariants as reports
+use Rattle.am_snapshot.specs.declared.error.SnapshotError.{SnapshotError}
+use Rattle.am_snapshot.specs.declared.error.SnapshotError.TheVariants.{Write, Memory}
+use Rattle.am_commands.specs.declared.diff.Comparison.{Comparison}
+use Rattle.am_commands.specs.declared.fault.SourceFault.{SourceFault}
+use Rattle.am_commands.specs.declared.fault.Stopped.{Stopped}
+use Rattle.am_commands.specs.declared.fault.Stopped.TheVariants as stopped
+use Rattle.am_commands.specs.declared.source.Input.{Input}
+use Rattle.am_commands.specs.Reading.{IsRead, IsFirstAtFault}
+use Rattle.am_commands.specs.Figures.{AreFigures}
+
+module _ {K X : Type 0} (seen : X → Version K) (cmp : K → K → Ordering) (begins : K → List ℕ) (told : Manner → X → List ℕ)
+    (more : Manner → X → X → List ℕ) (key_data : K → Data) (name : List ℕ) (value : ℕ → X → Data) (how : Comparison) where
+  -- the text tells all differences of the sources in this form, and `found` says whether there is one
+  abbrev pub IsReportIn : Report → List (Source X) → Bool → List ℕ → Type 0
+  IsReportIn reports.Lines sources found text =
+      AreLines seen cmp begins (told how.manner) (more how.manner) how.compared how.manner.moment sources found text
+  IsReportIn reports.Json sources found text =
+      IsLine seen cmp key_data name (value how.manner.moment) how.compared how.manner.moment sources found text
+  IsReportIn reports.Figures sources found text = AreFigures seen cmp how.compared how.manner.moment sources found text
+
+  -- the same in the form that is asked for
+  abbrev pub IsReport : List (Source X) → Bool → List ℕ → Type 0
+  IsReport sources found text = IsReportIn how.report sources found text
+
+  -- exactly the first bytes of the text went out, and not all; or memory ran out, and the writer is as it was
+  abbrev pub StopsReport : List (Source X) → {W : Type 0} → (W → Option (List ℕ)) → W → W → SnapshotError → Type 0
+  StopsReport sources contents old new (Write k) =
+      (text : List ℕ) × (found : Bool) × IsReport sources found text × (k < length text) × Appends (contents old) (contents new) (take k text)
+  StopsReport sources contents old new Memory = new ≡ old
+  StopsReport sources contents old new _ = ⊥
+
+  -- the first source at fault, or want of memory, before a byte goes out; or a write that failed
+  abbrev pub StopsDiff : {S : Type 0} → (S → List X → Type 0) → (S → SourceFault → Type 0) → List (Input S)
+      → {W : Type 0} → (W → Option (List ℕ)) → W → W → Stopped → Type 0
+  StopsDiff gives stops inputs contents old new (stopped.Source number fault) =
+      (new ≡ old) × IsFirstAtFault seen cmp gives stops inputs number fault
+  StopsDiff gives stops inputs contents old new (stopped.Told Memory) = new ≡ old
+  StopsDiff gives stops inputs contents old new (stopped.Told e) =
+      (sources : List (Source X)) × AllZip (IsRead seen cmp gives) inputs sources × StopsReport sources contents old new e

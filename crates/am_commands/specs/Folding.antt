@@ -1,0 +1,22 @@
+-- What sources come to when they are folded.
+-- X is the type of versions, and `seen` is what the merge sees of one.
+use Rattle.std.specs.Prelude.{◌≡◌, ℕ, List, Option, None, fold}
+use Rattle.std.specs.declared.cmp.Ordering.{Ordering}
+use Rattle.am_version_order.specs.Versions.{Version}
+use Rattle.am_merge.specs.Maps.{IsMap, at, greater_of}
+use Rattle.am_snapshot.specs.Texts.{row_text}
+use Rattle.am_report.specs.Sources.{Source}
+
+module _ {K X : Type 0} (seen : X → Version K) (cmp : K → K → Ordering) where
+  -- the greatest version of the key that a source holds; of those that tie, that of the first source
+  abbrev pub greatest_at : K → List (Source X) → Option X
+  greatest_at key sources = fold (λ best source. greater_of seen best (at seen cmp source.held key)) None sources
+
+  -- the map has of each key the greatest version that a source holds, and no other
+  pub record IsFoldOf (sources : List (Source X)) (held : List X) : Type 0 where
+    pub order : IsMap seen cmp held
+    pub greatest : (key : K) → at seen cmp held key ≡ greatest_at key sources
+
+  -- the row of that map, in the order of the keys
+  abbrev pub IsFoldRow : List (Source X) → List ℕ → Type 0
+  IsFoldRow sources row = (held : List X) × IsFoldOf sources held × (row ≡ row_text seen held)

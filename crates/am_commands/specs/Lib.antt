@@ -1,0 +1,9 @@
+pub mod Statuses
+pub mod Rows
+pub mod Reading
+pub mod Telling
+pub mod Folding
+pub mod Sending
+pub mod Showing
+pub mod Figures
+pub mod Differing

@@ -1,0 +1,188 @@
+//! Running replicas, compared and mended: each is asked for all that it holds, it is told who lacks what, and each is sent that.
+
+use crate::fault::{SourceFault, Stopped, add, report_stopped};
+use crate::host::{Host, Streams};
+use crate::mending::{Addressee, Mending};
+use crate::moment::moment_of;
+use crate::push::write_text;
+use crate::replica::{NO_STATES, exchange};
+use am_faults::{Fault, report, status};
+use am_jobs::{MendJob, PullJob, StateName};
+use am_mend::Handed;
+use am_merge::Held;
+use am_nflog::MeshEntry;
+use am_report::{Compared, Manner, Replica, ReportLine, write_differences};
+use am_silence::MeshSilence;
+use am_snapshot::load_bytes;
+use am_version_order::{Moment, Version};
+use am_wire::Message;
+use std::alloc::{AllocError, Global};
+use std::io::{Stdout, Write};
+
+/// Compares running replicas, mends them where that is asked for, and returns the exit status of the program.
+pub fn run_mend<R: Host>(rt: &R, streams: Streams, job: &MendJob<'_>) -> u8 {
+    let now = match moment_of(rt, job.now) {
+        Ok(now) => now,
+        Err(fault) => return report(rt, fault),
+    };
+    let found = match job.state {
+        StateName::Silences => mend::<R, MeshSilence>(rt, streams.output, job, now),
+        StateName::Log => mend::<R, MeshEntry>(rt, streams.output, job, now),
+    };
+    match found {
+        Ok(false) => status::DONE,
+        Ok(true) => status::DIFFERENT,
+        Err(stopped) => report_stopped(rt, name_of(job, &stopped), &stopped),
+    }
+}
+
+/// Returns the name of the replica that is at fault.
+fn name_of<'a>(job: &MendJob<'a>, stopped: &Stopped) -> Option<&'a str> {
+    let replica = job.replicas.get(stopped.number()?)?;
+    Some(replica.name)
+}
+
+/// Writes how replicas differ. Where they are to be mended, sends each what it lacks, and compares them again. Returns whether
+/// they differ at the end.
+fn mend<R: Host, V: Handed + Message + ReportLine>(
+    rt: &R,
+    mut output: Stdout,
+    job: &MendJob<'_>,
+    now: Moment,
+) -> Result<bool, Stopped> {
+    let alloc = rt.alloc();
+    let pulled: Pulled<'_, V> = pull_all(rt, job)?;
+    let found = tell(alloc, &pulled.replicas, now, &mut output)?;
+    if !job.is_applied || !found {
+        return Ok(found);
+    }
+    let replicas = pulled.replicas;
+    let mending = Mending {
+        rows: pulled.rows,
+        all: join_all(alloc, &replicas)?,
+        moment: now,
+    };
+    send_all(rt, job, &replicas, &mending, &mut output)?;
+    let again: Pulled<'_, V> = pull_all(rt, job)?;
+    tell_refused(alloc, &again.replicas, &mending, &mut output)?;
+    tell(alloc, &again.replicas, now, &mut output)
+}
+
+/// What replicas hold, and the rows in which they told it.
+#[derive(Drop)]
+struct Pulled<'a, V: Version> {
+    replicas: Vec<Replica<'a, V>>,
+    rows: Vec<Vec<u8>>,
+}
+
+/// Asks all replicas, one after the other.
+fn pull_all<'a, R: Host, V: Version + Message>(
+    rt: &R,
+    job: &MendJob<'a>,
+) -> Result<Pulled<'a, V>, Stopped> {
+    let alloc = rt.alloc();
+    let mut pulled = Pulled {
+        replicas: Vec::new(alloc),
+        rows: Vec::new(alloc),
+    };
+    for replica in &job.replicas {
+        let row = row_now(rt, replica, pulled.rows.len())?;
+        let held = held_in(alloc, &row, pulled.rows.len())?;
+        add(&mut pulled.rows, row)?;
+        add(&mut pulled.replicas, Replica::new(replica.name, held))?;
+    }
+    Ok(pulled)
+}
+
+/// Returns the row of what the replica of this number holds now.
+fn row_now<R: Host>(rt: &R, replica: &PullJob<'_>, number: usize) -> Result<Vec<u8>, Stopped> {
+    match exchange(rt, replica, NO_STATES) {
+        Ok(row) => Ok(row),
+        Err(fault) => Err(Stopped::Source { number, fault }),
+    }
+}
+
+/// Returns the map of the row that the replica of this number told.
+fn held_in<V: Version + Message>(
+    alloc: Global,
+    row: &[u8],
+    number: usize,
+) -> Result<Held<V>, Stopped> {
+    match load_bytes(alloc, row) {
+        Ok(held) => Ok(held),
+        Err(error) => Err(Stopped::Source {
+            number,
+            fault: SourceFault::Own(Fault::Snapshot(error)),
+        }),
+    }
+}
+
+/// Writes the differences of replicas in long lines. Returns whether there is one.
+fn tell<V: ReportLine, W: Write>(
+    alloc: Global,
+    replicas: &[Replica<'_, V>],
+    now: Moment,
+    output: &mut W,
+) -> Result<bool, Stopped> {
+    let manner = Manner {
+        moment: now,
+        has_expiries: true,
+        is_long: true,
+    };
+    match write_differences(alloc, replicas, Compared::Shown, &manner, output) {
+        Ok(found) => Ok(found),
+        Err(error) => Err(Stopped::Told(error)),
+    }
+}
+
+/// Returns the join of what replicas hold.
+fn join_all<V: Version>(alloc: Global, replicas: &[Replica<'_, V>]) -> Result<Held<V>, AllocError> {
+    let mut all = Held::new(alloc);
+    for replica in replicas {
+        if all.merge(replica.held(), Moment::LEAST).is_err() {
+            return Err(AllocError);
+        }
+    }
+    Ok(all)
+}
+
+/// Sends each replica what it lacks, and writes what that is.
+fn send_all<R: Host, V: Handed + Message + ReportLine, W: Write>(
+    rt: &R,
+    job: &MendJob<'_>,
+    replicas: &[Replica<'_, V>],
+    mending: &Mending<V>,
+    output: &mut W,
+) -> Result<(), Stopped> {
+    let alloc = rt.alloc();
+    for (number, (to, replica)) in job.replicas.iter().zip(replicas).enumerate() {
+        let sent = mending.to_send(alloc, replica.held())?;
+        if let Err(fault) = sent.send(rt, to) {
+            return Err(Stopped::Source { number, fault });
+        }
+        let mut text = String::new(alloc);
+        let name = Addressee {
+            name: Some(to.name),
+        };
+        mending.append_sent(alloc, &mut text, name, replica.held(), &sent)?;
+        write_text(output, text.as_bytes())?;
+    }
+    Ok(())
+}
+
+/// Writes which versions replicas lack though they were sent.
+fn tell_refused<V: Handed + Message + ReportLine, W: Write>(
+    alloc: Global,
+    replicas: &[Replica<'_, V>],
+    mending: &Mending<V>,
+    output: &mut W,
+) -> Result<(), Stopped> {
+    let mut text = String::new(alloc);
+    for replica in replicas {
+        let name = Addressee {
+            name: Some(replica.name()),
+        };
+        mending.append_refused(alloc, &mut text, name, replica.held())?;
+    }
+    write_text(output, text.as_bytes())
+}

@@ -1,0 +1,247 @@
+//! What running replicas lack of versions that they are to hold, and what they refuse of it.
+
+ghost use Rattle.std.specs.Prelude.{◌≡◌};
+ghost use Rattle.am_commands.specs.Sending.{is_sent};
+
+use crate::fault::SourceFault;
+use crate::host::Host;
+use crate::replica::{exchange, key_of};
+use am_faults::Fault;
+use am_jobs::PullJob;
+use am_matcher::Hazard;
+use am_memberlist::states_text;
+use am_mend::{Handed, Refused, is_lacked, lacked, why_refused};
+use am_merge::Held;
+use am_report::{ListedWord, Manner, ReportLine};
+use am_snapshot::SnapshotError;
+use am_version_order::{Moment, Version};
+use am_wire::{Message, RowFault, Rows, write_varint};
+use std::alloc::{AllocError, Global};
+
+/// What is sent: the rows, as they were read, and their versions.
+#[derive(Drop)]
+pub struct Sent<V: Version> {
+    rows: Vec<u8>,
+    pub versions: Held<V>,
+}
+
+impl<V: Version> Sent<V> {
+    /// Sends the rows to a replica, in one exchange, where there are some.
+    ///
+    /// # Errors
+    ///
+    /// Why the replica didn't answer.
+    pub fn send<R: Host>(&self, rt: &R, to: &PullJob<'_>) -> Result<(), SourceFault> {
+        if self.rows.is_empty() {
+            return Ok(());
+        }
+        let Ok(states) = states_text(rt.alloc(), key_of(to.state), &self.rows) else {
+            return Err(SourceFault::Own(Fault::Memory(AllocError)));
+        };
+        exchange(rt, to, &states)?;
+        Ok(())
+    }
+}
+
+/// The versions that replicas are to hold, and the rows in which they stand.
+#[derive(Drop)]
+pub struct Mending<V: Version> {
+    pub rows: Vec<Vec<u8>>,
+    pub all: Held<V>,
+    pub moment: Moment,
+}
+
+/// The replica that a line is about: its name, where several are told of.
+#[derive(Clone, Copy)]
+pub struct Addressee<'n> {
+    pub name: Option<&'n str>,
+}
+
+impl<V: Handed + Message + ReportLine> Mending<V> {
+    /// Tells whether this is the version that counts of its key, the replica lacks it, and it isn't later than the moment.
+    #[tactic(auto, unfolding(am_version_order::specs::Versions::is_below))]
+    fn is_sent(&self, held: &Held<V>, version: &V) -> bool
+        // PROMISE: A replica is sent only what counts, what it lacks, and nothing of the future.
+        ensures sent { result ≡ is_sent V.seen V.Key.cmp self.now.all self.now.moment held.now version.now }
+    {
+        let counts = match self.all.get(version.key()) {
+            Some(best) => best.compare(version).is_eq(),
+            None => false,
+        };
+        counts && version.updated() <= self.moment && is_lacked(held, version)
+    }
+
+    /// Returns what is sent to a replica that holds these, each key once.
+    ///
+    /// # Errors
+    ///
+    /// A row at fault, and want of memory.
+    pub fn to_send(&self, alloc: Global, held: &Held<V>) -> Result<Sent<V>, SnapshotError> {
+        let mut sent = Sent {
+            rows: Vec::new(alloc),
+            versions: Held::new(alloc),
+        };
+        for row in &self.rows {
+            self.add_row(alloc, held, &mut sent, row)?;
+        }
+        Ok(sent)
+    }
+
+    /// Adds of a row what is to be sent.
+    fn add_row(
+        &self,
+        alloc: Global,
+        held: &Held<V>,
+        sent: &mut Sent<V>,
+        row: &[u8],
+    ) -> Result<(), SnapshotError> {
+        for text in Rows::new(row) {
+            let text = match text {
+                Ok(text) => text,
+                Err(error) => return Err(SnapshotError::from(RowFault::from(error))),
+            };
+            self.add(alloc, held, sent, text)?;
+        }
+        Ok(())
+    }
+
+    /// Adds a message to what is sent, where it is to be and its version has no hazard.
+    fn add(
+        &self,
+        alloc: Global,
+        held: &Held<V>,
+        sent: &mut Sent<V>,
+        text: &[u8],
+    ) -> Result<(), SnapshotError> {
+        let version = match V::decode(alloc, text) {
+            Ok(version) => version,
+            Err(error) => return Err(SnapshotError::from(RowFault::from(error))),
+        };
+        if !self.is_sent(held, &version) || version.hazard(alloc)?.is_some() {
+            return Ok(());
+        }
+        if sent.versions.insert_new(version)? {
+            sent.rows
+                .extend_from_slice(write_varint(text.len() as u64).as_slice())?;
+            sent.rows.extend_from_slice(text)?;
+        }
+        Ok(())
+    }
+
+    /// Appends a line for each version that is sent to a replica, and for each that isn't since it is later than the moment or has
+    /// a hazard. Returns whether there is one of these.
+    ///
+    /// # Errors
+    ///
+    /// Want of memory.
+    pub fn append_sent(
+        &self,
+        alloc: Global,
+        out: &mut String,
+        to: Addressee<'_>,
+        held: &Held<V>,
+        sent: &Sent<V>,
+    ) -> Result<bool, AllocError> {
+        for version in sent.versions.iter() {
+            append_line(out, version, Said::of("send"), to, self.moment)?;
+        }
+        let mut holds_back = false;
+        for version in lacked(alloc, held, &self.all)? {
+            if let Some(said) = self.why_held_back(alloc, version)? {
+                holds_back = true;
+                append_line(out, version, said, to, self.moment)?;
+            }
+        }
+        Ok(holds_back)
+    }
+
+    /// Returns what the line of a version that the replica lacks and isn't sent says: that it is later than the moment, or that it
+    /// is refused for its hazard.
+    fn why_held_back(&self, alloc: Global, version: &V) -> Result<Option<Said>, AllocError> {
+        if self.moment < version.updated() {
+            return Ok(Some(Said::of("later")));
+        }
+        Ok(match version.hazard(alloc)? {
+            Some(Hazard::Pattern) => Some(Said::refused(" by pattern")),
+            Some(Hazard::Matcher) => Some(Said::refused(" by matcher")),
+            None => None,
+        })
+    }
+
+    /// Appends a line for each version that a replica lacks though it was sent, with the cause. Returns whether there is one.
+    ///
+    /// # Errors
+    ///
+    /// Want of memory.
+    pub fn append_refused(
+        &self,
+        alloc: Global,
+        out: &mut String,
+        to: Addressee<'_>,
+        held: &Held<V>,
+    ) -> Result<bool, AllocError> {
+        let mut found = false;
+        for version in lacked(alloc, held, &self.all)? {
+            if self.why_held_back(alloc, version)?.is_none() {
+                let why = why_refused(held.get(version.key()), version, self.moment);
+                append_line(out, version, Said::refused(cause(why)), to, self.moment)?;
+                found = true;
+            }
+        }
+        Ok(found)
+    }
+}
+
+/// What the line of a version says of it, and its last words.
+#[derive(Clone, Copy)]
+struct Said {
+    relation: &'static str,
+    cause: &'static str,
+}
+
+impl Said {
+    fn of(relation: &'static str) -> Said {
+        Said {
+            relation,
+            cause: "",
+        }
+    }
+
+    fn refused(cause: &'static str) -> Said {
+        Said {
+            relation: "refused",
+            cause,
+        }
+    }
+}
+
+/// Returns why a version isn't held, as the last words of its line.
+fn cause(why: Refused) -> &'static str {
+    match why {
+        Refused::Expired => " by expiry",
+        Refused::Tie => " by tie",
+        Refused::Other => " by replica",
+    }
+}
+
+/// Appends the line of a version: its key, what is said of it, the replica, the version, and the cause.
+fn append_line<V: ReportLine>(
+    out: &mut String,
+    version: &V,
+    said: Said,
+    to: Addressee<'_>,
+    moment: Moment,
+) -> Result<(), AllocError> {
+    let manner = Manner {
+        moment,
+        has_expiries: true,
+        is_long: false,
+    };
+    V::append_key(out, version.key())?;
+    write!(out, " {} ", said.relation)?;
+    if let Some(name) = to.name {
+        write!(out, "{} ", ListedWord(name.as_bytes()))?;
+    }
+    version.append_told(out, &manner)?;
+    writeln!(out, "{}", said.cause)
+}

@@ -1,0 +1,260 @@
+//! Sources that are opened: files, with the logs beside them where these are asked for, standard input, and what a replica told.
+
+ghost use Rattle.std.specs.Prelude.{◌≡◌, ℕ, List, IfOk, IfErr, IfSome, Option};
+ghost use Rattle.am_merge.specs.Maps.{IsMap};
+ghost use Rattle.am_commands.specs.Rows.{GivesOpened, GivesRow, StopsRow};
+
+use crate::fault::SourceFault;
+use crate::host::Host;
+use crate::replica::ToldRow;
+use crate::rows::take_within;
+use crate::source::Source;
+use am_disk::FileFault;
+use am_faults::Fault;
+use am_files::{LogFault, Logs, WholeFile};
+use am_jobs::STANDARD_INPUT;
+use am_merge::Held;
+use am_snapshot::{SnapshotError, load_within};
+use am_version_order::Version;
+use am_wire::Message;
+use std::alloc::Global;
+use std::fs;
+use std::io::{self, BufReader, ErrorKind, Read, Stdin};
+
+/// Where the row of a source stands.
+#[derive(Drop)]
+pub enum Origin {
+    File(WholeFile),
+    StandardInput(Stdin),
+    /// What a replica told that was asked by its gossip.
+    Replica(ToldRow),
+}
+
+impl Read for Origin {
+    fn read(&mut self, buf: &mut [u8]) -> io::Result<usize> {
+        match self {
+            Origin::File(file) => file.read(buf),
+            Origin::StandardInput(input) => input.read(buf),
+            Origin::Replica(row) => row.read(buf),
+        }
+    }
+}
+
+/// Opens the row of a source: a file, or standard input.
+///
+/// # Errors
+///
+/// [`FileFault::NotAFile`] of a directory, and what the system says.
+pub fn open_row<R: Host>(rt: &R, input: Stdin, file: &str) -> Result<BufReader<Origin>, FileFault> {
+    let origin = if file == STANDARD_INPUT {
+        Origin::StandardInput(input)
+    } else {
+        Origin::File(open_file(rt, file)?)
+    };
+    Ok(BufReader::new(rt.alloc(), origin)?)
+}
+
+/// Opens a file, or a pipe that stands in its place.
+fn open_file<R: Host>(rt: &R, file: &str) -> Result<WholeFile, FileFault> {
+    if fs::metadata(rt, file)?.is_dir() {
+        return Err(FileFault::NotAFile);
+    }
+    WholeFile::open(rt, file)
+}
+
+/// Whether a key may come twice in the row of a source.
+#[derive(Clone, Copy)]
+pub enum Keys {
+    /// It may not, as in a snapshot.
+    Once,
+    /// It may, and its greatest version counts.
+    Repeated,
+}
+
+/// How the row of a source is read.
+#[derive(Clone, Copy)]
+pub struct Reading {
+    pub keys: Keys,
+    /// The most bytes of the row, and of the map with what logs add.
+    pub most: u32,
+}
+
+/// A source that is opened: its row, and the logs beside it.
+#[derive(Drop)]
+pub struct Opened<R: Drop> {
+    /// None where logs stand beside no file.
+    pub row: Option<R>,
+    /// None where no logs are asked for.
+    pub logs: Option<Logs>,
+    pub reading: Reading,
+}
+
+/// A source is read to its end: the map of its row, joined with what the logs have.
+impl<V: Version + Message, R: Read + Drop> Source<V> for Opened<R> {
+    ghost use Rattle.am_commands.specs.Rows.{GivesOpened, StopsOpened, UnlessLogged};
+
+    ghost gives = { λ opened held. UnlessLogged opened.logs (GivesOpened V.seen V.reads R.remaining opened.reading.keys opened.row held) };
+
+    ghost stops = { λ opened fault.
+        UnlessLogged opened.logs (StopsOpened V.seen V.reads R.remaining opened.reading.keys opened.reading.most opened.row fault) };
+
+    fn read(&mut self, alloc: Global) -> Result<Held<V>, SourceFault> {
+        let Reading { most, .. } = self.reading;
+        let held = match read_row(alloc, &mut self.row, self.reading) {
+            Ok(held) => held,
+            Err(error) => return Err(SourceFault::Own(Fault::Snapshot(error))),
+        };
+        match self.logs.take() {
+            Some(logs) => join_logs(alloc, held, logs, most),
+            None => Ok(held),
+        }
+    }
+}
+
+/// Reads the row of a source, where it has one.
+fn read_row<V: Version + Message, R: Read + Drop>(
+    alloc: Global,
+    row: &mut Option<R>,
+    reading: Reading,
+) -> Result<Held<V>, SnapshotError>
+    ensures order { IfOk result (IsMap V.seen V.Key.cmp) }
+    ensures given { IfOk result (GivesOpened V.seen V.reads R.remaining reading.keys row.old) }
+    ensures stopped { IfErr result (λ e. IfSome row.old (λ reader. IfSome (R.remaining reader) (λ bytes.
+        (left : Option (List ℕ)) × StopsRow V.seen V.reads reading.keys reading.most bytes left e))) }
+    ensures some { IfErr result (λ e. (reader : R) × (row.old ≡ Some reader)) }
+{
+    match row {
+        Some(row) => take_or_load(alloc, row, reading),
+        None => {
+            let held = Held::new(alloc);
+            held.has_values();
+            Ok(held)
+        }
+    }
+}
+
+/// Reads a row to its end.
+fn take_or_load<V: Version + Message, R: Read>(
+    alloc: Global,
+    row: &mut R,
+    reading: Reading,
+) -> Result<Held<V>, SnapshotError>
+    ensures order { IfOk result (IsMap V.seen V.Key.cmp) }
+    ensures given { IfOk result (λ held. IfSome (R.remaining row.old) (λ bytes. GivesRow V.seen V.reads reading.keys bytes held)) }
+    ensures stopped { IfErr result (λ e. IfSome (R.remaining row.old) (λ bytes.
+        (left : Option (List ℕ)) × StopsRow V.seen V.reads reading.keys reading.most bytes left e)) }
+{
+    match reading.keys {
+        Keys::Once => match load_within(alloc, row, reading.most) {
+            Ok(held) => Ok(held),
+            Err(error) => Err(error),
+        },
+        Keys::Repeated => match take_within(alloc, row, reading.most) {
+            Ok(held) => Ok(held),
+            Err(fault) => Err(SnapshotError::from(fault)),
+        },
+    }
+}
+
+/// Joins what logs have into a map.
+fn join_logs<V: Version + Message>(
+    alloc: Global,
+    mut held: Held<V>,
+    logs: Logs,
+    most: u32,
+) -> Result<Held<V>, SourceFault>
+    ensures { IfOk result (IsMap V.seen V.Key.cmp) }
+{
+    match logs.join(alloc, &mut held, most) {
+        Ok(()) => {
+            held.has_values();
+            Ok(held)
+        }
+        Err(fault) => Err(SourceFault::of_log(fault)),
+    }
+}
+
+/// Opens a source, and the logs beside it where these are asked for.
+///
+/// # Errors
+///
+/// Of the log or the file that isn't opened.
+pub fn open<R: Host>(
+    rt: &R,
+    input: Stdin,
+    file: &str,
+    has_logs: bool,
+    reading: Reading,
+) -> Result<Opened<BufReader<Origin>>, SourceFault> {
+    let logs = match logs_beside(rt, file, has_logs) {
+        Ok(logs) => logs,
+        Err(fault) => return Err(SourceFault::of_log(fault)),
+    };
+    // (behind the logs, so that nothing is missed that goes from them into the file meanwhile)
+    match open_row(rt, input, file) {
+        Ok(row) => Ok(Opened {
+            row: Some(row),
+            logs,
+            reading,
+        }),
+        Err(FileFault::File(ErrorKind::NotFound)) if are_there(&logs) => Ok(Opened {
+            row: None,
+            logs,
+            reading,
+        }),
+        Err(fault) => Err(SourceFault::Own(Fault::File(fault))),
+    }
+}
+
+/// Opens the logs beside a source, where these are asked for. Standard input has none.
+fn logs_beside<R: Host>(rt: &R, file: &str, has_logs: bool) -> Result<Option<Logs>, LogFault> {
+    if has_logs && file != STANDARD_INPUT {
+        Ok(Some(Logs::open(rt, file)?))
+    } else {
+        Ok(None)
+    }
+}
+
+/// Tells whether there are logs.
+fn are_there(logs: &Option<Logs>) -> bool {
+    match logs {
+        Some(logs) => logs.are_there(),
+        None => false,
+    }
+}
+
+/// A source that is opened when it is read.
+pub struct Unopened<'a, R: Host> {
+    pub rt: &'a R,
+    pub input: Stdin,
+    /// Its path, or `-`.
+    pub file: &'a str,
+    pub has_logs: bool,
+    pub reading: Reading,
+}
+
+impl<'a, R: Host> Drop for Unopened<'a, R> {
+    fn drop(self) {
+        let Self {
+            rt: _,
+            input: _,
+            file: _,
+            has_logs: _,
+            reading: _,
+        } = self;
+    }
+}
+
+/// No clause says what a path opens; what is opened gives the map.
+impl<'a, V: Version + Message, R: Host> Source<V> for Unopened<'a, R> {
+    ghost use Rattle.std.specs.Prelude.{⊤};
+
+    ghost gives = { λ _ _. ⊤ };
+
+    ghost stops = { λ _ _. ⊤ };
+
+    fn read(&mut self, alloc: Global) -> Result<Held<V>, SourceFault> {
+        let mut opened = open(self.rt, self.input, self.file, self.has_logs, self.reading)?;
+        opened.read(alloc)
+    }
+}
