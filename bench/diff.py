@@ -25,7 +25,7 @@ def write(count, wave, out):
     with open(out, "wb", buffering=1 << 20) as f:
         for i in range(count):
             r = random.Random(i)
-            f.write(delimited(rows.silence(r, rows.identifier(r), i, wave if i % 10 == 0 else 0)))
+            f.write(delimited(b"".join(rows.silence(r, rows.identifier(r), i, wave if i % 10 == 0 else 0))))
 
 
 def measure(program, count, rounds, folder):

@@ -3,11 +3,14 @@
 //!     rustc -C opt-level=3 -o plain_fold plain_fold.rs
 //!     plain_fold sil|nfl < ROW > WINNERS
 //!
-//! A hand-written reader of the messages into owned values, a BTreeMap from key to the greatest version
-//! (update moment, expiry, canonical bytes), and a writer in key order. No crate but std. It knows nothing
-//! of faults and panics at them: this is a yardstick and not a product.
+//! A version that is in canonical form already is read where it lies, and what is kept of it is its place in the input; any other
+//! one is read into owned values and written anew. A hash map from key to the greatest version (update moment, expiry, canonical
+//! bytes), sorted once at the end. No crate but std. It knows nothing of faults and panics at them: this is a yardstick and not a
+//! product.
 
-use std::collections::BTreeMap;
+use std::collections::HashMap;
+use std::collections::hash_map::Entry as Place;
+use std::hash::{BuildHasherDefault, Hasher};
 use std::io::{Read, Write};
 
 #[derive(Clone, Copy, PartialEq, Eq, PartialOrd, Ord, Default)]
@@ -40,7 +43,6 @@ struct Silence {
     by: String,
     comment: String,
     expires: Stamp,
-    canonical: Vec<u8>,
 }
 
 fn varint(b: &[u8], at: &mut usize) -> u64 {
@@ -130,7 +132,6 @@ fn read_silence(b: &[u8]) -> Silence {
         by: String::new(),
         comment: String::new(),
         expires: ZERO,
-        canonical: Vec::new(),
     };
     fields(b, |n, f| match n {
         1 => fields(bytes(f), |n, f| match n {
@@ -265,7 +266,6 @@ struct Entry {
     firing: Vec<u64>,
     resolved_alerts: Vec<u64>,
     expires: Stamp,
-    canonical: Vec<u8>,
 }
 
 fn numbers(v: Value, out: &mut Vec<u64>) {
@@ -289,7 +289,6 @@ fn read_entry(b: &[u8]) -> Entry {
         firing: Vec::new(),
         resolved_alerts: Vec::new(),
         expires: ZERO,
-        canonical: Vec::new(),
     };
     fields(b, |n, f| match n {
         1 => fields(bytes(f), |n, f| match n {
@@ -353,65 +352,179 @@ fn write_entry(e: &Entry, out: &mut Vec<u8>) {
     put_stamp(out, 18, e.expires);
 }
 
-trait Version {
-    type Key: Ord + Clone;
+// ---- canonical versions, which are read where they lie
 
-    fn read(b: &[u8]) -> Self;
+/// What is left of a message that is read in canonical form; none where it isn't in that form.
+#[derive(Clone, Copy)]
+struct Rest<'a>(&'a [u8]);
 
-    fn write(&self, out: &mut Vec<u8>);
+impl<'a> Rest<'a> {
+    fn is_next(&self, tag: u8) -> bool {
+        self.0.first() == Some(&tag)
+    }
 
-    fn keep(&mut self, canonical: Vec<u8>);
+    /// A number in its shortest form.
+    fn number(&mut self) -> Option<u64> {
+        let mut n = 0u64;
+        for (i, x) in self.0.iter().enumerate().take(10) {
+            n |= u64::from(x & 0x7f) << (7 * i);
+            if *x < 0x80 {
+                if (*x == 0 && i > 0) || (i == 9 && *x > 1) {
+                    return None;
+                }
+                self.0 = &self.0[i + 1..];
+                return Some(n);
+            }
+        }
+        None
+    }
 
-    fn key(&self) -> &Self::Key;
+    /// The bytes of a field of this tag, which has to be there.
+    fn bytes(&mut self, tag: u8) -> Option<&'a [u8]> {
+        if !self.is_next(tag) {
+            return None;
+        }
+        self.0 = &self.0[1..];
+        let n = self.number()? as usize;
+        if n > self.0.len() {
+            return None;
+        }
+        let (front, behind) = self.0.split_at(n);
+        self.0 = behind;
+        Some(front)
+    }
 
-    fn rank(&self) -> (Stamp, Stamp, &[u8]);
+    /// The bytes of a field of this tag, which isn't there where they are none.
+    fn some_bytes(&mut self, tag: u8) -> Option<&'a [u8]> {
+        if !self.is_next(tag) {
+            return Some(&[]);
+        }
+        self.bytes(tag).filter(|b| !b.is_empty())
+    }
+
+    fn some_text(&mut self, tag: u8) -> Option<&'a [u8]> {
+        self.some_bytes(tag).filter(|b| std::str::from_utf8(b).is_ok())
+    }
+
+    /// A number of a field of this tag, which isn't there where it is 0.
+    fn some_number(&mut self, tag: u8) -> Option<u64> {
+        if !self.is_next(tag) {
+            return Some(0);
+        }
+        self.0 = &self.0[1..];
+        self.number().filter(|n| *n != 0)
+    }
+
+    fn stamp(&mut self, tag: u8) -> Option<Stamp> {
+        let mut it = Rest(self.bytes(tag)?);
+        let seconds = it.some_number(8)? as i64;
+        let nanos = it.some_number(16)?;
+        let is_right = nanos < 1_000_000_000 && (-62_135_596_800..=253_402_300_799).contains(&seconds) && it.0.is_empty();
+        is_right.then_some(Stamp { seconds, nanos: nanos as i32 })
+    }
+
+    fn end(self) -> Option<()> {
+        self.0.is_empty().then_some(())
+    }
 }
 
-impl Version for Silence {
-    type Key = String;
-
-    fn read(b: &[u8]) -> Self {
-        read_silence(b)
-    }
-
-    fn write(&self, out: &mut Vec<u8>) {
-        write_silence(self, out);
-    }
-
-    fn keep(&mut self, canonical: Vec<u8>) {
-        self.canonical = canonical;
-    }
-
-    fn key(&self) -> &String {
-        &self.id
-    }
-
-    fn rank(&self) -> (Stamp, Stamp, &[u8]) {
-        (self.updated, self.expires, &self.canonical)
-    }
+/// What counts of a version: its key, its moments, and its canonical bytes.
+struct Kept<'a, K> {
+    key: K,
+    rank: (Stamp, Stamp),
+    canonical: &'a [u8],
 }
 
-impl Version for Entry {
-    type Key = LogKey;
+fn silence_at(row: &[u8]) -> Option<Kept<'_, &[u8]>> {
+    let mut mesh = Rest(row);
+    let mut it = Rest(mesh.bytes(10)?);
+    let key = it.some_text(10)?;
+    while it.is_next(18) {
+        let mut m = Rest(it.bytes(18)?);
+        if m.some_number(8)? > 3 {
+            return None;
+        }
+        m.some_text(18)?;
+        m.some_text(26)?;
+        m.end()?;
+    }
+    it.stamp(26)?;
+    it.stamp(34)?;
+    let updated = it.stamp(42)?;
+    it.some_text(66)?;
+    it.some_text(74)?;
+    it.end()?;
+    let expires = mesh.stamp(18)?;
+    mesh.end()?;
+    Some(Kept { key, rank: (updated, expires), canonical: row })
+}
 
-    fn read(b: &[u8]) -> Self {
-        read_entry(b)
+/// The parts of an entry's key.
+type Parts<'a> = (&'a [u8], &'a [u8], &'a [u8], u32);
+
+fn hashes(it: &mut Rest, tag: u8) -> Option<()> {
+    let mut all = Rest(it.some_bytes(tag)?);
+    while !all.0.is_empty() {
+        all.number()?;
+    }
+    Some(())
+}
+
+fn entry_at(row: &[u8]) -> Option<Kept<'_, Parts<'_>>> {
+    let mut mesh = Rest(row);
+    let mut it = Rest(mesh.bytes(10)?);
+    let group_key = it.some_bytes(10)?;
+    let mut receiver = Rest(it.bytes(18)?);
+    let (name, integration) = (receiver.some_text(10)?, receiver.some_text(18)?);
+    let index = receiver.some_number(24).filter(|n| *n <= u64::from(u32::MAX))? as u32;
+    receiver.end()?;
+    it.some_bytes(26)?;
+    if it.some_number(32)? > 1 {
+        return None;
+    }
+    let updated = it.stamp(42)?;
+    hashes(&mut it, 50)?;
+    hashes(&mut it, 58)?;
+    it.end()?;
+    let expires = mesh.stamp(18)?;
+    mesh.end()?;
+    Some(Kept { key: (group_key, name, integration, index), rank: (updated, expires), canonical: row })
+}
+
+// ---- any other ones, which are written anew
+
+fn silence_anew<'a>(row: &[u8]) -> Kept<'a, &'a [u8]> {
+    let v: &'static Silence = Box::leak(Box::new(read_silence(row)));
+    let mut canonical = Vec::with_capacity(row.len());
+    write_silence(v, &mut canonical);
+    Kept { key: v.id.as_bytes(), rank: (v.updated, v.expires), canonical: canonical.leak() }
+}
+
+fn entry_anew<'a>(row: &[u8]) -> Kept<'a, Parts<'a>> {
+    let e: &'static Entry = Box::leak(Box::new(read_entry(row)));
+    let mut canonical = Vec::with_capacity(row.len());
+    write_entry(e, &mut canonical);
+    let key = (e.key.group_key.as_slice(), e.key.group_name.as_bytes(), e.key.integration.as_bytes(), e.key.idx);
+    Kept { key, rank: (e.at, e.expires), canonical: canonical.leak() }
+}
+
+// ---- the fold
+
+/// A hash of eight bytes at a time, by multiplication and rotation.
+#[derive(Default)]
+struct Quick(u64);
+
+impl Hasher for Quick {
+    fn write(&mut self, bytes: &[u8]) {
+        for eight in bytes.chunks(8) {
+            let mut word = [0u8; 8];
+            word[..eight.len()].copy_from_slice(eight);
+            self.0 = (self.0.rotate_left(5) ^ u64::from_le_bytes(word)).wrapping_mul(0x517c_c1b7_2722_0a95);
+        }
     }
 
-    fn write(&self, out: &mut Vec<u8>) {
-        write_entry(self, out);
-    }
-
-    fn keep(&mut self, canonical: Vec<u8>) {
-        self.canonical = canonical;
-    }
-
-    fn key(&self) -> &LogKey {
-        &self.key
-    }
-
-    fn rank(&self) -> (Stamp, Stamp, &[u8]) {
-        (self.at, self.expires, &self.canonical)
+    fn finish(&self) -> u64 {
+        self.0
     }
 }
 
@@ -424,37 +537,43 @@ fn rows<'a>(b: &'a [u8], mut each: impl FnMut(&'a [u8])) {
     }
 }
 
-fn take<V: Version>(held: &mut BTreeMap<V::Key, V>, mut v: V) {
-    let mut canonical = Vec::with_capacity(256);
-    v.write(&mut canonical);
-    v.keep(canonical);
-    if let Some(h) = held.get_mut(v.key()) {
-        if h.rank() < v.rank() {
-            *h = v;
+fn fold<'a, K: std::hash::Hash + Ord + Copy>(
+    data: &'a [u8],
+    at: impl Fn(&'a [u8]) -> Option<Kept<'a, K>>,
+    anew: impl Fn(&'a [u8]) -> Kept<'a, K>,
+) {
+    let mut held: HashMap<K, Kept<'a, K>, BuildHasherDefault<Quick>> = HashMap::default();
+    rows(data, |row| {
+        let v = at(row).unwrap_or_else(|| anew(row));
+        match held.entry(v.key) {
+            Place::Occupied(mut place) => {
+                let h = place.get();
+                if (h.rank, h.canonical) < (v.rank, v.canonical) {
+                    place.insert(v);
+                }
+            }
+            Place::Vacant(place) => {
+                place.insert(v);
+            }
         }
-    } else {
-        held.insert(v.key().clone(), v);
-    }
-}
-
-fn fold<V: Version>() {
-    let mut data = Vec::new();
-    std::io::stdin().read_to_end(&mut data).expect("input");
-    let mut held: BTreeMap<V::Key, V> = BTreeMap::new();
-    rows(&data, |row| take(&mut held, V::read(row)));
+    });
+    let mut winners: Vec<_> = held.into_values().collect();
+    winners.sort_unstable_by(|v, w| v.key.cmp(&w.key));
     let mut out = Vec::with_capacity(data.len());
-    for v in held.values() {
-        let canonical = v.rank().2;
-        put_varint(&mut out, canonical.len() as u64);
-        out.extend_from_slice(canonical);
+    for v in &winners {
+        put_varint(&mut out, v.canonical.len() as u64);
+        out.extend_from_slice(v.canonical);
     }
     std::io::stdout().write_all(&out).expect("output");
 }
 
 fn main() {
+    let mut data = Vec::new();
+    std::io::stdin().read_to_end(&mut data).expect("input");
+    let data: &'static [u8] = data.leak();
     match std::env::args().nth(1).as_deref() {
-        Some("sil") => fold::<Silence>(),
-        Some("nfl") => fold::<Entry>(),
+        Some("sil") => fold(data, silence_at, silence_anew),
+        Some("nfl") => fold(data, entry_at, entry_anew),
         _ => panic!("sil or nfl"),
     }
 }

@@ -7,6 +7,9 @@ from lib.wire import delimited, field, timestamp, varint
 NOW = 1_800_000_000
 ORDERS = ["random", "rising", "falling"]
 
+# How versions are written: in canonical form, with the moment of their expiry first, or these by turns.
+SPELLINGS = ["canonical", "other", "mixed"]
+
 
 def identifier(r):
     h = "%032x" % r.getrandbits(128)
@@ -28,7 +31,7 @@ def silence(r, key, i, wave):
             + field(3, timestamp(NOW - 7200, 123456789)) + field(4, timestamp(end, 0))
             + field(5, timestamp(NOW - 7200 + wave * 60, r.randrange(1, 10 ** 9)))
             + field(8, b"ops@example.org") + field(9, b"maintenance window %d" % i))
-    return field(1, body) + field(2, timestamp(end + 432000, 0))
+    return [field(1, body), field(2, timestamp(end + 432000, 0))]
 
 
 def entry(r, key, i, wave):
@@ -37,11 +40,12 @@ def entry(r, key, i, wave):
     resolved = b"".join(varint(r.getrandbits(64)) for _ in range(i % 3))
     body = (field(1, key) + field(2, receiver) + field(5, timestamp(NOW - 3600 + wave * 60, r.randrange(1, 10 ** 9)))
             + field(6, firing) + (field(7, resolved) if resolved else b""))
-    return field(1, body) + field(2, timestamp(NOW + 86400 + i % 1000, 0))
+    return [field(1, body), field(2, timestamp(NOW + 86400 + i % 1000, 0))]
 
 
-def write(state, count, keys, out, order="random"):
+def write(state, count, keys, out, order="random", spelling="canonical"):
     """Writes versions of so many keys, in mixed order or in rising or falling order of these."""
+    turned = {"canonical": (0, 0), "other": (1, 1), "mixed": (0, 1)}[spelling]
     r = random.Random(1)
     names, message = (identifier, silence) if state == "sil" else (group_key, entry)
     ids = [names(r) for _ in range(keys)]
@@ -51,8 +55,9 @@ def write(state, count, keys, out, order="random"):
     else:
         both.sort(key=lambda x: (ids[x[0]], x[1]), reverse=order == "falling")
     with open(out, "wb", buffering=1 << 20) as f:
-        for i, wave in both:
-            f.write(delimited(message(r, ids[i], i, wave)))
+        for place, (i, wave) in enumerate(both):
+            fields = message(r, ids[i], i, wave)
+            f.write(delimited(b"".join(reversed(fields) if turned[place % 2] else fields)))
 
 
 def write_small(out, limit, falling):

@@ -24,7 +24,7 @@ import time
 
 import page_source
 from lib import members, versions
-from lib.api import silence
+from lib.api import request, silence
 from lib.members import TOP, Member, Stoppable, begun, eventually, free_ports, outcome, run
 from lib.tally import check, compare, finish, skip, try_each
 from lib.wire import EMPTY_PUSH, delimited, delta, greeting
@@ -344,6 +344,48 @@ def test_counts(folder):
     member.kill()
 
 
+def group(key):
+    """The body of a message of a group with one alert."""
+    alert = {"status": "firing", "labels": {"alertname": key}}
+    return json.dumps({"version": "4", "groupKey": key, "receiver": "r", "status": "firing", "alerts": [alert]}).encode()
+
+
+def test_driven(folder):
+    """Figures that are driven to a known value."""
+    peer, port = free_ports(2)
+    member = Member("b", port, [("a", peer)], folder, ["--time-limit", "1", "--peer-timeout", "600"])
+    entries = [versions.entry(f"g{it}:x r/webhook/0 updated 10 expires 6000000000 firing 1") for it in range(5)]
+    members.write(member.nfl, b"".join(map(delimited, entries)))
+    member.start()
+    compare("entries of the file", figures(member).get("maityrunga_log_entries"), 5)
+    _, answer = member.ask("POST", "/v1/decide?wait=false", group("one"))
+    compare("a notice", member.ask("POST", "/v1/notified", answer)[0], 200)
+    compare("and its entry", figures(member).get("maityrunga_log_entries"), 6)
+    for waiting in (1, 2):
+        # (whose turn comes after ten minutes, as this member is the second one)
+        members.asked(member, request("POST", "/v1/decide", group(f"later {waiting}")))
+        found = eventually(lambda: figures(member).get("maityrunga_requests_waiting") == waiting)
+        check(f"{waiting} wait for their turn", found, figures(member).get("maityrunga_requests_waiting"))
+    for count in (1, 2):
+        members.received(members.asked(member, b""))
+        found = eventually(lambda: figures(member).get("maityrunga_connections_broken_total", cause="time") == count)
+        check(f"{count} said nothing in time", found, member.lines)
+    for cause in ("read", "write", "crowded", "unfinished"):
+        compare(f"no other cause: {cause}", figures(member).get("maityrunga_connections_broken_total", cause=cause), 0)
+    for _ in range(40):
+        member.listed()
+    spent, found = processor_seconds(member.process.pid), figures(member).get("process_cpu_seconds_total")
+    check("the processor's time is the system's", 0 < spent <= found + 0.02 and found <= processor_seconds(member.process.pid) + 0.02, (spent, found))
+    member.kill()
+
+
+def processor_seconds(process):
+    """How long a process has had the processor, as the system counts it."""
+    with open(f"/proc/{process}/stat", encoding="ascii") as file:
+        words = file.read().rpartition(")")[2].split()
+    return (int(words[11]) + int(words[12])) / os.sysconf("SC_CLK_TCK")
+
+
 def test_saves(folder):
     """Saves that are done, and saves that fail."""
     (port,) = free_ports(1)
@@ -591,7 +633,7 @@ def test_completions(_folder):
 
 
 TESTS = [
-    test_calls, test_status, test_first_pull, test_stop, test_text, test_counts, test_saves, test_log, test_many, test_rules,
+    test_calls, test_status, test_first_pull, test_stop, test_text, test_counts, test_driven, test_saves, test_log, test_many, test_rules,
     test_unit, test_install, test_lacking_file, test_ready, test_upgrade, test_scrape, test_backup, test_completions,
 ]  # fmt: skip
 

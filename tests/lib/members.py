@@ -162,11 +162,11 @@ def asked(member, data):
 
 def received(stream):
     """What comes until a connection ends; it is an error where it doesn't in time."""
-    data = b""
+    data = bytearray()
     with contextlib.suppress(ConnectionError):
         while piece := stream.recv(65536):
             data += piece
-    return data
+    return bytes(data)
 
 
 def sent(at, *pieces, close=True):

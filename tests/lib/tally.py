@@ -1,4 +1,5 @@
-"""What a script passed, failed and skipped, and its last lines, which .ci/run reads."""
+"""What a script passed, failed and skipped, and its last lines, which .ci/run reads. The words `-k WORD` of a script's command have it
+run only the tests whose names have that word in them."""
 
 import contextlib
 import os
@@ -6,6 +7,19 @@ import sys
 import time
 
 passed, failed, skipped = 0, 0, []
+
+
+def word_of(words):
+    """The word of `-k` among the words of a command, from which both are taken."""
+    if "-k" not in words[:-1]:
+        return ""
+    at = words.index("-k")
+    word = words[at + 1]
+    del words[at : at + 2]
+    return word
+
+
+WORD = word_of(sys.argv)
 
 
 def count(holds):
@@ -45,6 +59,8 @@ def attempt(name, said=None):
 def try_each(tests, folder):
     """Runs tests, each in a folder of its own; where one can't go on it fails, and the others are tried."""
     for test in tests:
+        if WORD not in test.__name__:
+            continue
         place = f"{folder}/{test.__name__}"
         os.mkdir(place)
         begun = time.monotonic()
