@@ -253,6 +253,12 @@ def test_time_of_wait(folder):
 # ---- the clock
 
 
+def figure(member, name):
+    """The figure of a family without labels."""
+    _, text = member.ask("GET", "/metrics")
+    return float(re.search(rf"^{name} (\S+)$", text.decode(), re.M)[1])
+
+
 def test_clock(folder):
     """A clock that comes back is told, and told again when it has caught up."""
     shift = f"{folder}/shift"
@@ -267,10 +273,14 @@ def test_clock(folder):
     check("a clock that came back is told", eventually(lambda: len(member.lines) > 1, 20), member.lines)
     told = re.fullmatch(r"am_tool: Clock Behind (\d+)", member.lines[-1])
     check("by so many seconds", told is not None and 20 <= int(told[1]) <= 40, member.lines)
+    behind = figure(member, "maityrunga_clock_behind_seconds")
+    check("and counted", told is not None and abs(behind - int(told[1])) < 10, behind)
     time.sleep(2.5)
     compare("once", len(member.lines), 2)
     write(shift, b"50")
     check("it is told that it caught up", eventually(lambda: member.lines[2:] == ["am_tool: Clock CaughtUp"], 20), member.lines)
+    behind = figure(member, "maityrunga_clock_behind_seconds")
+    check("and it is behind no more", behind < 1, behind)
     compare("a stop", member.stop(), 0)
     write(shift, b"0")
     again = begun(Stoppable("c", *free_ports(1), [], folder, **under_library(CLOCK=shift)))
@@ -503,6 +513,12 @@ def test_foreign(folder):
     compare("a path that names nothing", asks(member, page, "GET /nowhere"), FOREIGN_HOST)
     compare("HEAD, which no body is told", asks(member, page, "HEAD /api/v2/silences"), (403, b""))
     compare("a body without a length", asks(member, [*page, "Transfer-Encoding: chunked"]), FOREIGN_HOST)
+    for path in ("/-/healthy", "/-/ready"):
+        compare(f"GET {path} by an address", asks(member, ["Host: 10.0.0.7:9093"], f"GET {path}"), (200, b"OK"))
+        compare(f"HEAD {path} by an address", asks(member, ["Host: 10.0.0.7:9093"], f"HEAD {path}"), (200, b""))
+        compare(f"{path} of a foreign page", asks(member, page[:1] + ["Origin: http://evil.example"], f"GET {path}"), FOREIGN_ORIGIN)
+        for other in (f"{path}/", f"{path}?a=b", path.upper()):
+            compare(f"GET {other} by another name", asks(member, page[:1], f"GET {other}"), FOREIGN_HOST)
     compare("nothing was posted", member.listed(), [])
     compare("the end", (member.stop(), member.lines[1:]), (0, []))
 

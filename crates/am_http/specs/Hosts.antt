@@ -2,7 +2,7 @@
 use Rattle.std.specs.Prelude.{◌≡◌, ◌⊎◌, ◌==◌, ◌||◌, ℕ, ◌+◌, ◌<◌, Bool, true, false, not, List, [], ◌∷◌, length, take, drop, map, codes, Option, None, Some, slice_get, if◌then◌else◌}
 use Rattle.std.specs.Borrow.{Bor}
 use Rattle.std.specs.List.{take_while, list_all, list_any}
-use Rattle.std.specs.Str.{str_eq_ignore_ascii_case}
+use Rattle.std.specs.Str.{bytes_eq, str_eq_ignore_ascii_case}
 use Rattle.httparse.specs.Grammar.{RequestHead}
 use Rattle.am_http.specs.declared.hosts.Foreign.{Foreign}
 use Rattle.am_http.specs.declared.hosts.Foreign.TheVariants as names_foreign
@@ -68,23 +68,31 @@ is_fine_field what names field = if str_eq_ignore_ascii_case field.0 (field_of w
 abbrev pub all_known : Foreign → List (List ℕ) → List NamedValue → Bool
 all_known what names fields = list_all (is_fine_field what names) fields
 
+-- the target of a request for whether a server is up, or is ready: who probes it names whatever host it was told
+abbrev pub is_probe : List ℕ → Bool
+is_probe target = bytes_eq target (codes "/-/healthy") || bytes_eq target (codes "/-/ready")
+
+-- no host is foreign, or whatever host is named makes no difference
+abbrev pub may_ask : List (List ℕ) → RequestHead → Bool
+may_ask names head = is_probe head.target || all_known names_foreign.Host names (fields_of head)
+
 -- what a foreign request is answered (RFC 9110, section 15.5.4), by its head alone where it asks for no more
 abbrev pub line_of_foreign : Foreign → Bool → RefusalLine
 line_of_foreign names_foreign.Host bare = record (line 403 (codes "foreign host")) { bare = bare }
 line_of_foreign names_foreign.Origin bare = record (line 403 (codes "foreign origin")) { bare = bare }
 
--- this is the first that is foreign of the fields of a head, hosts before origins
+-- this is the first that is foreign of the fields of a head, hosts before origins (a probe's host is never foreign)
 abbrev pub IsFirstForeign : List (List ℕ) → RequestHead → Foreign → Type 0
-IsFirstForeign names head names_foreign.Host = all_known names_foreign.Host names (fields_of head) ≡ false
+IsFirstForeign names head names_foreign.Host = may_ask names head ≡ false
 IsFirstForeign names head names_foreign.Origin =
-    (all_known names_foreign.Host names (fields_of head) ≡ true) × (all_known names_foreign.Origin names (fields_of head) ≡ false)
+    (may_ask names head ≡ true) × (all_known names_foreign.Origin names (fields_of head) ≡ false)
 
 -- What the bytes that came of a request say of where it comes from: the first field that is foreign, and whether its method is HEAD;
 -- nothing foreign is named in the head, or it is at fault; or it isn't whole.
 abbrev pub IsScreened : List (List ℕ) → List ℕ → Screened → Type 0
 IsScreened names bytes Open = (length bytes < 16384) × IsOpenHead bytes
 IsScreened names bytes Known = (HasLargeHead bytes ⊎ HasBadHead bytes)
-    ⊎ ((head : RequestHead) × HasHead bytes head × (all_known names_foreign.Host names (fields_of head) ≡ true)
+    ⊎ ((head : RequestHead) × HasHead bytes head × (may_ask names head ≡ true)
     × (all_known names_foreign.Origin names (fields_of head) ≡ true))
 IsScreened names bytes (IsForeign what to_head) =
     (head : RequestHead) × HasHead bytes head × IsFirstForeign names head what × (to_head ≡ is_head head.method)

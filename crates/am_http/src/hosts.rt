@@ -1,10 +1,11 @@
 //! The hosts that a server is asked under. A page of another site, open in a browser beside the server, asks under its own.
 
-ghost use Rattle.std.specs.Prelude.{◌≡◌, ◌+◌, ◌≤◌, false, length, map, take, All};
+ghost use Rattle.std.specs.Prelude.{◌≡◌, ◌||◌, ◌+◌, ◌≤◌, false, length, map, take, All};
 ghost use Rattle.std.specs.Str.{str_eq_ignore_ascii_case};
 ghost use Rattle.httparse.specs.Spans.{IsHeaderWithin, header_bytes};
-ghost use Rattle.am_http.specs.Hosts.{IsScreened, all_known, behind_slash, field_of, host_name, is_fine, is_fine_field, is_known, is_one_of, length_before, line_of_foreign, texts};
+ghost use Rattle.am_http.specs.Hosts.{IsScreened, all_known, behind_slash, field_of, host_name, is_fine, is_fine_field, is_known, is_one_of, is_probe, length_before, line_of_foreign, texts};
 ghost use Rattle.am_http.specs.Lines.{line, line_seen};
+ghost use Rattle.am_http.specs.declared.hosts.Foreign.TheVariants as names_foreign;
 
 use crate::cause::is_head;
 use crate::head::{Head, MOST_FIELDS, read_head, window};
@@ -169,10 +170,26 @@ fn all_known(what: Foreign, head: &[u8], fields: &[HeaderSpan], names: &[&str]) 
     known
 }
 
+/// Whether a request for this target asks if the server is up, or ready.
+fn is_probe(target: &[u8]) -> bool
+    ensures { result ≡ is_probe target.now }
+{
+    target == b"/-/healthy".as_slice() || target == b"/-/ready".as_slice()
+}
+
+/// Whether no field names a foreign host, or it makes no difference for this target.
+fn may_ask(target: &[u8], head: &[u8], fields: &[HeaderSpan], names: &[&str]) -> bool
+    requires { All (IsHeaderWithin (length head.now)) fields.now }
+    ensures { result ≡ (is_probe target.now || all_known (names_foreign.Host) (texts names.now) (map (header_bytes head.now) fields.now)) }
+{
+    is_probe(target) || all_known(Foreign::Host, head, fields, names)
+}
+
 /// What the bytes that came of a request say of where it comes from, where the server is called by these names too. It takes no
 /// memory.
 ///
-/// Whatever names no host, as a request of HTTP/1.0 may, comes from no browser.
+/// Whatever names no host, as a request of HTTP/1.0 may, comes from no browser. Who asks whether the server is up, or ready, may
+/// name any host, as a kubelet names an address: the answer says nothing else.
 pub fn screen(bytes: &[u8], names: &[&str]) -> Screened
     // PROMISE: A request from a foreign host or origin is recognized as soon as its head is whole.
     ensures { IsScreened (texts names.now) bytes.now result }
@@ -186,7 +203,7 @@ pub fn screen(bytes: &[u8], names: &[&str]) -> Screened
     };
     let fields = &fields[..head.headers];
     let to_head = is_head(head.method.of(front));
-    if !all_known(Foreign::Host, front, fields, names) {
+    if !may_ask(head.path.of(front), front, fields, names) {
         let what = Foreign::Host;
         return Screened::Foreign { what, to_head };
     }
