@@ -163,7 +163,7 @@ def test_hazards(folder):
     one = Alive()
     with open(f"{folder}/m.sil", "wb") as file:
         file.write(row("sil", ", ".join([*hazards("f", 60), of("file")])))
-    member = started("m", folder, {"am": one}, peers=[("b", free_ports(1)[0])])
+    member = started("m", folder, {"am": one}, "--patterns", "regex", peers=[("b", free_ports(1)[0])])
     of_peer = b"".join(delta("sil", next(items(row("sil", it)))) for it in [*hazards("p", 60), of("peer")])
     member.send(greeting("b") + of_peer)
     for count in range(80):
@@ -179,6 +179,49 @@ def test_hazards(folder):
     told = {version_of(it)[0][0].decode() for _, came in one.pushed for it in came}
     compare("and nothing else was ever sent", (sorted(told), one.keys(), one.faults), (wanted, wanted, []))
     stop(member)
+
+
+# Patterns that RE2 and a member read alike, though some stand for other ones of its own.
+READ = [r"db(?P<n>[0-9]+)", "a{1000}", "[[:alpha:]]+", r"\d+"]
+
+
+def post_of(member, matchers):
+    """What comes for a post of these names and patterns."""
+    matchers = [{"name": name, "value": value, "isRegex": True, "isEqual": True} for name, value in matchers]
+    status, body = member.post({**silence("x"), "matchers": matchers})
+    return status, body if status != 200 else b""
+
+
+def muting(member, value):
+    """How many silences mute an alert of a job: a decision says which of its alerts are muted."""
+    alert = {"status": "firing", "labels": {"alertname": "a", "job": value}}
+    message = {"version": "4", "receiver": "r", "groupKey": f"job {value}", "status": "firing", "alerts": [alert]}
+    status, body = member.ask("POST", "/v1/decide?wait=false", json.dumps(message).encode())
+    compare(f"a decision on {value}", status, 200)
+    return len(json.loads(body)["muted"])
+
+
+def test_dialects(folder):
+    """Beside an Alertmanager posts are judged as it does, and patterns mean what they mean there; by --patterns regex, or alone, not."""
+    bad = (400, b'"bad pattern"')
+    own = [[("job", it)] for it in REFUSED] + [[("a-b", "x")]]
+    for name, replicas, dialect, refusal, muted in [
+        ("alone", {}, [], (200, b""), 1),
+        ("beside", {"am": Alive()}, [], bad, 0),
+        ("beside by regex", {"am": Alive()}, ["--patterns", "regex"], (200, b""), 1),
+        ("alone by re2", {}, ["--patterns", "re2"], bad, 0),
+    ]:
+        member = started(name.replace(" ", "_"), folder, replicas, *dialect)
+        for matchers in own:
+            compare(f"{name}, a post of {matchers}", post_of(member, matchers), refusal)
+        for it in READ:
+            compare(f"{name}, a post of {it}", post_of(member, [("job", it)]), (200, b""))
+        compare(f"{name}, a digit that isn't ASCII's", muting(member, "\u0663"), muted)
+        compare(f"{name}, one that is", muting(member, "3"), 1)
+        told = "re2" if refusal == bad else "regex"
+        _, body = member.ask("GET", "/api/v2/status")
+        check(f"{name}, its options are told", f"--patterns {told}" in json.loads(body)["config"]["original"], body)
+        stop(member)
 
 
 class Stalling(Liar):
@@ -308,7 +351,7 @@ def test_pull_first(folder):
     stop(member)
 
 
-TESTS = [test_holds, test_given_back, test_at_once, test_not_given, test_hazards, test_liars, test_nobody, test_names, test_kept, test_pull_first]
+TESTS = [test_holds, test_given_back, test_at_once, test_not_given, test_hazards, test_dialects, test_liars, test_nobody, test_names, test_kept, test_pull_first]
 
 
 def main():

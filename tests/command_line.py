@@ -201,6 +201,7 @@ Options:
       --secret <FILE>                The file of a secret that all members have, 16 to 4096 bytes: frames go out sealed by it, and others are refused
       --open-peers                   Hears frames without --secret also at an address that other machines reach: whoever reaches it can change silences
       --gossip <NAME=ADDRESS:PORT>   An Alertmanager beside which it runs, and the address of its gossip (--cluster.listen-address), or its port alone on 127.0.0.1: each holds what the other does; any number of times, each by a name of its own
+      --patterns <DIALECT>           Which regular expressions patterns are: regex, or re2, as an Alertmanager means them, which refuses more posts; without it re2 with --gossip, and else regex
       --host <NAME>                  A name by which it is asked beside 127.0.0.1, localhost and the address of --listen, as that of a proxy; any number of times. Under any other it answers 403, and so it does the page of another site
       --sil <FILE>                   The file of the silences; where there is none, it holds none
       --nfl <FILE>                   The file of the notification log; where there is none, it is empty
@@ -234,6 +235,8 @@ Three machines, a on 10.0.0.1, b on 10.0.0.2 and c on 10.0.0.3, each with the sa
     --peer b=10.0.0.2:9094 --peer c=10.0.0.3:9094 --sil a.sil --nfl a.nfl --tick-every 60 --pull-every 60 --pull-first
 Beside an Alertmanager that gossips on port 9094 of this machine:
   am_tool instance --name a --listen 9101 --gossip am=9094 --sil a.sil --nfl a.nfl --tick-every 60 --save-every 5
+The same, with patterns that an Alertmanager may not read, which it is then not given:
+  am_tool instance --name a --listen 9101 --gossip am=9094 --patterns regex --sil a.sil --nfl a.nfl --tick-every 60
 A Tick is a greeting with a peer's name and the bytes 4 and 0, sent to the port; for a peer b:
   printf '\0\1b\4\0' >/dev/tcp/127.0.0.1/PORT
 """

@@ -201,7 +201,7 @@ def test_status(folder):
     compare("it is compact, with the keys in order", body, json.dumps(wanted, separators=(",", ":"), sort_keys=True).encode())
     lines = found["config"]["original"].split("\n")
     compare("the options", lines, [
-        "--name a", f"--listen {port}", f"--peer b={peer}", f'--peer c"\\={other}', "--host am.example",
+        "--name a", f"--listen {port}", f"--peer b={peer}", f'--peer c"\\={other}', "--patterns regex", "--host am.example",
         f"--sil {member.sil}", f"--nfl {member.nfl}", "--retention 3600", "--peer-timeout 15", "--time-limit 5",
         "--at-once 256", "--waiting 128", "--most-unfinished 134217728", "--most-bytes 1073741824", "--lines-a-second 10",
         "--tick-every 60", "--gossip-every 60", "--log", "--pull-first-limit 30", "",

@@ -25,7 +25,7 @@ from lib.wire import EMPTY_PUSH, greeting
 
 GET = b"GET /api/v2/silences HTTP/1.1\r\n\r\n"
 
-# The options with a number, and numbers that each refuses.
+# The options with a number or a word, and those that each refuses.
 NUMBERS = [
     ("--at-once", ("0", "65536", "+1", "x")),
     ("--waiting", ("0", "65536", "-1")),
@@ -38,6 +38,7 @@ NUMBERS = [
     ("--save-every", ("0", "1000000000", "-1")),
     ("--pull-first-limit", ("0", "1000000000", "1s")),
     ("--least-repeat", ("0", "1000000000", " 1")),
+    ("--patterns", ("", "RE2", "pcre")),
 ]
 
 

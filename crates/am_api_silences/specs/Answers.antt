@@ -9,7 +9,7 @@ use Rattle.am_refusals.specs.declared.error.StepError.TheVariants.{MomentBack}
 use Rattle.am_instance.specs.declared.reply.Outcome.{Outcome}
 use Rattle.am_instance.specs.Sendings.{Sent, nothing_sent, sent_by}
 use Rattle.am_instance.specs.InstanceStates.{InstanceState}
-use Rattle.am_api_silences.specs.Events.{IsEventOf}
+use Rattle.am_api_silences.specs.Events.{IsEventIn}
 use Rattle.am_api_silences.specs.Replies.{IsReplyBytes, Says, line_bytes}
 use Rattle.am_instance.specs.OneStep.{IsStep}
 use Rattle.am_api_silences.specs.Table.{clock_line, memory_line}
@@ -62,7 +62,7 @@ pub record IsStepAnswer (event : Event) (old : InstanceState) (now : ℕ) (answe
 pub record IsRequestAnswer (old : InstanceState) (request : Request) (bits now : ℕ) (answered : Answered) (new : InstanceState) : Type 0 where
   -- it means an event, or this refusal
   pub meant : Result Event Refusal
-  pub means : IsEventOf request bits meant
+  pub means : IsEventIn old.config.dialect request bits meant
   -- a refusal is told, and nothing else is done
   pub refused : IfErr meant (λ refusal. IsRefusalAnswer refusal old answered new)
   -- an event is one step, which is answered

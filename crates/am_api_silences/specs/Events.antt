@@ -5,6 +5,8 @@ use Rattle.am_silence_json.specs.Posts.{IsPosted, IsFirstWrong, IsObjectText}
 use Rattle.am_http.specs.Lines.{line_seen, line_of, told_to}
 use Rattle.am_http.specs.Paths.{IsCallOf}
 use Rattle.am_http.specs.Queries.{filter_texts_of}
+use Rattle.am_matcher.specs.declared.dialect.Dialect.{Dialect}
+use Rattle.am_matcher.specs.declared.dialect.Dialect.TheVariants.{Regex}
 use Rattle.am_http.specs.declared.cause.Cause.{Cause}
 use Rattle.am_http.specs.declared.cause.Cause.TheVariants.{BadFilter, BadJson, BadSilence, Memory}
 use Rattle.am_http.specs.declared.refusal.Refusal.{Refusal}
@@ -18,43 +20,47 @@ use Rattle.am_instance.specs.declared.event.Request.TheVariants as requests
 use Rattle.am_api_silences.specs.Filters.{AreFilters, IsBadFilter}
 
 -- What a call with this body asks of an instance: the silences that pass all filters of the query, the silence of an
--- identifier, the post of the object that the body is, or the end of a silence.
-abbrev pub Asks : Call → List ℕ → ℕ → SilenceRequest → Type 0
-Asks (calls.List query) body bits (requests.List filters) = AreFilters (filter_texts_of query.now) filters.items
-Asks (calls.Get id) body bits (requests.Get asked) = asked ≡ id.now
-Asks calls.Post body bits (requests.Post posted given) = (given ≡ bits) × (d : Data) × IsObjectText body d × IsPosted d posted
-Asks (calls.Delete id) body bits (requests.Delete asked) = asked ≡ id.now
-Asks _ body bits _ = ⊥
+-- identifier, the post of the object that the body is, or the end of a silence. The dialect is that of patterns.
+abbrev pub Asks : Dialect → Call → List ℕ → ℕ → SilenceRequest → Type 0
+Asks dialect (calls.List query) body bits (requests.List filters) = AreFilters dialect (filter_texts_of query.now) filters.items
+Asks dialect (calls.Get id) body bits (requests.Get asked) = asked ≡ id.now
+Asks dialect calls.Post body bits (requests.Post posted given) = (given ≡ bits) × (d : Data) × IsObjectText body d × IsPosted d posted
+Asks dialect (calls.Delete id) body bits (requests.Delete asked) = asked ≡ id.now
+Asks dialect _ body bits _ = ⊥
 
 -- What is at fault with a call: a filter, or the body that is posted. Memory may run out in any of them.
-abbrev pub HasFault : Call → List ℕ → Cause → Type 0
-HasFault call body Memory = ⊤
-HasFault (calls.List query) body BadFilter = Any IsBadFilter (filter_texts_of query.now)
-HasFault calls.Post body BadJson = (d : Data) → ¬ IsObjectText body d
-HasFault calls.Post body (BadSilence key) = (d : Data) × IsObjectText body d × IsFirstWrong d key
-HasFault _ body _ = ⊥
+abbrev pub HasFault : Dialect → Call → List ℕ → Cause → Type 0
+HasFault dialect call body Memory = ⊤
+HasFault dialect (calls.List query) body BadFilter = Any (IsBadFilter dialect) (filter_texts_of query.now)
+HasFault dialect calls.Post body BadJson = (d : Data) → ¬ IsObjectText body d
+HasFault dialect calls.Post body (BadSilence key) = (d : Data) × IsObjectText body d × IsFirstWrong d key
+HasFault dialect _ body _ = ⊥
 
 -- what is asked, or what is at fault
-abbrev pub IsAsk : Call → List ℕ → ℕ → Result SilenceRequest Cause → Type 0
-IsAsk call body bits (Ok asked) = Asks call body bits asked
-IsAsk call body bits (Err cause) = HasFault call body cause
+abbrev pub IsAsk : Dialect → Call → List ℕ → ℕ → Result SilenceRequest Cause → Type 0
+IsAsk dialect call body bits (Ok asked) = Asks dialect call body bits asked
+IsAsk dialect call body bits (Err cause) = HasFault dialect call body cause
 
 -- the call that a request is, or that it is none
 abbrev pub IsCall : Request → Result Call Cause → Type 0
 IsCall request call = IsCallOf (string_bytes request.method) (string_bytes request.target) call
 
 -- why a request is refused: its path names nothing, or has no such method; or something is at fault with its call
-abbrev pub IsRefusedFor : Request → Cause → Type 0
-IsRefusedFor request cause = IsCall request (Err cause)
-    ⊎ ((call : Call) × IsCall request (Ok call) × HasFault call request.body.items cause)
+abbrev pub IsRefusedFor : Dialect → Request → Cause → Type 0
+IsRefusedFor dialect request cause = IsCall request (Err cause)
+    ⊎ ((call : Call) × IsCall request (Ok call) × HasFault dialect call request.body.items cause)
 
 -- what a request asks for, by its call
-abbrev pub IsMeant : Request → ℕ → SilenceRequest → Type 0
-IsMeant request bits asked = (call : Call) × IsCall request (Ok call) × Asks call request.body.items bits asked
+abbrev pub IsMeant : Dialect → Request → ℕ → SilenceRequest → Type 0
+IsMeant dialect request bits asked = (call : Call) × IsCall request (Ok call) × Asks dialect call request.body.items bits asked
 
 -- What a request means: the event that its call asks for, or the line of the first fault that stands, as its method is told it.
+abbrev pub IsEventIn : Dialect → Request → ℕ → Result Event Refusal → Type 0
+IsEventIn dialect request bits (Ok (events.Request asked)) = IsMeant dialect request bits asked
+IsEventIn dialect request bits (Ok _) = ⊥
+IsEventIn dialect request bits (Err refusal) =
+    (cause : Cause) × (line_seen refusal ≡ told_to (string_bytes request.method) (line_of cause)) × IsRefusedFor dialect request cause
+
+-- the same where patterns are those of `regex`
 abbrev pub IsEventOf : Request → ℕ → Result Event Refusal → Type 0
-IsEventOf request bits (Ok (events.Request asked)) = IsMeant request bits asked
-IsEventOf request bits (Ok _) = ⊥
-IsEventOf request bits (Err refusal) =
-    (cause : Cause) × (line_seen refusal ≡ told_to (string_bytes request.method) (line_of cause)) × IsRefusedFor request cause
+IsEventOf = IsEventIn Regex

@@ -119,7 +119,8 @@ pub fn begin_answer(
     // PROMISE: A request is answered by one step and that step's reply, or refused with nothing changed.
     ensures { WhenMade (λ answered. IsRequestAnswer instance.old request.now bits now answered instance.new) result }
 {
-    match event_by(alloc, instance.patterns(), request, bits) {
+    let dialect = instance.config().dialect();
+    match event_by(alloc, dialect, instance.patterns(), request, bits) {
         Ok(event) => step(alloc, instance, event, now),
         Err(refusal) => refuse(alloc, &refusal),
     }

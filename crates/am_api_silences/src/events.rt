@@ -3,12 +3,13 @@
 ghost use Rattle.std.specs.Prelude.{◌≡◌, IfOk, IfErr};
 ghost use Rattle.am_http.specs.declared.cause.Cause.TheVariants as causes;
 ghost use Rattle.am_http.specs.declared.routes.Call.TheVariants as calls;
-ghost use Rattle.am_api_silences.specs.Events.{IsAsk, IsEventOf, IsMeant, IsRefusedFor};
+ghost use Rattle.am_api_silences.specs.Events.{IsAsk, IsEventIn, IsEventOf, IsMeant, IsRefusedFor};
+ghost use Rattle.am_matcher.specs.declared.dialect.Dialect.{Dialect};
 
 use crate::filters::filters_in;
 use am_http::{Call, Cause, Refusal, Request, call_of};
 use am_instance::{Event, Request as SilenceRequest};
-use am_matcher::PatternCache;
+use am_matcher::{Dialect, PatternCache};
 use am_silence_json::{BodyError, read_post};
 use am_wire::Text;
 use std::alloc::Global;
@@ -23,7 +24,7 @@ fn identifier(alloc: Global, id: &str) -> Result<Text, Cause>
 
 /// The post of a body.
 fn post(alloc: Global, body: &[u8], bits: u128) -> Result<SilenceRequest, Cause>
-    ensures { IsAsk calls.Post body.now bits result }
+    ensures { (dialect : Dialect) → IsAsk dialect calls.Post body.now bits result }
 {
     match read_post(alloc, body) {
         Ok(posted) => Ok(SilenceRequest::Post { posted, bits }),
@@ -36,16 +37,17 @@ fn post(alloc: Global, body: &[u8], bits: u128) -> Result<SilenceRequest, Cause>
 /// What a call with this body asks of an instance.
 fn ask(
     alloc: Global,
+    dialect: Dialect,
     patterns: &PatternCache,
     call: Call<'_>,
     body: &[u8],
     bits: u128,
 ) -> Result<SilenceRequest, Cause>
-    ensures { IsAsk call.entry body.now bits result }
+    ensures { IsAsk dialect call.entry body.now bits result }
 {
     match call {
         Call::List { query } => Ok(SilenceRequest::List {
-            filters: filters_in(alloc, patterns, query)?,
+            filters: filters_in(alloc, dialect, patterns, query)?,
         }),
         Call::Get { id } => Ok(SilenceRequest::Get {
             id: identifier(alloc, id)?,
@@ -60,15 +62,16 @@ fn ask(
 /// What a request asks of an instance.
 fn asked(
     alloc: Global,
+    dialect: Dialect,
     patterns: &PatternCache,
     request: &Request,
     bits: u128,
 ) -> Result<SilenceRequest, Cause>
-    ensures asked { IfOk result (IsMeant request.now bits) }
-    ensures refused { IfErr result (IsRefusedFor request.now) }
+    ensures asked { IfOk result (IsMeant dialect request.now bits) }
+    ensures refused { IfErr result (IsRefusedFor dialect request.now) }
 {
     let call = call_of(&request.method, &request.target)?;
-    let asked = ask(alloc, patterns, call, &request.body, bits)?;
+    let asked = ask(alloc, dialect, patterns, call, &request.body, bits)?;
     Ok(asked)
 }
 
@@ -81,23 +84,30 @@ pub fn to_event(alloc: Global, request: &Request, bits: u128) -> Result<Event, R
     // PROMISE: A request means the event of its path, filters and body, or its first fault.
     ensures { IsEventOf request.now bits result }
 {
-    event_by(alloc, &PatternCache::new(alloc), request, bits)
+    event_by(
+        alloc,
+        Dialect::Regex,
+        &PatternCache::new(alloc),
+        request,
+        bits,
+    )
 }
 
-/// As [`to_event`]: of a filter whose pattern is kept nothing is compiled.
+/// As [`to_event`], with patterns of the dialect: of a filter whose pattern is kept nothing is compiled.
 ///
 /// # Errors
 ///
 /// As those of [`to_event`].
 pub fn event_by(
     alloc: Global,
+    dialect: Dialect,
     patterns: &PatternCache,
     request: &Request,
     bits: u128,
 ) -> Result<Event, Refusal>
-    ensures { IsEventOf request.now bits result }
+    ensures { IsEventIn dialect request.now bits result }
 {
-    match asked(alloc, patterns, request, bits) {
+    match asked(alloc, dialect, patterns, request, bits) {
         Ok(asked) => Ok(Event::Request(asked)),
         Err(cause) => Err(cause.refusal_to(&request.method)),
     }

@@ -49,7 +49,7 @@ pub fn ask(cluster: &mut Cluster, place: Place, step: &Step, line: u64) -> Asked
     // PROMISE: A client that asks a calm member of a cluster gets the reply of everything that was delivered to it.
     ensures { IsTrue result.calm → IfOk result.reply (λ reply. (replica : Replica) (event : Event) (now : ℕ) →
         Asks cluster.old step.now place replica event now → asks_shown event ≡ true →
-        IsBareReply (silences_taken cluster.old place) (entries_taken cluster.old place) event now reply) }
+        IsBareReply replica.stand.config.dialect (silences_taken cluster.old place) (entries_taken cluster.old place) event now reply) }
 {
     answered_steps_reply();
     members_reply_as_the_bare_sets(cluster, place);

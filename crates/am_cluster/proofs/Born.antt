@@ -8,6 +8,7 @@ use Rattle.std.proofs.lemmas.List.Sorted.{Contains-permutation, IsPermutation-sy
 use Rattle.std.proofs.lemmas.Option.{get_or_from_slice_get, slice_get_cases}
 use Rattle.am_silence.specs.Mesh.{Mesh}
 use Rattle.am_nflog.specs.Mesh.{Mesh as LogMesh}
+use Rattle.am_matcher.specs.declared.dialect.Dialect.TheVariants.{Regex}
 use Rattle.am_instance.specs.Configs.{HasTwice, IsEmptyName, IsLongName, Settings}
 use Rattle.am_instance.specs.InstanceStates.{InstanceState}
 use Rattle.am_runs.specs.Steps.{RunStep}
@@ -94,14 +95,15 @@ unborn settings members born = (settings, sym count, λ place replica there. sym
 
 -- where there is none, too
 pub none_unborn : (members : List Replica) → members ≡ [] → AreUnborn members
-none_unborn members none = subst AreUnborn (sym none) (record { members = []; place = 0; retention = 0; peer_timeout = 0 }, refl, λ place replica there. absurd cc)
+none_unborn members none = subst AreUnborn (sym none) (record { members = []; place = 0; retention = 0; peer_timeout = 0; dialect = Regex }, refl, λ place replica there. absurd cc)
 
 -- they are told by all of it but its own place
-pub newborns_are : (s : Settings) (retention peer_timeout : ℕ) → s.retention ≡ retention → s.peer_timeout ≡ peer_timeout →
-    newborns s ≡ newborns (record { members = s.members; place = 0; retention = retention; peer_timeout = peer_timeout })
-newborns_are s retention peer_timeout a b =
-    ap (λ x. newborns (record { members = s.members; place = 0; retention = x; peer_timeout = s.peer_timeout })) a
-    ∙ ap (λ y. newborns (record { members = s.members; place = 0; retention = retention; peer_timeout = y })) b
+pub newborns_are : (s : Settings) (retention peer_timeout : ℕ) → s.retention ≡ retention → s.peer_timeout ≡ peer_timeout → s.dialect ≡ Regex →
+    newborns s ≡ newborns (record { members = s.members; place = 0; retention = retention; peer_timeout = peer_timeout; dialect = Regex })
+newborns_are s retention peer_timeout a b d =
+    ap (λ x. newborns (record { members = s.members; place = 0; retention = x; peer_timeout = s.peer_timeout; dialect = s.dialect })) a
+    ∙ ap (λ y. newborns (record { members = s.members; place = 0; retention = retention; peer_timeout = y; dialect = s.dialect })) b
+    ∙ ap (λ z. newborns (record { members = s.members; place = 0; retention = retention; peer_timeout = peer_timeout; dialect = z })) d
 
 any_moved : (P : List ℕ → Type 0) (xs ys : List (List ℕ)) → IsPermutation xs ys → Any P xs → Any P ys
 any_moved P xs ys moved any = let there = Contains-permutation xs ys any.1 moved (any.0, any.2, any.3) in (there.0, any.1, there.1, there.2, any.4)

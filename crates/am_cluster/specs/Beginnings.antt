@@ -1,6 +1,7 @@
 -- How a cluster begins.
 use Rattle.std.specs.Prelude.{◌≡◌, ℕ, true, List, [], length, map, Some, slice_get, IsPermutation}
 use Rattle.std.specs.List.{range_with_len}
+use Rattle.am_matcher.specs.declared.dialect.Dialect.TheVariants.{Regex}
 use Rattle.am_instance.specs.Configs.{Settings, AreInOrder}
 use Rattle.am_cluster.specs.Worlds.{Replica, World}
 
@@ -17,12 +18,12 @@ newborn settings place = record {
 abbrev pub newborns : Settings → List Replica
 newborns settings = map (newborn settings) (range_with_len 0 (length settings.members))
 
--- The members are those of these names, by the order of the names, and nothing happened yet.
+-- The members are those of these names, by the order of the names, with patterns of `regex`, and nothing happened yet.
 pub record AreNewborn (names : List (List ℕ)) (retention peer_timeout : ℕ) (world : World) : Type 0 where
   pub ordered : List (List ℕ)
   pub order : AreInOrder ordered
   pub among : IsPermutation names ordered
-  pub members : world.replicas ≡ newborns (record { members = ordered; place = 0; retention = retention; peer_timeout = peer_timeout })
+  pub members : world.replicas ≡ newborns (record { members = ordered; place = 0; retention = retention; peer_timeout = peer_timeout; dialect = Regex })
   pub silences : world.silences ≡ []
   pub log : world.log ≡ []
   pub lines : world.lines ≡ []

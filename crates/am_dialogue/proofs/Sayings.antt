@@ -1,5 +1,6 @@
 -- What is replied, one call after the other.
 use Rattle.std.proofs.Common.{◌≡◌, ◌∙◌, [], None, inl, inr, refl, sym, subst, ap}
+use Rattle.am_matcher.specs.declared.dialect.Dialect.TheVariants.{Regex}
 use Rattle.am_api_silences.specs.Answers.{IsRefusalAnswer, WhenMade}
 use Rattle.am_api_silences.specs.PendingReply.{IsMadeOf, Makes}
 use Rattle.am_api_silences.specs.Replies.{Says, line_bytes}
@@ -57,7 +58,7 @@ says_line line (Fixed bytes) says = (memory_line, says)
 
 -- (whatever an instance is, a refusal tells nothing of it)
 no_instance : InstanceState
-no_instance = record { config = record { members = []; place = 0; retention = 0; peer_timeout = 0 }; silences = []; log = []; last = 0 }
+no_instance = record { config = record { members = []; place = 0; retention = 0; peer_timeout = 0; dialect = Regex }; silences = []; log = []; last = 0 }
 
 pub line_made : (refusal : Refusal) (begun : PendingAnswer) (reply : ReplyBytes) → ((stand : InstanceState) → WhenMade (λ answered. IsRefusalAnswer refusal stand answered stand) begun)
     → IsMadeOf begun.making reply → IsLine reply

@@ -1,6 +1,7 @@
 -- What a request does, put together of its parts.
-use Rattle.std.proofs.Common.{◌≡◌, ℕ, List, [], ◌∷◌, Bool, true, false, true≢false, map, ap, refl, sym, subst, ◌∙◌}
+use Rattle.std.proofs.Common.{◌≡◌, ℕ, List, [], ◌∷◌, Bool, true, false, true≢false, inl, inr, map, ap, ap₂, refl, sym, subst, ◌∙◌}
 use Rattle.std.specs.Prelude.{◌≢◌, Option, Some, None, Result, Ok, Err, IfOk, IfErr, OnOk, OnErr, is_some, if◌then◌else◌}
+use Rattle.std.specs.List.{list_all}
 use Rattle.std.proofs.lemmas.List.Folds.{list_any-from_Any}
 use Rattle.am_silence.specs.Mesh.{Mesh}
 use Rattle.am_silence.specs.Ids.{id_text}
@@ -15,8 +16,10 @@ use Rattle.am_silence.specs.Kinds.{is_regexp}
 use Rattle.am_silence.specs.declared.error.SilenceError.{SilenceError}
 use Rattle.am_silence.specs.declared.error.SilenceError.TheVariants as silence_errors
 use Rattle.am_silence.proofs.Refusing.{unread_tells_no_memory}
-use Rattle.am_matcher.specs.Matching.{has_regexp, IsVerdict}
-use Rattle.am_matcher.proofs.Verdicts.{has_verdict}
+use Rattle.am_matcher.specs.declared.dialect.Dialect.{Dialect}
+use Rattle.am_matcher.specs.Matching.{has_regexp, matches_value}
+use Rattle.am_matcher.specs.Dialects.{AreMeant, IsVerdictIn, takes_names}
+use Rattle.am_matcher.proofs.Meant.{meant_once, plain_are_meant}
 use Rattle.am_refusals.specs.declared.error.StepError.{StepError}
 use Rattle.am_refusals.specs.declared.error.StepError.TheVariants.{Memory}
 use Rattle.am_instance.specs.declared.event.Event.TheVariants as events
@@ -27,7 +30,7 @@ use Rattle.am_instance.specs.declared.reply.Outcome.{Outcome}
 use Rattle.am_instance.specs.Deliveries.Delivery.{OfSilence}
 use Rattle.am_instance.specs.InstanceStates.{InstanceState, silence_at}
 use Rattle.am_instance.specs.Replies.{RefusedOr, IsDone, IsEnded, posted_id, posted_over, silence_in_view}
-use Rattle.am_instance.specs.Steps.{IsWork, IsPlanned, IsPutHere, IsTurnedAway, plain_verdict, post_refusal, refused_anyway}
+use Rattle.am_instance.specs.Steps.{IsWork, IsJudged, IsPlanned, IsPutHere, IsTurnedAway, plain_verdict, post_refusal, refused_anyway}
 use Rattle.am_instance.proofs.Works.{made_work, quiet_work, stopped_work, made_silences}
 
 -- a plan that was carried out, as that of the versions and the reply that it names
@@ -46,20 +49,20 @@ refusal_is stand posted bits now verdict held id_held is known =
 
 -- what a call answered, with the verdict on what is posted
 pub planned_by : (stand : InstanceState) (posted : Posted) (bits now : ℕ) (verdict : Verdict) (held : Option Mesh) (id_held : Bool) (result : Result Plan SilenceError) →
-    IsVerdict posted.matchers verdict → held ≡ posted_over now stand.silences posted.id → id_held ≡ is_some (silence_at stand.silences (id_text bits)) →
+    IsVerdictIn stand.config.dialect posted.matchers verdict → held ≡ posted_over now stand.silences posted.id → id_held ≡ is_some (silence_at stand.silences (id_text bits)) →
     IfOk result (λ plan. plan ≡ planned held (post_of posted now bits stand.config.retention)) →
     OnOk result (refusal held verdict id_held (post_of posted now bits stand.config.retention) ≡ None) →
     IfErr result (λ e. e ≢ silence_errors.Memory → refusal held verdict id_held (post_of posted now bits stand.config.retention) ≡ Some e) →
     IsPlanned stand posted bits now result
 planned_by stand posted bits now verdict held id_held (Ok plan) judged is known plans accepted refused = (
   verdict,
-  judged,
+  (λ _. judged),
   refusal_is stand posted bits now verdict held id_held is known ∙ accepted,
   plans ∙ ap (λ (h : Option Mesh). planned h (post_of posted now bits stand.config.retention)) is,
 )
 planned_by stand posted bits now verdict held id_held (Err e) judged is known plans accepted refused = λ other. (
   verdict,
-  judged,
+  (λ _. judged),
   refusal_is stand posted bits now verdict held id_held is known ∙ refused other,
 )
 
@@ -76,18 +79,24 @@ comes_first : (first patterns times older fresh size : Option SilenceError) (err
     (first before patterns before times before older before fresh before size) ≡ Some error
 comes_first first patterns times older fresh size error is = rw is refl
 
--- a post that is refused whatever its patterns are: there is a verdict on them, with which it is refused so
+-- a post that is refused whatever its patterns are
 pub unread_planned : (stand : InstanceState) (posted : Posted) (bits now : ℕ) (error : SilenceError) → unread_refusal (posted_over now stand.silences posted.id) posted ≡ Some error → IsPlanned stand posted bits now (Err error)
 unfolding refusal early_refusal posted_refusal
 unread_planned stand posted bits now error is = λ other.
-    let judged = has_verdict posted.matchers in
-    (judged.0, judged.1, comes_first _ _ _ _ _ _ error is)
+    (verdicts.Fine, (λ read. absurd (let lost : None ≡ Some error = sym read ∙ is in cc)), comes_first _ _ _ _ _ _ error is)
 
 -- the verdict on matchers without a regular expression is the plain one
-plain_is : (matchers : List Matcher) (verdict : Verdict) → has_regexp matchers ≡ false → IsVerdict matchers verdict → verdict ≡ plain_verdict matchers
-plain_is matchers verdicts.Bad none (k, m, within, is, broken) = absurd (true≢false (sym (list_any-from_Any (λ m. is_regexp m.kind) matchers (k, m, within, is, broken.0)) ∙ none))
-plain_is matchers verdicts.AllEmpty none (sound, all) = ap (λ (b : Bool). if b then verdicts.AllEmpty else verdicts.Fine) (sym all)
-plain_is matchers verdicts.Fine none (sound, all) = ap (λ (b : Bool). if b then verdicts.AllEmpty else verdicts.Fine) (sym all)
+plain_is : (dialect : Dialect) (matchers : List Matcher) (verdict : Verdict) → has_regexp matchers ≡ false → IsVerdictIn dialect matchers verdict → verdict ≡ plain_verdict dialect matchers
+plain_is dialect matchers verdicts.Bad none (inl (k, m, within, is, broken)) = absurd (true≢false (sym (list_any-from_Any (λ m. is_regexp m.kind) matchers (k, m, within, is, broken.0)) ∙ none))
+plain_is dialect matchers verdicts.Bad none (inr names) = ap (λ (b : Bool). if b then (if list_all (λ m. matches_value m []) matchers then verdicts.AllEmpty else verdicts.Fine) else verdicts.Bad) (sym names)
+plain_is dialect matchers verdicts.AllEmpty none (names, meant, all, sound, found) =
+    let itself = meant_once dialect matchers meant matchers all (plain_are_meant dialect matchers none) in
+    ap₂ (λ (b c : Bool). if b then (if c then verdicts.AllEmpty else verdicts.Fine) else verdicts.Bad) (sym names)
+    (sym found ∙ ap (λ (ms : List Matcher). list_all (λ m. matches_value m []) ms) itself)
+plain_is dialect matchers verdicts.Fine none (names, meant, all, sound, found) =
+    let itself = meant_once dialect matchers meant matchers all (plain_are_meant dialect matchers none) in
+    ap₂ (λ (b c : Bool). if b then (if c then verdicts.AllEmpty else verdicts.Fine) else verdicts.Bad) (sym names)
+    (sym found ∙ ap (λ (ms : List Matcher). list_all (λ m. matches_value m []) ms) itself)
 
 either_way : (test : Bool) (one other : Option SilenceError) → (test ≡ true → one ≡ None) → (test ≡ false → other ≡ None) → (if test then one else other) ≡ None
 either_way true one other first second = first refl
@@ -99,11 +108,11 @@ pub compiled_anyway : (stand : InstanceState) (posted : Posted) (bits now : ℕ)
 compiled_anyway stand posted bits now regexp read = either_way (has_regexp posted.matchers) _ _ (λ _. read) (λ none. absurd (true≢false (sym regexp ∙ none)))
 
 -- a post that isn't refused by a verdict on its matchers isn't refused anyway
-pub judged_anyway : (stand : InstanceState) (posted : Posted) (bits now : ℕ) (verdict : Verdict) → IsVerdict posted.matchers verdict →
+pub judged_anyway : (stand : InstanceState) (posted : Posted) (bits now : ℕ) (verdict : Verdict) → IsVerdictIn stand.config.dialect posted.matchers verdict →
     unread_refusal (posted_over now stand.silences posted.id) posted ≡ None → post_refusal stand posted bits now verdict ≡ None →
     refused_anyway stand (events.Request (requests.Post posted bits)) now ≡ None
 judged_anyway stand posted bits now verdict judged read accepted = either_way (has_regexp posted.matchers) _ _ (λ _. read)
-    (λ none. ap (post_refusal stand posted bits now) (sym (plain_is posted.matchers verdict none judged)) ∙ accepted)
+    (λ none. ap (post_refusal stand posted bits now) (sym (plain_is stand.config.dialect posted.matchers verdict none judged)) ∙ accepted)
 
 pub unread_is_told : (stand : InstanceState) (posted : Posted) (bits now : ℕ) (error : SilenceError) → unread_refusal (posted_over now stand.silences posted.id) posted ≡ Some error →
     error ≡ silence_errors.Memory → refused_anyway stand (events.Request (requests.Post posted bits)) now ≡ None
@@ -122,7 +131,7 @@ post_done old new posted bits now plan (Ok outcome) plans put memory unchanged r
           (subst (λ p. IsDone p outcome.reply outcome.made) plans.3 (record { answer = put.answer; copies = put.made }));
     })
 post_done old new posted bits now plan (Err e) plans put memory unchanged read = stopped_work old new (events.Request (requests.Post posted bits)) now e memory unchanged
-    (judged_anyway old posted bits now plans.0 plans.1 read plans.2)
+    (judged_anyway old posted bits now plans.0 (plans.1 read) read plans.2)
 
 -- a post that was refused
 pub post_refused : (old : InstanceState) (posted : Posted) (bits now : ℕ) (error : SilenceError) (result : Result Outcome StepError) → IsPlanned old posted bits now (Err error) →

@@ -9,7 +9,8 @@ use Rattle.am_silence.specs.Mesh.{Mesh, mesh_version}
 use Rattle.am_silence.specs.declared.state.State.{State}
 use Rattle.am_silence.specs.declared.matcher.Matcher.{Matcher}
 use Rattle.am_matcher.specs.Matching.{passes}
-use Rattle.am_matcher.specs.Mutes.{AreMuted}
+use Rattle.am_matcher.specs.declared.dialect.Dialect.{Dialect}
+use Rattle.am_matcher.specs.Mutes.{AreMutedIn}
 use Rattle.am_nflog.specs.Mesh.{Mesh as LogMesh, mesh_version as entry_version}
 use Rattle.am_nflog.specs.Keys.{key_cmp}
 use Rattle.am_dedup.specs.Decisions.{decision, logged, set_of}
@@ -57,14 +58,15 @@ IsBareRequestReply silences _ now reply = ⊥
 
 -- The reply to an event, from the bare sets of silences and of entries: of what they show, a list has the silences that pass
 -- its filters, a silence is that of its id, a decision is that over the group's entry, and an alert is muted by the active ones.
-abbrev pub IsBareReply : List Mesh → List LogMesh → Event → ℕ → Reply → Type 0
-IsBareReply silences log (events.Request request) now reply = IsBareRequestReply silences request now reply
-IsBareReply silences log (events.Decide group_key receiver firing resolved repeat send_resolved) now reply =
+-- The dialect is that of the patterns.
+abbrev pub IsBareReply : Dialect → List Mesh → List LogMesh → Event → ℕ → Reply → Type 0
+IsBareReply dialect silences log (events.Request request) now reply = IsBareRequestReply silences request now reply
+IsBareReply dialect silences log (events.Decide group_key receiver firing resolved repeat send_resolved) now reply =
     (found : Option LogMesh) × IsViewAt entry_version log now (record { group_key = group_key; receiver = receiver }) found
     × (reply ≡ replies.Decided (decision (option_map (λ m. logged m.entry) found) (set_of firing) (set_of resolved) repeat send_resolved now))
-IsBareReply silences log (events.Mutes labels) now reply =
-    (view : List Mesh) × AreSilencesShown silences now view × HoldsMutes (AreMuted labels now view) reply
-IsBareReply silences log events.Show now reply =
+IsBareReply dialect silences log (events.Mutes labels) now reply =
+    (view : List Mesh) × AreSilencesShown silences now view × HoldsMutes (AreMutedIn dialect labels now view) reply
+IsBareReply dialect silences log events.Show now reply =
     (view : List Mesh) × AreSilencesShown silences now view
     × (entries : List LogMesh) × AreEntriesShown log now entries × HoldsViews (passing now [] view) entries reply
-IsBareReply silences log _ now reply = ⊥
+IsBareReply dialect silences log _ now reply = ⊥

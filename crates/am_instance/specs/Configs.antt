@@ -5,14 +5,17 @@ use Rattle.std.specs.Ordering.{nat_cmp}
 use Rattle.std.specs.Str.{bytes_eq}
 use Rattle.std.specs.Cmp.Lexicographic.{slice_cmp}
 use Rattle.std.specs.declared.cmp.Ordering.TheVariants.{Less}
+use Rattle.am_matcher.specs.declared.dialect.Dialect.{Dialect}
 
--- what contracts see of a configuration: the names of all members in the order of their bytes, the own place among them, and
--- in nanoseconds how long versions are kept after their end and how long members wait for one another
+-- what contracts see of a configuration: the names of all members in the order of their bytes, the own place among them, in
+-- nanoseconds how long versions are kept after their end and how long members wait for one another, and which regular
+-- expressions patterns are
 pub record Settings : Type 0 where
   pub members : List (List ℕ)
   pub place : ℕ
   pub retention : ℕ
   pub peer_timeout : ℕ
+  pub dialect : Dialect
 
 -- each name is below those after it, so none comes twice
 abbrev pub AreInOrder : List (List ℕ) → Type 0

@@ -13,9 +13,11 @@ use Rattle.am_silence.specs.declared.error.SilenceError.{SilenceError}
 use Rattle.am_silence.specs.declared.error.SilenceError.TheVariants.{NotFound}
 use Rattle.am_silence.specs.declared.matcher.Matcher.{Matcher}
 use Rattle.am_silence.specs.Plans.{post_of, planned, versions, ended_of}
-use Rattle.am_silence.specs.Refusals.{refusal, end_refusal}
-use Rattle.am_matcher.specs.Matching.{passes, IsVerdict}
-use Rattle.am_matcher.specs.Mutes.{AreMuted}
+use Rattle.am_silence.specs.Refusals.{refusal, end_refusal, unread_refusal}
+use Rattle.am_matcher.specs.declared.dialect.Dialect.{Dialect}
+use Rattle.am_matcher.specs.Matching.{passes}
+use Rattle.am_matcher.specs.Dialects.{IsVerdictIn}
+use Rattle.am_matcher.specs.Mutes.{AreMutedIn}
 use Rattle.am_nflog.specs.Mesh.{Mesh as LogMesh, mesh_version as entry_version}
 use Rattle.am_nflog.specs.Made.{made_entry, expiry}
 use Rattle.am_nflog.specs.LogKeys.{LogKey}
@@ -110,9 +112,10 @@ RefusedOr None Done reply made = Done reply made
 RefusedOr (Some error) Done reply made = IsRefused error reply made
 
 -- A post is answered by its plan over the silence in view of the posted id; the fresh id is held where it is held live or not.
-pub record IsPosted (now retention : ℕ) (silences : List Mesh) (posted : Posted) (bits : ℕ) (reply : Reply) (made : Made) : Type 0 where
+-- (Where it is refused whatever its patterns are, no verdict on them counts.)
+pub record IsPosted (dialect : Dialect) (now retention : ℕ) (silences : List Mesh) (posted : Posted) (bits : ℕ) (reply : Reply) (made : Made) : Type 0 where
   pub verdict : Verdict
-  pub judged : IsVerdict posted.matchers verdict
+  pub judged : unread_refusal (posted_over now silences posted.id) posted ≡ None → IsVerdictIn dialect posted.matchers verdict
   pub answer :
       let held = posted_over now silences posted.id in
       let post = post_of posted now bits retention in
@@ -152,7 +155,8 @@ abbrev pub IsRequestReply : InstanceState → Request → ℕ → Reply → Made
 IsRequestReply stand (requests.List filters) now reply made =
     HoldsSilences (silences_shown now filters.items stand.silences) reply × IsNothing made
 IsRequestReply stand (requests.Get id) now reply made = found_reply now (silence_in_view now stand.silences id) reply × IsNothing made
-IsRequestReply stand (requests.Post posted bits) now reply made = IsPosted now stand.config.retention stand.silences posted bits reply made
+IsRequestReply stand (requests.Post posted bits) now reply made =
+    IsPosted stand.config.dialect now stand.config.retention stand.silences posted bits reply made
 IsRequestReply stand (requests.Delete id) now reply made = IsDeleted now stand.config.retention stand.silences id reply made
 
 -- the reply to an event, and the versions that are made for it
@@ -167,7 +171,8 @@ IsReply stand (events.Decide group_key receiver firing resolved repeat send_reso
     (entry_in_view now stand.log (record { group_key = group_key; receiver = receiver }))) (set_of firing)
     (set_of resolved) repeat send_resolved now))
     × IsNothing made
-IsReply stand (events.Mutes labels) now reply made = HoldsMutes (AreMuted labels now stand.silences) reply × IsNothing made
+IsReply stand (events.Mutes labels) now reply made =
+    HoldsMutes (AreMutedIn stand.config.dialect labels now stand.silences) reply × IsNothing made
 IsReply stand events.Show now reply made =
     HoldsViews (silences_shown now [] stand.silences) (log_in_view now stand.log) reply × IsNothing made
 IsReply stand events.Tick now reply made = (reply ≡ replies.Nothing) × IsNothing made

@@ -49,7 +49,9 @@ use Rattle.am_silence.specs.declared.error.SilenceError.TheVariants as silence_e
 use Rattle.am_silence.specs.Ids.{id_text}
 use Rattle.am_silence.specs.Plans.{post_of, planned}
 use Rattle.am_silence.specs.Refusals.{refusal, end_refusal, unread_refusal}
-use Rattle.am_matcher.specs.Matching.{matches_value, has_regexp, IsVerdict}
+use Rattle.am_matcher.specs.declared.dialect.Dialect.{Dialect}
+use Rattle.am_matcher.specs.Matching.{matches_value, has_regexp}
+use Rattle.am_matcher.specs.Dialects.{IsVerdictIn, takes_names}
 
 -- ---- when a step is refused
 
@@ -91,8 +93,11 @@ post_refusal stand posted bits now verdict =
     (post_of posted now bits stand.config.retention)
 
 -- the verdict on matchers without a regular expression
-abbrev pub plain_verdict : List Matcher → Verdict
-plain_verdict matchers = if list_all (λ m. matches_value m []) matchers then verdicts.AllEmpty else verdicts.Fine
+abbrev pub plain_verdict : Dialect → List Matcher → Verdict
+plain_verdict dialect matchers =
+    if takes_names dialect matchers
+    then (if list_all (λ m. matches_value m []) matchers then verdicts.AllEmpty else verdicts.Fine)
+    else verdicts.Bad
 
 -- Why a request is refused, where no memory is needed to find that out: the silence that is asked for is not in view, the one
 -- that is to be ended can't be ended so, or a post is refused. (Of a post with a regular expression, which is compiled, only
@@ -104,7 +109,7 @@ refused_anyway stand (events.Request (requests.Delete id)) now =
 refused_anyway stand (events.Request (requests.Post posted bits)) now =
     if has_regexp posted.matchers
     then unread_refusal (posted_over now stand.silences posted.id) posted
-    else post_refusal stand posted bits now (plain_verdict posted.matchers)
+    else post_refusal stand posted bits now (plain_verdict stand.config.dialect posted.matchers)
 refused_anyway stand _ now = None
 
 -- Memory ran out before anything was taken; or once some of what was brought was taken, and not all of it, in which there is
@@ -281,13 +286,18 @@ pub record IsLoggedHere (old : InstanceState) (entry : LogMesh) (now : ℕ) (out
   pub delivered : Delivers now (OfEntry entry ∷ []) old new
   pub sent : Sends (deltas_here old now (OfEntry entry ∷ [])) nothing_sent (sent_by outcome)
 
--- the plan of a post, or why it is refused
+-- where a post isn't refused whatever its patterns are, the verdict is that on its matchers
+abbrev pub IsJudged : InstanceState → Posted → ℕ → Verdict → Type 0
+IsJudged stand posted now verdict =
+    unread_refusal (posted_over now stand.silences posted.id) posted ≡ None → IsVerdictIn stand.config.dialect posted.matchers verdict
+
+-- the plan of a post, or why it is refused: by a verdict on its matchers, unless it is refused whatever its patterns are
 abbrev pub IsPlanned : InstanceState → Posted → ℕ → ℕ → Result Plan SilenceError → Type 0
 IsPlanned stand posted bits now (Ok plan) =
-    (verdict : Verdict) × IsVerdict posted.matchers verdict × (post_refusal stand posted bits now verdict ≡ None)
+    (verdict : Verdict) × IsJudged stand posted now verdict × (post_refusal stand posted bits now verdict ≡ None)
     × (plan ≡ planned (posted_over now stand.silences posted.id) (post_of posted now bits stand.config.retention))
 IsPlanned stand posted bits now (Err error) = error ≢ silence_errors.Memory →
-    (verdict : Verdict) × IsVerdict posted.matchers verdict × (post_refusal stand posted bits now verdict ≡ Some error)
+    (verdict : Verdict) × IsJudged stand posted now verdict × (post_refusal stand posted bits now verdict ≡ Some error)
 
 -- a request is refused for another cause than memory, and nothing is made or sent
 pub record IsTurnedAway (error : SilenceError) (outcome : Outcome) : Type 0 where

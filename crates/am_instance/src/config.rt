@@ -7,9 +7,11 @@ ghost use Rattle.std.specs.Str.{bytes_eq};
 ghost use Rattle.am_version_order.specs.Moments.{greatest};
 ghost use Rattle.am_instance.specs.Configs.{AreInOrder, AreMembers, HasTwice, IsEmptyName, IsLongName, is_peer, place_named};
 ghost use Rattle.am_refusals.specs.declared.error.ConfigError.TheVariants as errors;
+ghost use Rattle.am_matcher.specs.declared.dialect.Dialect.TheVariants as dialects;
 
 use am_dedup::due;
 use am_gossip::MOST_NAME_BYTES;
+use am_matcher::Dialect;
 use am_refusals::{ConfigError, Place};
 use am_version_order::{Interval, Moment};
 use am_wire::Text;
@@ -124,14 +126,15 @@ fn index_of(texts: &[Text], name: &str) -> Option<usize>
     texts.iter().position(|text| text.as_str() == name)
 }
 
-/// The members of a cluster, which of them this one is, for how long versions are kept after their end, and for how
-/// long members wait for one another.
+/// The members of a cluster, which of them this one is, for how long versions are kept after their end, for how long
+/// members wait for one another, and which regular expressions patterns are.
 pub struct Config {
     alloc: Global,
     members: Vec<Text>,
     place: Place,
     retention: Interval,
     peer_timeout: Interval,
+    dialect: Dialect,
 }
 
 // (so that crates above cite one drop, and don't prove those of all that is inside)
@@ -143,6 +146,7 @@ impl Drop for Config {
             place: _,
             retention: _,
             peer_timeout: _,
+            dialect: _,
         } = self;
     }
 }
@@ -152,13 +156,14 @@ impl Model for Config {
 
     ghost Value = { Settings };
 
-    ghost view = { λ c. record { members = c.members.items; place = c.place; retention = c.retention; peer_timeout = c.peer_timeout } };
+    ghost view = { λ c. record { members = c.members.items; place = c.place; retention = c.retention; peer_timeout = c.peer_timeout; dialect = c.dialect } };
 
     ghost invariant = { λ c. AreMembers c.members.items c.place };
 }
 
 impl Config {
-    /// A member of this name among these peers. Members are known by their places, in the order of their names.
+    /// A member of this name among these peers, with patterns of `regex`. Members are known by their places, in the order of
+    /// their names.
     ///
     /// # Errors
     ///
@@ -176,6 +181,7 @@ impl Config {
         ensures own { IfOk result (λ config. slice_get config.members config.place ≡ Some name) }
         ensures retention { IfOk result (λ config. config.retention ≡ retention) }
         ensures peer_timeout { IfOk result (λ config. config.peer_timeout ≡ peer_timeout) }
+        ensures dialect { IfOk result (λ config. config.dialect ≡ dialects.Regex) }
         ensures empty_name { (result ≡ Err errors.EmptyName) ↔ Any IsEmptyName (name ∷ peers.items) }
         ensures long_name { (result ≡ Err errors.LongName)
             ↔ (¬ Any IsEmptyName (name ∷ peers.items)) × Any IsLongName (name ∷ peers.items) }
@@ -190,6 +196,7 @@ impl Config {
             place: place as u64,
             retention,
             peer_timeout,
+            dialect: Dialect::Regex,
         })
     }
 
@@ -211,7 +218,17 @@ impl Config {
             place: self.place,
             retention: self.retention,
             peer_timeout: self.peer_timeout,
+            dialect: self.dialect,
         })
+    }
+
+    /// The same with patterns of the dialect. It takes no memory.
+    pub fn with_dialect(self, dialect: Dialect) -> Config
+        ensures { result ≡ record self { dialect = dialect } }
+    {
+        let mut config = self;
+        config.dialect = dialect;
+        config
     }
 
     /// The configuration of the member at a place of the same cluster.
@@ -249,6 +266,13 @@ impl Config {
         ensures { result ≡ self.now.retention }
     {
         self.retention
+    }
+
+    /// Which regular expressions patterns are.
+    pub fn dialect(&self) -> Dialect
+        ensures { result ≡ self.now.dialect }
+    {
+        self.dialect
     }
 
     /// Whether a place is that of another member.

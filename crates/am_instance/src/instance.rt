@@ -104,7 +104,7 @@ impl Instance {
         &self.config
     }
 
-    /// The patterns that it has compiled. What it answers is the same whatever these are. It takes no memory.
+    /// The patterns that it has compiled, of any dialect. What it answers is the same whatever these are. It takes no memory.
     pub fn patterns(&self) -> &PatternCache {
         &self.patterns
     }

@@ -10,7 +10,8 @@ ghost use Rattle.am_nflog.specs.Keys.{key_cmp};
 ghost use Rattle.am_nflog.specs.LogKeys.{LogKey};
 ghost use Rattle.am_gossip.specs.Streams.{fed_in, stream_of};
 ghost use Rattle.am_matcher.specs.declared.labels.Label.{Label};
-ghost use Rattle.am_matcher.specs.Mutes.{AreMuted};
+ghost use Rattle.am_matcher.specs.Mutes.{AreMutedIn};
+ghost use Rattle.am_matcher.specs.declared.dialect.Dialect.{Dialect};
 ghost use Rattle.am_merge.specs.Maps.{IsMap, at, if_live, swept};
 ghost use Rattle.am_merge.specs.Views.{IsViewAt};
 ghost use Rattle.am_collect.specs.Events.{HaveSame, taken};
@@ -85,12 +86,12 @@ pub fn equal_views_reply_alike()
     equal_views_are_one::<MeshEntry>();
 }
 
-/// Of two instances that show the same, a silence that mutes an alert at one mutes it at the other, if its patterns are not
-/// told as broken there.
+/// Of two instances that show the same, by patterns of the same dialect, a silence that mutes an alert at one mutes it at the
+/// other, if its patterns are not told as broken there.
 pub fn equal_views_mute_alike()
-    ensures { (one other : InstanceState) (now : ℕ) (labels : List Label) (ids broken others broken_too : List (List ℕ)) →
+    ensures { (dialect : Dialect) (one other : InstanceState) (now : ℕ) (labels : List Label) (ids broken others broken_too : List (List ℕ)) →
         HasMaps one → HasMaps other → ShowSame now one other →
-        AreMuted labels now one.silences ids broken → AreMuted labels now other.silences others broken_too →
+        AreMutedIn dialect labels now one.silences ids broken → AreMutedIn dialect labels now other.silences others broken_too →
         (id : List ℕ) → Contains ids id → ¬ Contains broken_too id → Contains others id }
 {
     equal_views_are_one::<MeshSilence>();
@@ -109,7 +110,8 @@ pub fn what_is_shown_replies()
     ensures { (stand : InstanceState) (silences : List Mesh) (log : List LogMesh) (event : Event) (now : ℕ) (reply : Reply) (made : Made) →
         HasMaps stand → ((id : List ℕ) → IsViewAt mesh_version silences now id (silence_in_view now stand.silences id)) →
         ((key : LogKey) → IsViewAt entry_version log now key (entry_in_view now stand.log key)) →
-        asks_shown event ≡ true → IsReply stand event now reply made → IsBareReply silences log event now reply }
+        asks_shown event ≡ true → IsReply stand event now reply made →
+        IsBareReply stand.config.dialect silences log event now reply }
 {
     live_versions_are_the_view::<MeshSilence>();
     live_versions_are_the_view::<MeshEntry>();
@@ -122,7 +124,7 @@ pub fn calm_steps_reply_as_the_bare_sets()
     // PROMISE: After calm steps its lists, silences, decisions and mutes are those of everything that it ever took.
     ensures { (start new : InstanceState) (steps : List Happened) (event : Event) (now : ℕ) (reply : Reply) (made : Made) →
         AreCalmSteps start steps new → HasMaps new → new.last ≤ now → asks_shown event ≡ true → IsReply new event now reply made →
-        IsBareReply (all_silences start steps) (all_entries start steps) event now reply }
+        IsBareReply new.config.dialect (all_silences start steps) (all_entries start steps) event now reply }
 {
     steps_show_the_bare_sets();
     what_is_shown_replies();

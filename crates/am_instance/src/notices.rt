@@ -105,7 +105,10 @@ impl Instance {
     pub(crate) fn mute(&mut self, labels: &Labels, now: Moment) -> Result<Outcome, StepError>
         ensures { IsWork self.old (events.Mutes labels.now) now result self.new }
     {
-        let muted = self.patterns.mutes(&self.silences, labels, now)?;
+        let dialect = self.config.dialect();
+        let muted = self
+            .patterns
+            .mutes_in(dialect, &self.silences, labels, now)?;
         Ok(quiet(self.alloc, Reply::Muted(muted)))
     }
 

@@ -6,7 +6,8 @@ ghost use Rattle.am_silence.specs.Ids.{id_text};
 ghost use Rattle.am_silence.specs.Plans.{versions};
 ghost use Rattle.am_silence.specs.Refusals.{unread_refusal};
 ghost use Rattle.am_silence.specs.declared.error.SilenceError.TheVariants as silence_errors;
-ghost use Rattle.am_matcher.specs.Matching.{has_regexp, IsVerdict};
+ghost use Rattle.am_matcher.specs.Matching.{has_regexp};
+ghost use Rattle.am_matcher.specs.Dialects.{IsVerdictIn};
 ghost use Rattle.am_instance.specs.InstanceStates.{silence_at};
 ghost use Rattle.am_refusals.specs.declared.error.StepError.TheVariants as errors;
 ghost use Rattle.am_instance.specs.declared.event.Event.TheVariants as events;
@@ -105,11 +106,12 @@ impl Instance {
 
     /// The verdict on posted matchers.
     fn judge(&mut self, matchers: &Matchers) -> Result<Verdict, AllocError>
-        ensures verdict { IfOk result (IsVerdict matchers.now) }
+        ensures verdict { IfOk result (IsVerdictIn self.new.config.dialect matchers.now) }
         ensures memory { OnErr result (has_regexp matchers.now ≡ true) }
         ensures same { self.new ≡ self.old }
     {
-        self.patterns.verdict(matchers)
+        let dialect = self.config.dialect();
+        self.patterns.verdict_in(dialect, matchers)
     }
 
     /// What a post makes whose matchers were judged, or why it is refused.
@@ -120,7 +122,7 @@ impl Instance {
         bits: u128,
         now: Moment,
     ) -> Result<Plan, SilenceError>
-        requires { IsVerdict posted.matchers verdict }
+        requires { IsVerdictIn self.now.config.dialect posted.matchers verdict }
         ensures planned { IsPlanned self.now posted bits now result }
         ensures memory { IfErr result (λ e. e ≡ silence_errors.Memory → post_refusal self.now posted bits now verdict ≡ None) }
     {

@@ -1,5 +1,6 @@
 //! How a member is run.
 
+use am_matcher::Dialect;
 use am_peers::Peer;
 use am_version_order::Interval;
 use std::net::SocketAddr;
@@ -22,6 +23,8 @@ pub struct Options<'a> {
     pub replicas: Vec<Peer<'a>>,
     /// How often it asks each of them for all it has.
     pub gossip_every: Duration,
+    /// Which regular expressions patterns are.
+    pub dialect: Dialect,
     /// The file of the members' secret, where they have one.
     pub secret: Option<&'a str>,
     /// Frames are heard without a secret, wherever they come from.

@@ -1,6 +1,6 @@
 -- Errors that are handed on, and what holds beside them.
 use Rattle.std.proofs.Common.{◌≡◌, Result, Ok, Err, refl, sym, ap, rules, ◌∙◌}
-use Rattle.std.specs.Prelude.{IsErrOf, IsErrAnd, OnErr, OnOk}
+use Rattle.std.specs.Prelude.{IfOk, IsErrOf, IsErrAnd, OnErr, OnOk}
 use Rattle.am_matcher.specs.declared.compiled.BuildError.{BuildError}
 use Rattle.am_matcher.specs.declared.compiled.BuildError.TheVariants as build
 use Rattle.am_matcher.specs.declared.filter.FilterError.TheVariants as filter
@@ -17,6 +17,11 @@ given_error (Err y) given error is so = sym is ∙ under_err y error so
 -- so it is the error of the result before
 pub handed_on : {T U E : Type 0} (r : Result T E) (given error : E) → IsErrAnd r (λ y. y ≡ given) → IsErrOf r error → IsErrOf {T = U} (Err given) error
 handed_on r given error is so = ap Err (given_error r given error is so)
+
+-- what follows from what holds of a value, holds of it, too
+pub if_ok_then : {T E : Type 0} (P Q : T → Type 0) (r : Result T E) → ((x : T) → P x → Q x) → IfOk r P → IfOk r Q
+if_ok_then P Q (Ok x) then p = then x p
+if_ok_then P Q (Err e) then p = tt
 
 -- what follows from what holds where there is a value, holds there too
 pub on_ok_then : {T E P Q : Type 0} (r : Result T E) → (P → Q) → OnOk r P → OnOk r Q

@@ -1,20 +1,14 @@
 -- Matchers that are judged one after the other: m comes before the others.
-use Rattle.std.proofs.Common.{◌≡◌, ℕ, suc, Bool, true, false, ◌&&◌, ◌||◌, cond, find, List, [], ◌∷◌, reverse, Option, Some, None, All, Any, refl, sym, ap, subst, ◌∙◌, arith}
+use Rattle.std.proofs.Common.{◌≡◌, ℕ, Bool, true, false, ◌||◌, cond, find, List, [], ◌∷◌, reverse, Option, Some, None, refl, sym, ap, ◌∙◌}
 use Rattle.std.specs.Prelude.{if◌then◌else◌}
 use Rattle.std.specs.Option.{option_map_or, option_or}
 use Rattle.std.proofs.lemmas.List.{reverse-append}
-use Rattle.std.proofs.lemmas.List.Elements.{All-cons}
 use Rattle.std.proofs.lemmas.List.Folds.{find-append}
 use Rattle.am_silence.specs.declared.matcher.Matcher.{Matcher}
-use Rattle.am_matcher.specs.declared.labels.Label.{Label}
 use Rattle.am_matcher.specs.Texts.{is_text}
-use Rattle.am_matcher.specs.Labels.{last_named, value_in}
+use Rattle.am_matcher.specs.Labels.{last_named}
 use Rattle.am_silence.specs.Kinds.{is_regexp}
-use Rattle.am_matcher.specs.Matching.{matches_value, has_regexp, match_all, IsSoundMatcher, IsBrokenMatcher}
-
-and_next : (before matches rest : Bool) → ((before && matches) && rest) ≡ (before && (matches && rest))
-and_next true matches rest = refl
-and_next false matches rest = refl
+use Rattle.am_matcher.specs.Matching.{has_regexp}
 
 or_later : (here later : Bool) → later ≡ true → (here || later) ≡ true
 or_later true later found = refl
@@ -28,23 +22,6 @@ last_or None m true before = refl
 last_or None m false before = refl
 
 module _ {left others : List Matcher} {m : Matcher} (first : left ≡ m ∷ others) where
-  -- m says this of its label
-  pub match_all-first : (labels : List Label) (before matches : Bool) → matches ≡ matches_value m (value_in labels m.name)
-      → ((before && matches) && match_all others labels) ≡ (before && match_all left labels)
-  match_all-first labels before matches now =
-      and_next before matches (match_all others labels)
-      ∙ ap (λ (b : Bool). before && (b && match_all others labels)) now
-      ∙ ap (λ (ms : List Matcher). before && match_all ms labels) (sym first)
-
-  pub all_sound-first : IsSoundMatcher m → All IsSoundMatcher others → All IsSoundMatcher left
-  all_sound-first sound rest = subst (All IsSoundMatcher) (sym first) (All-cons IsSoundMatcher m others sound rest)
-
-  pub any_broken-first : IsBrokenMatcher m → Any IsBrokenMatcher left
-  any_broken-first broken = subst (Any IsBrokenMatcher) (sym first) (0, m, omega arith, refl, broken)
-
-  pub any_broken-later : Any IsBrokenMatcher others → Any IsBrokenMatcher left
-  any_broken-later (k, x, within, is, broken) = subst (Any IsBrokenMatcher) (sym first) (suc k, x, omega (arith, within), is, broken)
-
   pub has_regexp-first : is_regexp m.kind ≡ true → has_regexp left ≡ true
   has_regexp-first is = ap has_regexp first ∙ ap (λ (b : Bool). b || has_regexp others) is
 

@@ -14,7 +14,10 @@ use Rattle.am_silence.specs.Mesh.{Mesh, bucket_matcher_of}
 use Rattle.am_matcher.specs.declared.labels.Label.{Label}
 use Rattle.am_matcher.specs.Buckets.{label_bucket, buckets_for, is_in}
 use Rattle.am_matcher.specs.Labels.{last_named, value_in}
+use Rattle.am_matcher.specs.declared.dialect.Dialect.{Dialect}
 use Rattle.am_matcher.specs.Matching.{matches_value, match_all, IsSoundMatcher}
+use Rattle.am_matcher.specs.Dialects.{AreMeant}
+use Rattle.am_matcher.proofs.Meant.{plain_are_meant}
 use Rattle.am_matcher.proofs.Members.{Contains-map, Contains-find, All-from_list_any, list_any-from_Contains, list_all-from_Contains, neither}
 
 module _ (labels : List Label) where
@@ -48,20 +51,21 @@ module _ (labels : List Label) where
   unmet kinds.NotEqual name pattern wants none = absurd (true≢false (sym wants))
   unmet kinds.NotRegexp name pattern wants none = absurd (true≢false (sym wants))
 
-  module _ (ms : List Matcher) where
+  module _ (dialect : Dialect) (ms : List Matcher) where
     wanted_by : (r : Bool) (m : Matcher) → (if r then None else find wants_label ms) ≡ Some m → (r ≡ false) × (find wants_label ms ≡ Some m)
     wanted_by true m e = absurd cc
     wanted_by false m e = (refl, e)
 
-    by_matcher : (o : Option Matcher) → bucket_matcher_of ms ≡ o → list_any (λ b. bytes_eq (option_map_or writes_matcher o []) b) (buckets_for labels) ≡ false → All IsSoundMatcher ms × (match_all ms labels ≡ false)
+    by_matcher : (o : Option Matcher) → bucket_matcher_of ms ≡ o → list_any (λ b. bytes_eq (option_map_or writes_matcher o []) b) (buckets_for labels) ≡ false → AreMeant dialect ms ms × All IsSoundMatcher ms × (match_all ms labels ≡ false)
     by_matcher None e none = absurd (true≢false none)
     by_matcher (Some m) e none =
         let wanted = wanted_by (list_any (λ x. is_regexp x.kind) ms) m e in
         let found = Contains-find wants_label ms m wanted.1 in
         let at_none = neither (bytes_eq (writes_matcher m) []) (is_at_label (writes_matcher m)) none in (
+          plain_are_meant dialect ms wanted.0,
           All-weaker (λ x. is_regexp x.kind ≡ false) IsSoundMatcher (λ x plain regexp. absurd (true≢false (sym regexp ∙ plain))) ms (All-from_list_any (λ x. is_regexp x.kind) ms wanted.0),
           list_all-from_Contains (λ x. matches_value x (value_in labels x.name)) ms m found.0 (unmet m.kind m.name m.pattern found.1 at_none.1),
         )
 
-  pub other_bucket : (m : Mesh) → is_in (buckets_for labels) m ≡ false → All IsSoundMatcher m.silence.matchers × (match_all m.silence.matchers labels ≡ false)
-  other_bucket m none = by_matcher m.silence.matchers (bucket_matcher_of m.silence.matchers) refl none
+  pub other_bucket : (dialect : Dialect) (m : Mesh) → is_in (buckets_for labels) m ≡ false → AreMeant dialect m.silence.matchers m.silence.matchers × All IsSoundMatcher m.silence.matchers × (match_all m.silence.matchers labels ≡ false)
+  other_bucket dialect m none = by_matcher dialect m.silence.matchers (bucket_matcher_of m.silence.matchers) refl none

@@ -7,6 +7,8 @@ use Rattle.regex_nfa.specs.declared.build.BuildError as tables
 use Rattle.regex_nfa.specs.declared.build.BuildError.TheVariants as table
 use Rattle.am_matcher.specs.declared.compiled.BuildError.{BuildError}
 use Rattle.am_matcher.specs.declared.compiled.BuildError.TheVariants as build
+use Rattle.am_matcher.specs.declared.re2.translation.Re2Error.{Re2Error}
+use Rattle.am_matcher.specs.declared.re2.translation.Re2Error.TheVariants as re2
 use Rattle.am_matcher.specs.declared.filter.FilterError.{FilterError}
 use Rattle.am_matcher.specs.declared.filter.FilterError.TheVariants as filter
 
@@ -29,3 +31,8 @@ of_compiler _ = build.BadPattern
 abbrev pub of_tables : tables.BuildError → BuildError
 of_tables table.OutOfMemory = build.Memory
 of_tables table.Malformed = build.BadPattern
+
+-- what no pattern of RE2 is taken for
+abbrev pub of_re2 : Re2Error → BuildError
+of_re2 (re2.Refused at) = build.BadPattern
+of_re2 re2.Memory = build.Memory

@@ -16,4 +16,5 @@ pub mod Re2Pieces
 pub mod Re2
 pub mod Re2Nesting
 pub mod Re2Errors
+pub mod Dialects
 pub mod Hazards

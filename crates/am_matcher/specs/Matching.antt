@@ -13,7 +13,7 @@ use Rattle.am_silence.specs.declared.silence.Silence.{Silence}
 use Rattle.am_matcher.specs.Labels.{last_named, value_in}
 use Rattle.am_matcher.specs.declared.labels.Label.{Label}
 use Rattle.am_matcher.specs.Patterns.{is_match, IsSound, IsBroken}
-use Rattle.am_matcher.specs.Sizes.{CompiledPattern}
+use Rattle.am_matcher.specs.Sizes.{Compilation}
 
 -- the value is the text, or matches the pattern from end to end
 abbrev pub is_found_by : MatcherKind → List ℕ → List ℕ → Bool
@@ -49,7 +49,7 @@ abbrev pub IsBrokenMatcher : Matcher → Type 0
 IsBrokenMatcher m = (is_regexp m.kind ≡ true) × IsBroken m.pattern
 
 -- where a regular expression decides, its pattern is compiled, and else none is
-abbrev pub IsCompiled : Matcher → Option CompiledPattern → Type 0
+abbrev pub IsCompiled : Matcher → Option Compilation → Type 0
 IsCompiled m (Some compiled) = (is_regexp m.kind ≡ true) × (compiled.text ≡ m.pattern)
 IsCompiled m None = is_regexp m.kind ≡ false
 

@@ -5,20 +5,22 @@ use Rattle.am_silence.specs.Mesh.{Mesh, mesh_version}
 use Rattle.am_matcher.specs.declared.labels.Label.{Label}
 use Rattle.am_matcher.specs.declared.muting.Effect.{Effect}
 use Rattle.am_matcher.specs.declared.muting.Effect.TheVariants.{Idle, Mutes, Passes, Broken}
-use Rattle.am_matcher.specs.Matching.{IsSoundMatcher, IsBrokenMatcher, match_all}
+use Rattle.am_silence.specs.declared.matcher.Matcher.{Matcher}
+use Rattle.am_matcher.specs.declared.dialect.Dialect.{Dialect}
+use Rattle.am_matcher.specs.declared.dialect.Dialect.TheVariants.{Regex}
+use Rattle.am_matcher.specs.Matching.{IsSoundMatcher, match_all}
+use Rattle.am_matcher.specs.Dialects.{AreMeant, DoMatch, IsRefusedMatcher}
 
 -- in view at the moment, begun and not ended
 abbrev pub is_active : ℕ → Mesh → Bool
 is_active now m = (is_live now (mesh_version m) && nat_le m.silence.starts_at now) && nat_lt now m.silence.ends_at
 
 -- What a silence does to an alert: where it is active and no pattern is broken, its matchers say.
-abbrev pub IsEffect : List Label → ℕ → Mesh → Effect → Type 0
-IsEffect labels now m Idle = is_active now m ≡ false
-IsEffect labels now m Mutes = (is_active now m ≡ true) × All IsSoundMatcher m.silence.matchers
-    × (match_all m.silence.matchers labels ≡ true)
-IsEffect labels now m Passes = (is_active now m ≡ true) × All IsSoundMatcher m.silence.matchers
-    × (match_all m.silence.matchers labels ≡ false)
-IsEffect labels now m Broken = (is_active now m ≡ true) × Any IsBrokenMatcher m.silence.matchers
+abbrev pub IsEffect : Dialect → List Label → ℕ → Mesh → Effect → Type 0
+IsEffect dialect labels now m Idle = is_active now m ≡ false
+IsEffect dialect labels now m Mutes = (is_active now m ≡ true) × DoMatch dialect m.silence.matchers labels true
+IsEffect dialect labels now m Passes = (is_active now m ≡ true) × DoMatch dialect m.silence.matchers labels false
+IsEffect dialect labels now m Broken = (is_active now m ≡ true) × Any (IsRefusedMatcher dialect) m.silence.matchers
 
 -- the id alone where the effect is that, else none
 abbrev pub if_mutes : Effect → List ℕ → List (List ℕ)
@@ -34,19 +36,21 @@ if_broken Mutes id = []
 if_broken Passes id = []
 if_broken Broken id = id ∷ []
 
--- a silence, and whether one of its patterns is told as broken
+-- a silence, whether one of its patterns is told as broken, and else its matchers as they are meant
 pub record Judged : Type 0 where
   pub silence : Mesh
   pub broken : Bool
+  pub meant : List Matcher
 
--- one of the patterns of a broken silence is broken, and the patterns of another are all read
-pub record IsJudged (j : Judged) : Type 0 where
-  pub refused : j.broken ≡ true → Any IsBrokenMatcher j.silence.silence.matchers
-  pub read : j.broken ≡ false → All IsSoundMatcher j.silence.silence.matchers
+-- one of the patterns of a broken silence is broken, and those that the matchers of another stand for are all read
+pub record IsJudged (dialect : Dialect) (j : Judged) : Type 0 where
+  pub refused : j.broken ≡ true → Any (IsRefusedMatcher dialect) j.silence.silence.matchers
+  pub are_meant : j.broken ≡ false → AreMeant dialect j.silence.silence.matchers j.meant
+  pub read : j.broken ≡ false → All IsSoundMatcher j.meant
 
 -- the silence is read, and all its matchers match the labels
 abbrev pub is_muting : List Label → Judged → Bool
-is_muting labels j = not j.broken && match_all j.silence.silence.matchers labels
+is_muting labels j = not j.broken && match_all j.meant labels
 
 -- the id of the silence
 abbrev pub id_of : Judged → List ℕ
@@ -54,9 +58,13 @@ id_of j = j.silence.silence.id
 
 -- Each active silence is judged. The ids are those of the silences that aren't broken and whose matchers all match, and
 -- the broken ids are those of the broken ones, both in the order of the map.
-pub record AreMuted (labels : List Label) (now : ℕ) (map_of_silences : List Mesh) (ids broken : List (List ℕ)) : Type 0 where
+pub record AreMutedIn (dialect : Dialect) (labels : List Label) (now : ℕ) (map_of_silences : List Mesh) (ids broken : List (List ℕ)) : Type 0 where
   pub judged : List Judged
   pub all_active : map (λ j. j.silence) judged ≡ filter (is_active now) map_of_silences
-  pub are_judged : All IsJudged judged
+  pub are_judged : All (IsJudged dialect) judged
   pub ids_are : ids ≡ map id_of (filter (is_muting labels) judged)
   pub broken_are : broken ≡ map id_of (filter (λ j. j.broken) judged)
+
+-- the same where patterns are those of `regex`
+abbrev pub AreMuted : List Label → ℕ → List Mesh → List (List ℕ) → List (List ℕ) → Type 0
+AreMuted = AreMutedIn Regex

@@ -1,13 +1,15 @@
 //! Compiled patterns that are kept.
 
-ghost use Rattle.std.specs.Prelude.{◌≡◌, ◌≤◌, ◌+◌, ◌-◌, ◌^◌, min, ℕ, Bool, true, false, List, [], All, Contains, IfOk, OnOk, OnErr, IsErrOf};
-ghost use Rattle.am_matcher.specs.Patterns.{is_match, IsSound, IsBroken};
+ghost use Rattle.std.specs.Prelude.{◌≡◌, ◌≤◌, ◌+◌, ◌-◌, ◌^◌, min, ℕ, Bool, true, false, List, [], All, Contains, IfOk, OnErr, IsErrOf};
+ghost use Rattle.am_matcher.specs.Patterns.{IsSound, IsBroken};
+ghost use Rattle.am_matcher.specs.Dialects.{IsAnswer, IsBrokenIn, IsMeaning, IsSoundIn};
 ghost use Rattle.am_matcher.specs.Sizes.{size_of, size_of_all};
 ghost use Rattle.am_matcher.specs.Uses.{is_used_by, TextsPass};
 
 use crate::compiled::BuildError;
+use crate::dialect::Dialect;
 use crate::entries::{Entry, ask, count, drop_unused, is_broken_in, place_of, whole_in};
-use crate::kept::Kept;
+use crate::kept::{Kept, whole_of};
 use crate::whole::Whole;
 use am_merge::Held;
 use am_silence::MeshSilence;
@@ -23,14 +25,15 @@ pub struct Prepared {
     /// The bytes that are counted for what was compiled: of a broken pattern those of its text alone, and none where it was
     /// kept before.
     pub bytes: usize,
-    /// `regex` refuses the pattern.
+    /// The pattern is refused: by `regex`, or as one of RE2.
     pub is_broken: bool,
 }
 
 /// Compiled patterns of silences, so that each is compiled once and not at each call.
 ///
 /// Contracts see the patterns that are kept, in the order of their texts. What is answered is the same whatever these
-/// are. Where there is no room for one more pattern, or no memory, it is built for the call alone.
+/// are. Where there is no room for one more pattern, or no memory, or its text is kept as a pattern of another dialect, it is
+/// built for the call alone.
 pub struct PatternCache {
     alloc: Global,
     entries: Vec<Entry>,
@@ -90,20 +93,20 @@ impl PatternCache {
     /// Whether the value matches the pattern from end to end. The pattern may be kept if `keeps` says so.
     pub(crate) fn is_match(
         &mut self,
+        dialect: Dialect,
         pattern: &str,
         value: &str,
         keeps: bool,
     ) -> Result<bool, BuildError>
-        ensures answer { IfOk result (λ yes. yes ≡ is_match pattern.now value.now) }
-        ensures sound { OnOk result (IsSound pattern.now) }
-        ensures broken { IsErrOf result BuildError.BadPattern → IsBroken pattern.now }
+        ensures answer { IfOk result (IsAnswer dialect pattern.now value.now) }
+        ensures broken { IsErrOf result BuildError.BadPattern → IsBrokenIn dialect pattern.now }
         ensures same { keeps ≡ false → self.new ≡ self.old }
         ensures kept { (test : List ℕ → Bool) → test pattern.now ≡ true → TextsPass test self.old → TextsPass test self.new }
     {
-        if let Some(found) = ask(&mut self.entries, pattern, value) {
+        if let Some(found) = ask(&mut self.entries, dialect, pattern, value) {
             return found;
         }
-        let mut built = Kept::build(self.alloc, pattern)?;
+        let mut built = Kept::build(self.alloc, dialect, pattern)?;
         let found = built.is_match(value);
         if !keeps {
             return found;
@@ -112,7 +115,7 @@ impl PatternCache {
         found
     }
 
-    /// Compiles a pattern and keeps it, where it is not kept yet and there is room.
+    /// Compiles a pattern of `regex` and keeps it, where it is not kept yet and there is room.
     ///
     /// # Errors
     ///
@@ -125,28 +128,44 @@ impl PatternCache {
         ensures kept { (test : List ℕ → Bool) → test pattern.now ≡ true → TextsPass test self.old → TextsPass test self.new }
         ensures same { OnErr result (self.new ≡ self.old) }
     {
-        if let Some(is_broken) = is_broken_in(self.entries.as_slice(), pattern) {
+        self.prepare_in(Dialect::Regex, pattern)
+    }
+
+    /// As [`PatternCache::prepare`], for a pattern of the dialect.
+    ///
+    /// # Errors
+    ///
+    /// [`AllocError`] where memory runs out. What is kept stays as it was.
+    pub fn prepare_in(&mut self, dialect: Dialect, pattern: &str) -> Result<Prepared, AllocError>
+        ensures sound { IfOk result (λ prepared. prepared.is_broken ≡ false → IsSoundIn dialect pattern.now) }
+        ensures broken { IfOk result (λ prepared. prepared.is_broken ≡ true → IsBrokenIn dialect pattern.now) }
+        ensures size { IfOk result (λ prepared. size_of_all self.new ≤ size_of_all self.old + prepared.bytes) }
+        ensures old { All (Contains self.new) self.old }
+        ensures kept { (test : List ℕ → Bool) → test pattern.now ≡ true → TextsPass test self.old → TextsPass test self.new }
+        ensures same { OnErr result (self.new ≡ self.old) }
+    {
+        if let Some(is_broken) = is_broken_in(self.entries.as_slice(), dialect, pattern) {
             return Ok(Prepared {
                 bytes: 0,
                 is_broken,
             });
         }
-        let built = Kept::build(self.alloc, pattern)?;
+        let built = Kept::build(self.alloc, dialect, pattern)?;
         let bytes = built.size();
         let is_broken = built.is_broken();
         self.keep(built)?;
         Ok(Prepared { bytes, is_broken })
     }
 
-    /// The pattern, compiled: it shares what is kept, or is built.
-    pub(crate) fn whole(&self, pattern: &str) -> Result<Whole, BuildError>
-        ensures text { IfOk result (λ whole. whole.text ≡ pattern.now) }
-        ensures sound { OnOk result (IsSound pattern.now) }
-        ensures broken { IsErrOf result BuildError.BadPattern → IsBroken pattern.now }
+    /// What is compiled of the pattern of `regex` that a pattern stands for: it shares what is kept, or is built.
+    pub(crate) fn whole(&self, dialect: Dialect, pattern: &str) -> Result<Whole, BuildError>
+        ensures meant { IfOk result (λ whole. IsMeaning dialect pattern.now whole.text) }
+        ensures sound { IfOk result (λ whole. IsSound whole.text) }
+        ensures broken { IsErrOf result BuildError.BadPattern → IsBrokenIn dialect pattern.now }
     {
-        match whole_in(self.entries.as_slice(), pattern) {
+        match whole_in(self.entries.as_slice(), dialect, pattern) {
             Some(found) => found,
-            None => Whole::build(self.alloc, pattern),
+            None => whole_of(self.alloc, dialect, pattern),
         }
     }
 

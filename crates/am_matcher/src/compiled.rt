@@ -1,11 +1,16 @@
 //! A matcher that is ready to be asked.
 
-ghost use Rattle.std.specs.Prelude.{◌≡◌, List, ℕ, IfOk, OnOk, IsErrOf};
+ghost use Rattle.std.specs.Prelude.{◌≡◌, true, List, ℕ, IfOk, OnOk, IsErrOf};
 ghost use Rattle.am_matcher.specs.Matching.{is_found_by, is_met, matches_value, IsSoundMatcher, IsBrokenMatcher};
+ghost use Rattle.am_silence.specs.Kinds.{is_regexp};
+ghost use Rattle.am_matcher.specs.Dialects.{IsMeant, IsRefusedMatcher};
 
 use crate::cache::PatternCache;
+use crate::dialect::Dialect;
+use crate::re2::Re2Error;
 use crate::whole::Whole;
 use am_silence::{Matcher, MatcherKind};
+use am_wire::Text;
 use std::alloc::{AllocError, Global};
 use std::marker::Model;
 use thiserror::Error;
@@ -13,7 +18,7 @@ use thiserror::Error;
 /// Why a matcher was not built.
 #[derive(Clone, Copy, Debug, PartialEq, Eq, Error)]
 pub enum BuildError {
-    /// `regex` refuses the pattern, by itself or as it is compiled.
+    /// `regex` refuses the pattern, by itself or as it is compiled; or it isn't taken as one of RE2.
     #[error("bad pattern")]
     BadPattern,
     #[error("out of memory")]
@@ -73,7 +78,22 @@ impl From<regex_nfa::BuildError> for BuildError {
     }
 }
 
-/// A matcher with its pattern compiled. Contracts see the matcher.
+impl From<Re2Error> for BuildError {
+    ghost use Rattle.std.specs.Prelude.{◌≡◌};
+    ghost use Rattle.am_matcher.specs.Errors.{of_re2};
+
+    ghost from_gives = { λ given e. e ≡ of_re2 given };
+
+    fn from(error: Re2Error) -> BuildError {
+        match error {
+            Re2Error::Refused(_) => BuildError::BadPattern,
+            Re2Error::Memory => BuildError::Memory,
+        }
+    }
+}
+
+/// A matcher with its pattern compiled. Contracts see the matcher as it is meant: with the pattern of `regex` that its own
+/// stands for.
 pub struct Compiled {
     matcher: Matcher,
     whole: Option<Whole>,
@@ -112,29 +132,58 @@ impl Compiled {
         ensures sound { OnOk result (IsSoundMatcher matcher.now) }
         ensures broken { IsErrOf result BuildError.BadPattern → IsBrokenMatcher matcher.now }
     {
-        Compiled::build_by(&PatternCache::new(alloc), matcher)
+        Compiled::build_in(Dialect::Regex, &PatternCache::new(alloc), matcher)
     }
 
-    /// As [`Compiled::build`]: a pattern that is kept is shared, and nothing is compiled for it.
+    /// As [`Compiled::build`], of a matcher of the dialect. A pattern that is kept is shared, and nothing is compiled for it.
     ///
     /// # Errors
     ///
-    /// As those of [`Compiled::build`].
-    pub(crate) fn build_by(
+    /// [`BuildError::BadPattern`] where the pattern is broken in the dialect.
+    pub(crate) fn build_in(
+        dialect: Dialect,
         patterns: &PatternCache,
         matcher: &Matcher,
     ) -> Result<Compiled, BuildError>
-        ensures matcher { IfOk result (λ compiled. compiled ≡ matcher.now) }
-        ensures sound { OnOk result (IsSoundMatcher matcher.now) }
-        ensures broken { IsErrOf result BuildError.BadPattern → IsBrokenMatcher matcher.now }
+        ensures meant { IfOk result (IsMeant dialect matcher.now) }
+        ensures sound { IfOk result IsSoundMatcher }
+        ensures broken { IsErrOf result BuildError.BadPattern → IsRefusedMatcher dialect matcher.now }
     {
-        let whole = if matcher.kind.is_regexp() {
-            Some(patterns.whole(matcher.pattern.as_str())?)
+        if matcher.kind.is_regexp() {
+            Compiled::of_regexp(dialect, patterns, matcher)
         } else {
-            None
+            let matcher = matcher.try_clone(patterns.alloc())?;
+            Ok(Compiled {
+                matcher,
+                whole: None,
+            })
+        }
+    }
+
+    /// The matcher with its regular expression compiled.
+    fn of_regexp(
+        dialect: Dialect,
+        patterns: &PatternCache,
+        matcher: &Matcher,
+    ) -> Result<Compiled, BuildError>
+        requires { is_regexp matcher.now.kind ≡ true }
+        ensures meant { IfOk result (IsMeant dialect matcher.now) }
+        ensures sound { IfOk result IsSoundMatcher }
+        ensures broken { IsErrOf result BuildError.BadPattern → IsRefusedMatcher dialect matcher.now }
+    {
+        let whole = patterns.whole(dialect, matcher.pattern.as_str())?;
+        let alloc = patterns.alloc();
+        let name = matcher.name.try_clone(alloc)?;
+        let pattern = Text::copied(alloc, whole.text())?;
+        let matcher = Matcher {
+            kind: matcher.kind,
+            name,
+            pattern,
         };
-        let matcher = matcher.try_clone(patterns.alloc())?;
-        Ok(Compiled { matcher, whole })
+        Ok(Compiled {
+            matcher,
+            whole: Some(whole),
+        })
     }
 
     /// The matcher. It takes no memory.

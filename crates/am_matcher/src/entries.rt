@@ -1,14 +1,16 @@
 //! The entries of a cache: patterns that are kept, in the order of their texts.
 
-ghost use Rattle.std.specs.Prelude.{◌≡◌, ℕ, ◌^◌, ◌<◌, ◌≤◌, Bool, true, false, List, All, Contains, filter, length, IfOk, IfErr, IfSome, OnOk, IsErrOf};
+ghost use Rattle.std.specs.Prelude.{◌≡◌, ℕ, ◌^◌, ◌<◌, ◌≤◌, Bool, true, false, List, All, Contains, filter, length, IfOk, IfErr, IfSome, IsErrOf};
 ghost use Rattle.std.specs.List.{HoldsAt};
 ghost use Rattle.am_silence.specs.Kinds.{is_regexp};
-ghost use Rattle.am_matcher.specs.Patterns.{is_match, IsSound, IsBroken};
+ghost use Rattle.am_matcher.specs.Patterns.{IsSound};
+ghost use Rattle.am_matcher.specs.Dialects.{IsAnswer, IsBrokenIn, IsMeaning, IsSoundIn};
 ghost use Rattle.am_matcher.specs.Sizes.{size_of_all};
 ghost use Rattle.am_matcher.specs.Uses.{is_used_by, PatternsPass, TextsPass};
 ghost use Rattle.am_matcher.specs.Entries.{patterns_in, MarkedPass};
 
 use crate::compiled::BuildError;
+use crate::dialect::Dialect;
 use crate::kept::Kept;
 use crate::whole::Whole;
 use am_merge::Held;
@@ -31,40 +33,58 @@ pub fn place_of(entries: &[Entry], text: &str) -> Result<usize, usize>
     entries.binary_search_by(|entry| entry.kept.text().cmp(text))
 }
 
-/// Whether the value matches the pattern of a text, where that is kept.
-pub fn ask(entries: &mut Vec<Entry>, pattern: &str, value: &str) -> Option<Result<bool, BuildError>>
-    ensures answer { IfSome result (λ found. IfOk found (λ yes. yes ≡ is_match pattern.now value.now)) }
-    ensures sound { IfSome result (λ found. OnOk found (IsSound pattern.now)) }
-    ensures broken { IfSome result (λ found. IsErrOf found BuildError.BadPattern → IsBroken pattern.now) }
-    ensures same { patterns_in entries.new.items ≡ patterns_in entries.old.items }
+/// Where the pattern of a text is, if it is one of the dialect.
+fn place_in(entries: &[Entry], dialect: Dialect, text: &str) -> Option<usize>
+    ensures found { IfSome result (HoldsAt (λ e. e.kept.text ≡ text.now) entries.now) }
+    ensures dialect { IfSome result (HoldsAt (λ e. e.kept.dialect ≡ dialect) entries.now) }
+    ensures inside { IfSome result (λ place. place < length entries.now) }
 {
-    let Ok(place) = place_of(entries.as_slice(), pattern) else {
+    let Ok(place) = place_of(entries, text) else {
         return None;
     };
+    if entries[place].kept.dialect() == dialect {
+        Some(place)
+    } else {
+        None
+    }
+}
+
+/// Whether the value matches the pattern of a text, where that is kept as one of the dialect.
+pub fn ask(
+    entries: &mut Vec<Entry>,
+    dialect: Dialect,
+    pattern: &str,
+    value: &str,
+) -> Option<Result<bool, BuildError>>
+    ensures answer { IfSome result (λ found. IfOk found (IsAnswer dialect pattern.now value.now)) }
+    ensures broken { IfSome result (λ found. IsErrOf found BuildError.BadPattern → IsBrokenIn dialect pattern.now) }
+    ensures same { patterns_in entries.new.items ≡ patterns_in entries.old.items }
+{
+    let place = place_in(entries.as_slice(), dialect, pattern)?;
     let entry = &mut entries[place];
     Some(entry.kept.is_match(value))
 }
 
-/// Whether the pattern of a text is broken, where it is kept.
-pub fn is_broken_in(entries: &[Entry], pattern: &str) -> Option<bool>
-    ensures sound { IfSome result (λ broken. broken ≡ false → IsSound pattern.now) }
-    ensures broken { IfSome result (λ broken. broken ≡ true → IsBroken pattern.now) }
+/// Whether the pattern of a text is broken, where it is kept as one of the dialect.
+pub fn is_broken_in(entries: &[Entry], dialect: Dialect, pattern: &str) -> Option<bool>
+    ensures sound { IfSome result (λ broken. broken ≡ false → IsSoundIn dialect pattern.now) }
+    ensures broken { IfSome result (λ broken. broken ≡ true → IsBrokenIn dialect pattern.now) }
 {
-    let Ok(place) = place_of(entries, pattern) else {
-        return None;
-    };
+    let place = place_in(entries, dialect, pattern)?;
     Some(entries[place].kept.is_broken())
 }
 
-/// The pattern of a text, compiled, where it is kept. It shares what is kept.
-pub fn whole_in(entries: &[Entry], pattern: &str) -> Option<Result<Whole, BuildError>>
-    ensures text { IfSome result (λ found. IfOk found (λ whole. whole.text ≡ pattern.now)) }
-    ensures sound { IfSome result (λ found. OnOk found (IsSound pattern.now)) }
-    ensures broken { IfSome result (λ found. IsErrOf found BuildError.BadPattern → IsBroken pattern.now) }
+/// What was compiled of the pattern of a text, where it is kept as one of the dialect. It shares what is kept.
+pub fn whole_in(
+    entries: &[Entry],
+    dialect: Dialect,
+    pattern: &str,
+) -> Option<Result<Whole, BuildError>>
+    ensures meant { IfSome result (λ found. IfOk found (λ whole. IsMeaning dialect pattern.now whole.text)) }
+    ensures sound { IfSome result (λ found. IfOk found (λ whole. IsSound whole.text)) }
+    ensures broken { IfSome result (λ found. IsErrOf found BuildError.BadPattern → IsBrokenIn dialect pattern.now) }
 {
-    let Ok(place) = place_of(entries, pattern) else {
-        return None;
-    };
+    let place = place_in(entries, dialect, pattern)?;
     Some(entries[place].kept.whole())
 }
 

@@ -4,10 +4,12 @@ ghost use Rattle.std.specs.Prelude.{◌≡◌, ◌≢◌, List, ℕ, chars, enco
 ghost use Rattle.am_silence.specs.declared.matcher.Matcher.{Matcher};
 ghost use Rattle.am_matcher.specs.Filters.{IsFilter, IsValue};
 ghost use Rattle.am_matcher.specs.Texts.{is_text};
+ghost use Rattle.am_matcher.specs.Dialects.{IsFilterIn, IsRefusedMatcher};
 ghost use Rattle.am_matcher.specs.Matching.{IsSoundMatcher, IsBrokenMatcher, pattern_in, passes, regexp_of};
 
 use crate::cache::PatternCache;
 use crate::compiled::{BuildError, Compiled};
+use crate::dialect::Dialect;
 use crate::filter_text::parts_of;
 use crate::pieces::{inside_of, pieces_of, text_of, text_of_pieces};
 use am_silence::{Matcher, MatcherIter, MatcherRef, MeshSilence, Silence};
@@ -22,7 +24,7 @@ pub enum FilterError {
     /// The text is no filter.
     #[error("bad filter")]
     Syntax,
-    /// `regex` refuses its pattern.
+    /// `regex` refuses its pattern, or it isn't taken as one of RE2.
     #[error("bad pattern")]
     BadPattern,
     #[error("out of memory")]
@@ -117,7 +119,7 @@ fn pattern_of<'a>(matchers: MatcherIter<'a>, name: &str) -> &'a str
 
 /// A filter of a query, as `job=~"x|y"`: a matcher that a silence's own matchers are asked about.
 ///
-/// Contracts see the matcher that the text stands for.
+/// Contracts see the matcher that the text stands for, as it is meant: with the pattern of `regex` that its own stands for.
 pub struct Filter {
     compiled: Compiled,
 }
@@ -143,7 +145,7 @@ impl Filter {
     /// # Errors
     ///
     /// [`FilterError::Syntax`] where the text is no filter, and [`FilterError::BadPattern`] where
-    /// `regex` refuses its pattern.
+    /// `regex` refuses its pattern, or it isn't taken as one of RE2.
     pub fn parse(alloc: Global, text: &str) -> Result<Filter, FilterError>
         ensures read { IfOk result (IsFilter text.now) }
         ensures sound { IfOk result IsSoundMatcher }
@@ -166,8 +168,28 @@ impl Filter {
         ensures broken { IsErrOf result FilterError.BadPattern →
             (m : Matcher) × IsFilter text.now m × IsBrokenMatcher m }
     {
+        Filter::parse_in(Dialect::Regex, patterns, text)
+    }
+
+    /// As [`Filter::parse_by`], of a text whose pattern is one of the dialect.
+    ///
+    /// # Errors
+    ///
+    /// [`FilterError::Syntax`] where the text is no filter, and [`FilterError::BadPattern`] where its pattern is broken in the
+    /// dialect.
+    pub fn parse_in(
+        dialect: Dialect,
+        patterns: &PatternCache,
+        text: &str,
+    ) -> Result<Filter, FilterError>
+        ensures read { IfOk result (IsFilterIn dialect text.now) }
+        ensures sound { IfOk result IsSoundMatcher }
+        ensures syntax { IsErrOf result FilterError.Syntax → (m : Matcher) → ¬ IsFilter text.now m }
+        ensures broken { IsErrOf result FilterError.BadPattern →
+            (m : Matcher) × IsFilter text.now m × IsRefusedMatcher dialect m }
+    {
         let matcher = read_filter(patterns.alloc(), text)?;
-        let compiled = Compiled::build_by(patterns, &matcher)?;
+        let compiled = Compiled::build_in(dialect, patterns, &matcher)?;
         Ok(Filter { compiled })
     }
 

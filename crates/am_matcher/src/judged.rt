@@ -2,12 +2,14 @@
 
 ghost use Rattle.std.specs.Prelude.{◌≡◌, List, ℕ, Bool, [], true, false, All, Any, Ok, Err, IfOk, OnOk, OnErr, IsErrOf, alloc_error};
 ghost use Rattle.am_silence.specs.Kinds.{is_regexp};
-ghost use Rattle.am_matcher.specs.Labels.{value_in};
-ghost use Rattle.am_matcher.specs.Matching.{matches_value, has_regexp, IsSoundMatcher, IsBrokenMatcher, match_all, IsVerdict};
+ghost use Rattle.am_matcher.specs.Matching.{has_regexp, IsSoundMatcher, IsBrokenMatcher, match_all, IsVerdict};
+ghost use Rattle.am_matcher.specs.Dialects.{DoMatch, DoesMatch, IsRefusedMatcher, IsVerdictIn};
 ghost use Rattle.am_matcher.specs.Uses.{PatternsPass, TextsPass};
 
 use crate::cache::PatternCache;
 use crate::compiled::{BuildError, as_wanted};
+use crate::dialect::Dialect;
+use crate::label_names::takes_names;
 use crate::labels::{Label, value_of};
 use am_silence::{Matcher, MatcherIter, MatcherRef, Matchers, Verdict};
 use std::alloc::{AllocError, Global};
@@ -15,13 +17,13 @@ use std::alloc::{AllocError, Global};
 /// Whether the value of a matcher's label matches. Its pattern may be kept if `keeps` says so.
 fn judge(
     patterns: &mut PatternCache,
+    dialect: Dialect,
     matcher: &MatcherRef<'_>,
     labels: &[Label],
     keeps: bool,
 ) -> Result<bool, BuildError>
-    ensures answer { IfOk result (λ yes. yes ≡ matches_value matcher.now (value_in labels.now matcher.now.name)) }
-    ensures sound { OnOk result (IsSoundMatcher matcher.now) }
-    ensures broken { IsErrOf result BuildError.BadPattern → IsBrokenMatcher matcher.now }
+    ensures answer { IfOk result (DoesMatch dialect matcher.now labels.now) }
+    ensures broken { IsErrOf result BuildError.BadPattern → IsRefusedMatcher dialect matcher.now }
     ensures failed { OnErr result (is_regexp matcher.now.kind ≡ true) }
     ensures same { keeps ≡ false → patterns.new ≡ patterns.old }
     ensures kept { (test : List ℕ → Bool) → (is_regexp matcher.now.kind ≡ true → test matcher.now.pattern ≡ true) →
@@ -29,7 +31,7 @@ fn judge(
 {
     let value = value_of(labels, matcher.name());
     let found = if matcher.kind().is_regexp() {
-        patterns.is_match(matcher.pattern(), value, keeps)?
+        patterns.is_match(dialect, matcher.pattern(), value, keeps)?
     } else {
         matcher.pattern() == value
     };
@@ -40,13 +42,13 @@ fn judge(
 /// labels are, and may be kept if `keeps` says so.
 pub fn judge_all(
     patterns: &mut PatternCache,
+    dialect: Dialect,
     matchers: MatcherIter<'_>,
     labels: &[Label],
     keeps: bool,
 ) -> Result<bool, BuildError>
-    ensures answer { IfOk result (λ yes. yes ≡ match_all matchers.entry labels.now) }
-    ensures sound { OnOk result (All IsSoundMatcher matchers.entry) }
-    ensures broken { IsErrOf result BuildError.BadPattern → Any IsBrokenMatcher matchers.entry }
+    ensures answer { IfOk result (DoMatch dialect matchers.entry labels.now) }
+    ensures broken { IsErrOf result BuildError.BadPattern → Any (IsRefusedMatcher dialect) matchers.entry }
     ensures failed { OnErr result (has_regexp matchers.entry ≡ true) }
     ensures same { keeps ≡ false → patterns.new ≡ patterns.old }
     ensures kept { (test : List ℕ → Bool) → PatternsPass test matchers.entry →
@@ -54,7 +56,7 @@ pub fn judge_all(
 {
     let mut all = true;
     for matcher in matchers {
-        let matches = judge(patterns, &matcher, labels, keeps)?;
+        let matches = judge(patterns, dialect, &matcher, labels, keeps)?;
         all &= matches;
     }
     Ok(all)
@@ -70,7 +72,13 @@ fn judge_each(alloc: Global, matchers: &[Matcher]) -> Result<bool, BuildError>
     let mut patterns = PatternCache::new(alloc);
     let mut every = true;
     for matcher in matchers {
-        let matches = judge(&mut patterns, &matcher.borrowed(), &[], false)?;
+        let matches = judge(
+            &mut patterns,
+            Dialect::Regex,
+            &matcher.borrowed(),
+            &[],
+            false,
+        )?;
         every &= matches;
     }
     Ok(every)
@@ -102,7 +110,28 @@ impl PatternCache {
         ensures memory { OnErr result (has_regexp matchers.now ≡ true) }
         ensures same { self.new ≡ self.old }
     {
-        verdict_of(judge_all(self, matchers.iter(), &[], false))
+        self.verdict_in(Dialect::Regex, matchers)
+    }
+
+    /// What posted matchers of the dialect are judged as, by the patterns that are kept: [`Verdict::Bad`] where a pattern is
+    /// broken in it or, beside RE2, a name is that of no label; else as [`verdict`] says of the matchers as they are meant.
+    ///
+    /// # Errors
+    ///
+    /// [`AllocError`] where memory runs out. Without a regular expression no memory is needed.
+    pub fn verdict_in(
+        &mut self,
+        dialect: Dialect,
+        matchers: &Matchers,
+    ) -> Result<Verdict, AllocError>
+        ensures verdict { IfOk result (IsVerdictIn dialect matchers.now) }
+        ensures memory { OnErr result (has_regexp matchers.now ≡ true) }
+        ensures same { self.new ≡ self.old }
+    {
+        if !takes_names(dialect, matchers.iter()) {
+            return Ok(Verdict::Bad);
+        }
+        verdict_of(judge_all(self, dialect, matchers.iter(), &[], false))
     }
 }
 

@@ -1,12 +1,15 @@
 //! Patterns that are kept from one call to the next.
 
 ghost use Rattle.std.specs.Prelude.{◌≡◌, ◌-◌, ◌^◌, true, false, min, IfOk, OnOk, IsErrOf};
-ghost use Rattle.am_matcher.specs.Patterns.{is_match, IsSound, IsBroken};
+ghost use Rattle.am_matcher.specs.Patterns.{IsSound};
+ghost use Rattle.am_matcher.specs.Dialects.{IsAnswer, IsBrokenIn, IsMeaning, IsSoundIn};
 ghost use Rattle.am_matcher.specs.Kept.{pattern_of, IsBuilt};
 ghost use Rattle.am_matcher.specs.Sizes.{size_of};
 
 use crate::compiled::BuildError;
 use crate::counting::counted;
+use crate::dialect::Dialect;
+use crate::re2::re2_of;
 use crate::whole::Whole;
 use std::alloc::{AllocError, Global};
 use std::marker::Model;
@@ -14,18 +17,70 @@ use std::marker::Model;
 /// What building a pattern gave. Each has the text of its pattern.
 #[derive(Drop)]
 pub enum Built {
+    /// Of a pattern of `regex`: its own text was compiled.
     Sound(Box<Whole>),
-    Broken(String),
+    /// Of a pattern of RE2: its text, and the one that was written for it and compiled.
+    Translated { text: String, whole: Box<Whole> },
+    Broken { dialect: Dialect, text: String },
+}
+
+/// Compiles the pattern of `regex` that is written for one of RE2.
+fn whole_of_re2(alloc: Global, pattern: &str) -> Result<Whole, BuildError>
+    ensures meant { IfOk result (λ whole. IsMeaning Dialect.Re2 pattern.now whole.text) }
+    ensures sound { IfOk result (λ whole. IsSound whole.text) }
+    ensures broken { IsErrOf result BuildError.BadPattern → IsBrokenIn Dialect.Re2 pattern.now }
+{
+    let written = re2_of(alloc, pattern)?;
+    Whole::build(alloc, written.as_str())
+}
+
+/// Compiles the pattern of `regex` that a pattern stands for.
+pub fn whole_of(alloc: Global, dialect: Dialect, pattern: &str) -> Result<Whole, BuildError>
+    ensures meant { IfOk result (λ whole. IsMeaning dialect pattern.now whole.text) }
+    ensures sound { IfOk result (λ whole. IsSound whole.text) }
+    ensures broken { IsErrOf result BuildError.BadPattern → IsBrokenIn dialect pattern.now }
+{
+    match dialect {
+        Dialect::Regex => Whole::build(alloc, pattern),
+        Dialect::Re2 => whole_of_re2(alloc, pattern),
+    }
+}
+
+/// What is kept of a pattern that was compiled.
+fn compiled_of(
+    alloc: Global,
+    dialect: Dialect,
+    pattern: &str,
+    whole: Whole,
+) -> Result<Built, AllocError>
+    requires meant { IsMeaning dialect pattern.now whole.text }
+    requires sound { IsSound whole.text }
+    ensures text { IfOk result (λ built. (pattern_of built).text ≡ pattern.now) }
+    ensures dialect { IfOk result (λ built. (pattern_of built).dialect ≡ dialect) }
+    ensures told { IfOk result IsBuilt }
+{
+    let whole = Box::new(alloc, whole)?;
+    match dialect {
+        Dialect::Regex => Ok(Built::Sound(whole)),
+        Dialect::Re2 => Ok(Built::Translated {
+            text: String::from_str(alloc, pattern)?,
+            whole,
+        }),
+    }
 }
 
 /// Builds a pattern.
-fn built_of(alloc: Global, pattern: &str) -> Result<Built, AllocError>
+fn built_of(alloc: Global, dialect: Dialect, pattern: &str) -> Result<Built, AllocError>
     ensures text { IfOk result (λ built. (pattern_of built).text ≡ pattern.now) }
+    ensures dialect { IfOk result (λ built. (pattern_of built).dialect ≡ dialect) }
     ensures told { IfOk result IsBuilt }
 {
-    match Whole::build(alloc, pattern) {
-        Ok(whole) => Ok(Built::Sound(Box::new(alloc, whole)?)),
-        Err(BuildError::BadPattern) => Ok(Built::Broken(String::from_str(alloc, pattern)?)),
+    match whole_of(alloc, dialect, pattern) {
+        Ok(whole) => compiled_of(alloc, dialect, pattern, whole),
+        Err(BuildError::BadPattern) => Ok(Built::Broken {
+            dialect,
+            text: String::from_str(alloc, pattern)?,
+        }),
         Err(BuildError::Memory) => Err(AllocError),
     }
 }
@@ -50,10 +105,11 @@ impl Model for Kept {
 
 impl Kept {
     /// Builds a pattern. One that is broken is kept as such.
-    pub fn build(alloc: Global, pattern: &str) -> Result<Kept, AllocError>
-        ensures { IfOk result (λ kept. kept.text ≡ pattern.now) }
+    pub fn build(alloc: Global, dialect: Dialect, pattern: &str) -> Result<Kept, AllocError>
+        ensures text { IfOk result (λ kept. kept.text ≡ pattern.now) }
+        ensures dialect { IfOk result (λ kept. kept.dialect ≡ dialect) }
     {
-        let built = built_of(alloc, pattern)?;
+        let built = built_of(alloc, dialect, pattern)?;
         Ok(Kept { built })
     }
 
@@ -63,7 +119,19 @@ impl Kept {
     {
         match &self.built {
             Built::Sound(whole) => whole.text(),
-            Built::Broken(text) => text.as_str(),
+            Built::Translated { text, .. } => text.as_str(),
+            Built::Broken { text, .. } => text.as_str(),
+        }
+    }
+
+    /// The dialect of the pattern.
+    pub fn dialect(&self) -> Dialect
+        ensures { result ≡ self.now.dialect }
+    {
+        match &self.built {
+            Built::Sound(_) => Dialect::Regex,
+            Built::Translated { .. } => Dialect::Re2,
+            Built::Broken { dialect, .. } => *dialect,
         }
     }
 
@@ -73,43 +141,46 @@ impl Kept {
     {
         match &self.built {
             Built::Sound(whole) => whole.size(),
-            Built::Broken(text) => counted(text.len(), 0, 0, 0),
+            Built::Translated { text, whole } => whole.size().saturating_add(text.len()),
+            Built::Broken { text, .. } => counted(text.len(), 0, 0, 0),
         }
     }
 
     /// Whether the pattern is broken.
     pub fn is_broken(&self) -> bool
-        ensures sound { result ≡ false → IsSound self.now.text }
-        ensures broken { result ≡ true → IsBroken self.now.text }
+        ensures sound { result ≡ false → IsSoundIn self.now.dialect self.now.text }
+        ensures broken { result ≡ true → IsBrokenIn self.now.dialect self.now.text }
     {
         match &self.built {
             Built::Sound(_) => false,
-            Built::Broken(_) => true,
+            Built::Translated { .. } => false,
+            Built::Broken { .. } => true,
         }
     }
 
-    /// The pattern, compiled. It shares what is kept.
+    /// What was compiled of the pattern that it stands for. It shares what is kept.
     pub fn whole(&self) -> Result<Whole, BuildError>
-        ensures text { IfOk result (λ whole. whole.text ≡ self.now.text) }
-        ensures sound { OnOk result (IsSound self.now.text) }
-        ensures broken { IsErrOf result BuildError.BadPattern → IsBroken self.now.text }
+        ensures meant { IfOk result (λ whole. IsMeaning self.now.dialect self.now.text whole.text) }
+        ensures sound { IfOk result (λ whole. IsSound whole.text) }
+        ensures broken { IsErrOf result BuildError.BadPattern → IsBrokenIn self.now.dialect self.now.text }
     {
         match &self.built {
             Built::Sound(whole) => Ok(whole.share()?),
-            Built::Broken(_) => Err(BuildError::BadPattern),
+            Built::Translated { whole, .. } => Ok(whole.share()?),
+            Built::Broken { .. } => Err(BuildError::BadPattern),
         }
     }
 
     /// Whether the value matches the pattern from end to end.
     pub fn is_match(&mut self, value: &str) -> Result<bool, BuildError>
-        ensures answer { IfOk result (λ yes. yes ≡ is_match self.old.text value.now) }
-        ensures sound { OnOk result (IsSound self.old.text) }
-        ensures broken { IsErrOf result BuildError.BadPattern → IsBroken self.old.text }
+        ensures answer { IfOk result (IsAnswer self.old.dialect self.old.text value.now) }
+        ensures broken { IsErrOf result BuildError.BadPattern → IsBrokenIn self.old.dialect self.old.text }
         ensures same { self.new ≡ self.old }
     {
         match &mut self.built {
             Built::Sound(whole) => Ok(whole.matches(value)?),
-            Built::Broken(_) => Err(BuildError::BadPattern),
+            Built::Translated { whole, .. } => Ok(whole.matches(value)?),
+            Built::Broken { .. } => Err(BuildError::BadPattern),
         }
     }
 }

@@ -4,6 +4,7 @@
 mod cache;
 mod compiled;
 mod counting;
+mod dialect;
 mod entries;
 mod filter;
 mod filter_text;
@@ -11,6 +12,7 @@ mod gathering;
 mod hazard;
 mod judged;
 mod kept;
+mod label_names;
 mod labels;
 pub mod laws;
 mod muted;
@@ -22,6 +24,7 @@ mod whole;
 
 pub use cache::{PatternCache, Prepared};
 pub use compiled::{BuildError, Compiled};
+pub use dialect::Dialect;
 pub use filter::{Filter, FilterError};
 pub use hazard::{Hazard, hazard_of};
 pub use judged::verdict;

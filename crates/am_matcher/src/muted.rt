@@ -46,6 +46,6 @@ impl Ids {
 pub struct Mutes {
     /// The active silences that are not broken and whose matchers all match.
     pub ids: Ids,
-    /// The active silences with a pattern that `regex` refuses.
+    /// The active silences with a broken pattern: one that `regex` refuses, or that isn't taken as one of RE2.
     pub broken: Ids,
 }

@@ -2,11 +2,12 @@
 
 ghost use Rattle.std.specs.Prelude.{◌≡◌, ◌++◌, ◌||◌, ℕ, Bool, List, All, map, IfOk, OnOk};
 ghost use Rattle.am_silence.specs.Mesh.{Mesh};
-ghost use Rattle.am_matcher.specs.Mutes.{is_active, IsEffect, if_mutes, if_broken, AreMuted};
+ghost use Rattle.am_matcher.specs.Mutes.{is_active, IsEffect, if_mutes, if_broken, AreMuted, AreMutedIn};
 ghost use Rattle.am_matcher.specs.Uses.{is_among, is_used_by, PatternsPass, SilencesPass, TextsPass};
 
 use crate::cache::PatternCache;
 use crate::compiled::BuildError;
+use crate::dialect::Dialect;
 use crate::gathering::{buckets_for, gather};
 use crate::judged::judge_all;
 use crate::labels::{Label, Labels};
@@ -41,19 +42,20 @@ fn is_active(version: &MeshSilence, now: Moment) -> bool
 /// if `keeps` says so.
 fn effect_of(
     patterns: &mut PatternCache,
+    dialect: Dialect,
     version: &MeshSilence,
     labels: &[Label],
     now: Moment,
     keeps: bool,
 ) -> Result<Effect, AllocError>
-    ensures effect { IfOk result (IsEffect labels.now now version.now) }
+    ensures effect { IfOk result (IsEffect dialect labels.now now version.now) }
     ensures kept { (test : List ℕ → Bool) → PatternsPass test version.now.silence.matchers →
         TextsPass test patterns.old → TextsPass test patterns.new }
 {
     if !is_active(version, now) {
         return Ok(Effect::Idle);
     }
-    match judge_all(patterns, version.matchers(), labels, keeps) {
+    match judge_all(patterns, dialect, version.matchers(), labels, keeps) {
         Ok(true) => Ok(Effect::Mutes),
         Ok(false) => Ok(Effect::Passes),
         Err(BuildError::BadPattern) => Ok(Effect::Broken),
@@ -84,19 +86,20 @@ fn put_id(
 fn mutes_among(
     alloc: Global,
     patterns: &mut PatternCache,
+    dialect: Dialect,
     silences: &[&MeshSilence],
     labels: &[Label],
     now: Moment,
     keeps: bool,
 ) -> Result<Mutes, AllocError>
-    ensures muted { IfOk result (λ m. AreMuted labels.now now (map (λ m. m.now) silences.now) m.ids m.broken) }
+    ensures muted { IfOk result (λ m. AreMutedIn dialect labels.now now (map (λ m. m.now) silences.now) m.ids m.broken) }
     ensures kept { (test : List ℕ → Bool) → SilencesPass test (map (λ m. m.now) silences.now) →
         TextsPass test patterns.old → TextsPass test patterns.new }
 {
     let mut ids = Vec::new(alloc);
     let mut broken = Vec::new(alloc);
     for &version in silences {
-        let effect = effect_of(patterns, version, labels, now, keeps)?;
+        let effect = effect_of(patterns, dialect, version, labels, now, keeps)?;
         put_id(alloc, version.key(), effect, &mut ids, &mut broken)?;
     }
     Ok(Mutes {
@@ -108,19 +111,20 @@ fn mutes_among(
 /// Which silences of a map mute an alert. Patterns may be kept if `keeps` says so.
 fn mutes_by(
     patterns: &mut PatternCache,
+    dialect: Dialect,
     held: &Held<MeshSilence>,
     labels: &[Label],
     now: Moment,
     keeps: bool,
 ) -> Result<Mutes, AllocError>
-    ensures muted { IfOk result (λ m. AreMuted labels.now now held.now m.ids m.broken) }
+    ensures muted { IfOk result (λ m. AreMutedIn dialect labels.now now held.now m.ids m.broken) }
     ensures kept { (test : List ℕ → Bool) → SilencesPass test held.now →
         TextsPass test patterns.old → TextsPass test patterns.new }
 {
     let alloc = patterns.alloc();
     let buckets = buckets_for(alloc, labels)?;
     let silences = gather(alloc, held, &buckets)?;
-    let muted = mutes_among(alloc, patterns, &silences, labels, now, keeps)?;
+    let muted = mutes_among(alloc, patterns, dialect, &silences, labels, now, keeps)?;
     Ok(muted)
 }
 
@@ -140,7 +144,26 @@ impl PatternCache {
         // What is kept then was kept before, or a silence has it.
         ensures kept { TextsPass (λ text. is_among self.old text || is_used_by held.now text) self.new }
     {
-        mutes_by(self, held, labels.as_slice(), now, true)
+        self.mutes_in(Dialect::Regex, held, labels, now)
+    }
+
+    /// As [`PatternCache::mutes`], where the patterns of silences are those of the dialect.
+    ///
+    /// # Errors
+    ///
+    /// [`AllocError`] where memory runs out.
+    pub fn mutes_in(
+        &mut self,
+        dialect: Dialect,
+        held: &Held<MeshSilence>,
+        labels: &Labels,
+        now: Moment,
+    ) -> Result<Mutes, AllocError>
+        ensures muted { IfOk result (λ m. AreMutedIn dialect labels.now now held.now m.ids m.broken) }
+        // What is kept then was kept before, or a silence has it.
+        ensures kept { TextsPass (λ text. is_among self.old text || is_used_by held.now text) self.new }
+    {
+        mutes_by(self, dialect, held, labels.as_slice(), now, true)
     }
 }
 
@@ -165,6 +188,7 @@ pub fn mutes(
 {
     mutes_by(
         &mut PatternCache::new(alloc),
+        Dialect::Regex,
         held,
         labels.as_slice(),
         now,

@@ -6,7 +6,7 @@ ghost use Rattle.regex_hir.specs.Meaning.{meaning};
 ghost use Rattle.regex_compile.specs.Implements.{Implements};
 ghost use Rattle.am_matcher.specs.Patterns.{is_match, whole_text, IsReadable, IsSound, IsBroken, IsRefusedFor};
 ghost use Rattle.am_matcher.specs.Searches.{Finds};
-ghost use Rattle.am_matcher.specs.Sizes.{compiled_pattern, size_of};
+ghost use Rattle.am_matcher.specs.Sizes.{bytes_of, compilation};
 
 use crate::compiled::BuildError;
 use crate::counting::{SEARCH_BYTES, counted};
@@ -49,11 +49,11 @@ impl Model for Whole {
     ghost use Rattle.regex_dfa.specs.Search.{IsForwardFor};
     ghost use Rattle.am_matcher.specs.Patterns.{whole_text};
     ghost use Rattle.am_matcher.specs.Searches.{Finds};
-    ghost use Rattle.am_matcher.specs.Sizes.{CompiledPattern, compiled_pattern};
+    ghost use Rattle.am_matcher.specs.Sizes.{Compilation, compilation};
 
-    ghost Value = { CompiledPattern };
+    ghost Value = { Compilation };
 
-    ghost view = { λ w. compiled_pattern (string_bytes w.pattern) w.dfa.value };
+    ghost view = { λ w. compilation (string_bytes w.pattern) w.dfa.value };
 
     ghost invariant = { λ w. Finds w.dfa.value.nfa (whole_text (string_bytes w.pattern)) × IsForwardFor w.forward w.dfa.value };
 }
@@ -118,7 +118,7 @@ impl Whole {
     /// The pattern with what it was compiled to. Searches build their own tables.
     fn over(alloc: Global, pattern: &str, dfa: Rc<Dfa>) -> Result<Whole, AllocError>
         requires { Finds dfa.value.nfa (whole_text pattern.now) }
-        ensures { IfOk result (λ whole. whole ≡ compiled_pattern pattern.now dfa.value) }
+        ensures { IfOk result (λ whole. whole ≡ compilation pattern.now dfa.value) }
     {
         let forward = Forward::with_budget(alloc, &dfa, false, SEARCH_BYTES)?;
         let pattern = String::from_str(alloc, pattern)?;
@@ -147,7 +147,7 @@ impl Whole {
 
     /// The bytes that are counted for it.
     pub fn size(&self) -> usize
-        ensures { result ≡ min (size_of self.now) (2 ^ 64 - 1) }
+        ensures { result ≡ min (bytes_of self.now) (2 ^ 64 - 1) }
     {
         let tables = tables_of(&self.dfa);
         let nfa = &self.dfa.nfa;

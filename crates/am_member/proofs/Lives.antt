@@ -165,7 +165,7 @@ stepped_steps name now frames before after (Err (InFrame error)) told stepped is
 -- steps of the events of what was read
 record ReadSteps (read : Read) (bits now : ℕ) (stopped : Bool) (old new : InstanceState) : Type 0 where
   asked : List Event
-  are : AreEventsOfRead read bits asked
+  are : AreEventsOfRead old.config.dialect read bits asked
   steps : (steps : List Happened) × AreStepsUpTo now asked stopped old steps new
 
 -- what it means is one step or none
@@ -226,7 +226,7 @@ turn_by old turn (Some read) is done =
     let found = read_steps read turn.bits turn.now (is_stopped turn.answer.fault) old turn.left turn.answer (done.asked read is) in
     steps_of_turn old turn found.asked
     (record {
-      of_request = λ other also. subst (λ (r : Read). AreEventsOfRead r turn.bits found.asked) (some_is read other (spared turn.said).request is also) found.are;
+      of_request = λ other also. subst (λ (r : Read). AreEventsOfRead old.config.dialect r turn.bits found.asked) (some_is read other (spared turn.said).request is also) found.are;
       of_frames = λ none. absurd (none-some read (sym none ∙ is));
     })
     found.steps

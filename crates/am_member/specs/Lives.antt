@@ -13,6 +13,7 @@ use Rattle.am_http.specs.declared.request.Request.{Request}
 use Rattle.am_merge.specs.Views.{IsViewAt}
 use Rattle.am_collect.specs.Calm.{IsCalm}
 use Rattle.am_instance.specs.Bare.{IsBareReply, asks_shown}
+use Rattle.am_matcher.specs.declared.dialect.Dialect.{Dialect}
 use Rattle.am_instance.specs.Configs.{Settings}
 use Rattle.am_instance.specs.Deliveries.{to_silences, to_log}
 use Rattle.am_instance.specs.InstanceStates.{InstanceState}
@@ -22,7 +23,7 @@ use Rattle.am_instance.specs.Replies.{silence_in_view, entry_in_view}
 use Rattle.am_instance.specs.declared.event.Event.{Event}
 use Rattle.am_instance.specs.declared.event.Event.TheVariants as events
 use Rattle.am_instance.specs.declared.reply.Reply.{Reply}
-use Rattle.am_api_silences.specs.Events.{IsEventOf}
+use Rattle.am_api_silences.specs.Events.{IsEventIn}
 use Rattle.am_api_silences.specs.PendingReply.{Makes}
 use Rattle.am_api_silences.specs.Replies.{IsReplyBytes, Says, line_bytes, memory_bytes}
 use Rattle.am_api_silences.specs.Table.{clock_line}
@@ -150,9 +151,9 @@ listed (Ok event) = event ∷ []
 listed (Err refusal) = []
 
 -- the events of what was read
-abbrev pub AreEventsOfRead : Read → ℕ → List Event → Type 0
-AreEventsOfRead (Whole request) bits asked = (meant : Result Event Refusal) × IsEventOf request bits meant × (asked ≡ listed meant)
-AreEventsOfRead _ bits asked = asked ≡ []
+abbrev pub AreEventsOfRead : Dialect → Read → ℕ → List Event → Type 0
+AreEventsOfRead dialect (Whole request) bits asked = (meant : Result Event Refusal) × IsEventIn dialect request bits meant × (asked ≡ listed meant)
+AreEventsOfRead dialect _ bits asked = asked ≡ []
 
 -- the events of frames: each comes from the one peer that the connection is from; there is none where no frame or no peer is
 abbrev pub AreEventsOfFrames : Settings → Option (List ℕ) → List Frame → List Event → Type 0
@@ -162,7 +163,7 @@ AreEventsOfFrames config name frames sent =
 
 -- the events of what was said
 pub record AreEventsOf (config : Settings) (name : Option (List ℕ)) (bits : ℕ) (said : Spoken) (asked : List Event) : Type 0 where
-  pub of_request : (read : Read) → said.request ≡ Some read → AreEventsOfRead read bits asked
+  pub of_request : (read : Read) → said.request ≡ Some read → AreEventsOfRead config.dialect read bits asked
   pub of_frames : said.request ≡ None → AreEventsOfFrames config name said.frames asked
 
 -- The steps of a turn, all at its moment: their events are those of what was said, but for what frames ask for, in order, up to the first that was refused.
@@ -198,25 +199,25 @@ pub record ShowsBareSets (start : InstanceState) (steps : List Happened) (new : 
       IsViewAt entry_version (all_entries start steps) now key (entry_in_view now new.log key)
 
 -- The bytes tell what bare sets give; or that the clock ran back, or that memory ran out.
-abbrev pub IsBareBytes : List Mesh → List LogMesh → Event → ℕ → List ℕ → Type 0
-IsBareBytes silences log event now bytes =
-    ((reply : Reply) × IsBareReply silences log event now reply × IsReplyBytes reply bytes)
+abbrev pub IsBareBytes : Dialect → List Mesh → List LogMesh → Event → ℕ → List ℕ → Type 0
+IsBareBytes dialect silences log event now bytes =
+    ((reply : Reply) × IsBareReply dialect silences log event now reply × IsReplyBytes reply bytes)
     ⊎ ((bytes ≡ line_bytes clock_line) ⊎ (bytes ≡ memory_bytes))
 
 -- What is replied to a request for a list or a silence: the bytes that the bare sets give. One that is refused before its step
 -- has its line of the table.
-abbrev pub RepliesBare : List Mesh → List LogMesh → Result Event Refusal → ℕ → ReplyBytes → Type 0
-RepliesBare silences log (Ok event) now reply = asks_shown event ≡ true → Says (IsBareBytes silences log event now) reply
-RepliesBare silences log (Err refusal) now reply = Says (λ bytes. bytes ≡ line_bytes (line_seen refusal)) reply
+abbrev pub RepliesBare : Dialect → List Mesh → List LogMesh → Result Event Refusal → ℕ → ReplyBytes → Type 0
+RepliesBare dialect silences log (Ok event) now reply = asks_shown event ≡ true → Says (IsBareBytes dialect silences log event now) reply
+RepliesBare dialect silences log (Err refusal) now reply = Says (λ bytes. bytes ≡ line_bytes (line_seen refusal)) reply
 
 -- what is replied to a request, whatever it means
-pub record IsBareTold (silences : List Mesh) (log : List LogMesh) (request : Request) (bits now : ℕ) (reply : ReplyBytes) : Type 0 where
+pub record IsBareTold (dialect : Dialect) (silences : List Mesh) (log : List LogMesh) (request : Request) (bits now : ℕ) (reply : ReplyBytes) : Type 0 where
   pub meant : Result Event Refusal
-  pub means : IsEventOf request bits meant
-  pub replied : RepliesBare silences log meant now reply
+  pub means : IsEventIn dialect request bits meant
+  pub replied : RepliesBare dialect silences log meant now reply
 
 -- such a reply is made
-pub record IsBareAnswer (silences : List Mesh) (log : List LogMesh) (request : Request) (bits now : ℕ) (answer : SessionAnswer) : Type 0 where
+pub record IsBareAnswer (dialect : Dialect) (silences : List Mesh) (log : List LogMesh) (request : Request) (bits now : ℕ) (answer : SessionAnswer) : Type 0 where
   pub making : PendingReply
   pub is : answer.reply ≡ Some making
-  pub told : Makes (IsBareTold silences log request bits now) making
+  pub told : Makes (IsBareTold dialect silences log request bits now) making

@@ -9,7 +9,7 @@ ghost use Rattle.am_silence.specs.declared.error.SilenceError.TheVariants as err
 
 use am_api_silences::patterns_of;
 use am_http::{Cause, Refusal, Request};
-use am_matcher::PatternCache;
+use am_matcher::{Dialect, PatternCache};
 use am_wire::Text;
 use std::alloc::{AllocError, Global};
 use std::marker::Model;
@@ -30,6 +30,7 @@ pub enum Judged {
 
 /// The patterns of a request that are still to be compiled, and those that were. Contracts see these.
 pub struct Judging {
+    dialect: Dialect,
     is_list: bool,
     left: Vec<Text>,
     /// How many of them were compiled.
@@ -43,6 +44,7 @@ pub struct Judging {
 impl Drop for Judging {
     fn drop(self) {
         let Judging {
+            dialect: _,
             is_list: _,
             left: _,
             next: _,
@@ -64,12 +66,16 @@ impl Model for Judging {
 }
 
 impl Judging {
-    /// The patterns of a request, before the first of them is compiled. `None` where it has none.
+    /// The patterns of a request, before the first of them is compiled, which are those of the dialect. `None` where it has none.
     ///
     /// # Errors
     ///
     /// [`AllocError`] where memory runs out.
-    pub fn of(alloc: Global, request: &Request) -> Result<Option<Judging>, AllocError>
+    pub fn of(
+        alloc: Global,
+        dialect: Dialect,
+        request: &Request,
+    ) -> Result<Option<Judging>, AllocError>
         ensures { IfOk result (λ found. IfSome found (λ judging. judging ≡ [])) }
     {
         let left = patterns_of(alloc, request)?;
@@ -77,6 +83,7 @@ impl Judging {
             return Ok(None);
         }
         Ok(Some(Judging {
+            dialect,
             is_list: request.method.as_str() == "GET",
             left,
             next: 0,
@@ -107,7 +114,7 @@ impl Judging {
         let Some(pattern) = self.left.get(self.next) else {
             return Ok(false);
         };
-        let prepared = self.patterns.prepare(pattern.as_str())?;
+        let prepared = self.patterns.prepare_in(self.dialect, pattern.as_str())?;
         // (all that is kept was spent for)
         let kept = self.patterns.size();
         self.spent = kept.max(self.spent.saturating_add(prepared.bytes));
@@ -148,6 +155,7 @@ impl Judging {
         ensures { result ≡ self }
     {
         let Judging {
+            dialect: _,
             is_list: _,
             left: _,
             next: _,

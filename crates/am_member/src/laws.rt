@@ -56,7 +56,7 @@ pub fn lives_reply_as_the_bare_sets()
         HasMaps start → HasMaps stand → IsLife standings start deeds stand →
         IsTurn (standings_in standings deeds turn.connection) stand turn → turn.said.request ≡ Some (Whole request) →
         (steps : List Happened) × AreStepsOfAll start deeds steps × (AreCalm start steps →
-        IsBareAnswer (all_silences start steps) (all_entries start steps) request turn.bits turn.now turn.answer) }
+        IsBareAnswer stand.config.dialect (all_silences start steps) (all_entries start steps) request turn.bits turn.now turn.answer) }
 {
     lives_are_steps();
     calm_steps_reply_as_the_bare_sets();

@@ -1,6 +1,7 @@
 //! The options of a member as text: as they stand on its command line, one in a line.
 
 use am_jobs::Options;
+use am_matcher::Dialect;
 use am_peers::{AddressWord, Peer};
 use am_version_order::{Interval, Moment};
 use std::alloc::{AllocError, Global};
@@ -100,6 +101,14 @@ fn write_hosts<W: fmt::Write>(f: &mut fmt::Formatter<W>, hosts: &[&str]) -> fmt:
     Ok(())
 }
 
+/// The word of a dialect.
+fn word_of(dialect: Dialect) -> &'static str {
+    match dialect {
+        Dialect::Regex => "regex",
+        Dialect::Re2 => "re2",
+    }
+}
+
 /// Writes who the member is, and whom it knows.
 fn write_names<W: fmt::Write>(f: &mut fmt::Formatter<W>, options: &Options<'_>) -> fmt::Result {
     write_text(f, "name", options.name)?;
@@ -107,6 +116,7 @@ fn write_names<W: fmt::Write>(f: &mut fmt::Formatter<W>, options: &Options<'_>) 
     write_peers(f, "peer", &options.peers)?;
     write_between(f, options)?;
     write_peers(f, "gossip", &options.replicas)?;
+    write_text(f, "patterns", word_of(options.dialect))?;
     write_hosts(f, &options.hosts)?;
     write_text(f, "sil", options.silences)?;
     write_text(f, "nfl", options.log)

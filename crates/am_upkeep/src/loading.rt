@@ -62,7 +62,8 @@ pub fn config_of(alloc: Global, options: &Options<'_>) -> Result<Config, Fault> 
     let Ok(peers) = names(alloc, options) else {
         return Err(Fault::Config(ConfigError::Memory));
     };
-    Ok(Config::new(alloc, name, peers, options.retention, options.peer_timeout)?)
+    let config = Config::new(alloc, name, peers, options.retention, options.peer_timeout)?;
+    Ok(config.with_dialect(options.dialect))
 }
 
 /// The names of peers, and behind them those of Alertmanagers beside it, and of the disk where logs are kept.

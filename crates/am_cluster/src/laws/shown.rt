@@ -2,7 +2,8 @@
 
 ghost use Rattle.std.specs.Prelude.{◌≡◌, ℕ, List, Option, All, Contains, true};
 ghost use Rattle.am_matcher.specs.declared.labels.Label.{Label};
-ghost use Rattle.am_matcher.specs.Mutes.{AreMuted};
+ghost use Rattle.am_matcher.specs.declared.dialect.Dialect.{Dialect};
+ghost use Rattle.am_matcher.specs.Mutes.{AreMutedIn};
 ghost use Rattle.am_merge.specs.Views.{IsViewAt};
 ghost use Rattle.am_collect.specs.Events.{HaveSame};
 ghost use Rattle.am_instance.specs.declared.event.Event.{Event};
@@ -65,7 +66,7 @@ pub fn members_reply_as_the_bare_sets(cluster: &Cluster, place: Place)
     ensures { (now : ℕ) (event : Event) (reply : Reply) (made : Made) →
         OfMember cluster.now place (λ replica. IsCalmBy cluster.now place replica now →
         asks_shown event ≡ true → IsReply replica.stand event now reply made →
-        IsBareReply (silences_taken cluster.now place) (entries_taken cluster.now place) event now reply) }
+        IsBareReply replica.stand.config.dialect (silences_taken cluster.now place) (entries_taken cluster.now place) event now reply) }
 {
     members_show_the_bare_sets(cluster);
     member_has_maps(cluster, place);
@@ -97,19 +98,20 @@ pub fn members_with_equal_sets_reply_alike(
     equal_views_reply_alike();
 }
 
-/// And a silence that mutes an alert at one of them mutes it at the other, if its patterns are not told as broken there.
+/// And a silence that mutes an alert at one of them mutes it at the other, by patterns of the same dialect, if its patterns are
+/// not told as broken there.
 pub fn members_with_equal_sets_mute_alike(
     cluster: &Cluster,
     place: Place,
     other: &Cluster,
     peer: Place,
 )
-    ensures { (now : ℕ) (labels : List Label) (ids broken others broken_too : List (List ℕ)) →
+    ensures { (dialect : Dialect) (now : ℕ) (labels : List Label) (ids broken others broken_too : List (List ℕ)) →
         OfMember cluster.now place (λ one. OfMember other.now peer (λ two.
         IsCalmBy cluster.now place one now → IsCalmBy other.now peer two now →
         HaveSame (silences_taken cluster.now place) (silences_taken other.now peer) →
         HaveSame (entries_taken cluster.now place) (entries_taken other.now peer) →
-        AreMuted labels now one.stand.silences ids broken → AreMuted labels now two.stand.silences others broken_too →
+        AreMutedIn dialect labels now one.stand.silences ids broken → AreMutedIn dialect labels now two.stand.silences others broken_too →
         (id : List ℕ) → Contains ids id → ¬ Contains broken_too id → Contains others id)) }
 {
     cluster.consistency();

@@ -7,6 +7,7 @@ mod options;
 use super::{WordsError, mistake};
 use am_disk::are_one_file;
 use am_jobs::{Job, Options};
+use am_matcher::Dialect;
 use am_peers::{Peer, address_of, is_loopback, number_within, peer_of};
 use am_version_order::Interval;
 use clap::ArgMatches;
@@ -65,8 +66,8 @@ struct OwnNumbers {
     least_repeat: Option<u64>,
 }
 
-/// The member that the words name. Numbers are judged in the order in which the help has them, then the hosts, the files,
-/// and then the peers.
+/// The member that the words name. Numbers are judged in the order in which the help has them, then the patterns, the hosts,
+/// the files, and then the peers.
 pub fn read_job<'a, R: Files + AllocGlobal>(
     rt: &R,
     flags: &ArgMatches<'a>,
@@ -78,9 +79,12 @@ pub fn read_job<'a, R: Files + AllocGlobal>(
     if let Some(text) = between_mistake(flags, &numbers) {
         return Err(wrong(rt.alloc(), text));
     }
+    let Some(dialect) = dialect(flags) else {
+        return Err(wrong(rt.alloc(), BAD_PATTERNS));
+    };
     judge_words(rt, flags)?;
     let named = named(rt.alloc(), flags)?;
-    Ok(Job::Instance(options_of(flags, numbers, named)))
+    Ok(Job::Instance(options_of(flags, numbers, dialect, named)))
 }
 
 /// The hosts, peers and Alertmanagers that the words name.
@@ -129,7 +133,12 @@ fn beside<'a>(
 }
 
 /// The options that have these numbers and names.
-fn options_of<'a>(flags: &ArgMatches<'a>, numbers: Numbers, named: NamedHosts<'a>) -> Options<'a> {
+fn options_of<'a>(
+    flags: &ArgMatches<'a>,
+    numbers: Numbers,
+    dialect: Dialect,
+    named: NamedHosts<'a>,
+) -> Options<'a> {
     let Numbers {
         place,
         kept,
@@ -146,6 +155,7 @@ fn options_of<'a>(flags: &ArgMatches<'a>, numbers: Numbers, named: NamedHosts<'a
         peers: named.peers,
         replicas: named.replicas,
         gossip_every: own.gossip_every,
+        dialect,
         hosts: named.hosts,
         silences: text(flags, "sil"),
         log: text(flags, "nfl"),
@@ -276,6 +286,18 @@ fn some_number(flags: &ArgMatches<'_>, name: &str) -> Option<Option<u64>> {
     }
 }
 
+/// Which regular expressions patterns are: those that the option names, or else those of RE2 beside an Alertmanager. Nothing
+/// where the word names none.
+fn dialect(flags: &ArgMatches<'_>) -> Option<Dialect> {
+    match flags.get_str("patterns") {
+        Some("regex") => Some(Dialect::Regex),
+        Some("re2") => Some(Dialect::Re2),
+        Some(_) => None,
+        None if flags.get_strs("gossip").is_some() => Some(Dialect::Re2),
+        None => Some(Dialect::Regex),
+    }
+}
+
 /// How often something is done, where the option is given.
 fn every(flags: &ArgMatches<'_>, name: &str) -> Option<Option<Duration>> {
     match some_number(flags, name)? {
@@ -394,6 +416,8 @@ const BAD_PULL_FIRST_LIMIT: &str =
 
 const BAD_LEAST_REPEAT: &str =
     "invalid value for '--least-repeat <S>': a whole number from 1 to 999999999 is wanted, in digits alone";
+
+const BAD_PATTERNS: &str = "invalid value for '--patterns <DIALECT>': regex or re2 is wanted";
 
 const BAD_HOST: &str =
     "invalid value for '--host <NAME>': letters, digits, '-', '.' and '_' are wanted, and no port";

@@ -15,12 +15,16 @@ use am_member::{Judged, Judging};
 use am_upkeep::Keeper;
 use std::alloc::{AllocError, Global};
 
-/// The patterns of what was said, where it has such.
-fn judging_of(alloc: Global, said: &SessionOutput) -> Result<Option<Judging>, AllocError>
+/// The patterns of what was said to an instance, where it has such.
+fn judging_of(
+    alloc: Global,
+    instance: &Instance,
+    said: &SessionOutput,
+) -> Result<Option<Judging>, AllocError>
     ensures { IfOk result (λ found. IfSome found (λ _. IsRequest (spoken said.now))) }
 {
     match &said.request {
-        Some(Read::Whole(request)) => Judging::of(alloc, request),
+        Some(Read::Whole(request)) => Judging::of(alloc, instance.config().dialect(), request),
         _ => Ok(None),
     }
 }
@@ -85,7 +89,7 @@ impl<U: Keeper> Desk<'_, U> {
         ensures { IsAnswered (spoken said) instance.old (talk_of dialogue.old) instance.new (talk_of dialogue.new) }
     {
         let alloc = self.alloc;
-        match judging_of(alloc, &said) {
+        match judging_of(alloc, instance, &said) {
             Ok(Some(judging)) => dialogue.judge_later(said, judging),
             Ok(None) => self.answer(instance, dialogue, said),
             Err(_) => dialogue.refuse(alloc, &Cause::Memory.refusal()),

@@ -4,7 +4,8 @@ use crate::common::{Case, Printed, Spelled, behind, cut, first};
 use crate::parts::hashes;
 use am_dedup::{decide, decide_over, due};
 use am_matcher::{
-    BuildError, Compiled, Filter, FilterError, Ids, Labels, Mutes, PatternCache, mutes, verdict,
+    BuildError, Compiled, Dialect, Filter, FilterError, Ids, Labels, Mutes, PatternCache, mutes,
+    verdict,
 };
 use am_merge::Held;
 use am_nflog::MeshEntry;
@@ -19,8 +20,12 @@ pub fn answer(case: &Case, verb: &str, rest: &str) {
         "matches" => matches(case, rest),
         "verdicts" => verdicts(case, rest, false),
         "kept-verdicts" => verdicts(case, rest, true),
-        "filter" => filter(case, rest),
-        "mutes" => all_mutes(case, rest),
+        "re2-verdicts" => re2_verdicts(case, rest),
+        "filter" => filter(case, rest, Dialect::Regex),
+        "re2-filter" => filter(case, rest, Dialect::Re2),
+        "mutes" => all_mutes(case, rest, Dialect::Regex),
+        "re2-mutes" => all_mutes(case, rest, Dialect::Re2),
+        "both-mutes" => both_mutes(case, rest),
         "many-mutes" => many_mutes(case, rest),
         "decide" => say_decisions(case, rest),
         "due" => say_due(case, rest),
@@ -69,6 +74,18 @@ fn verdicts(case: &Case, lists: &str, is_kept: bool) {
     case.put("\n");
 }
 
+/// `re2-verdicts LIST; LIST ..`: the verdict on each list of matchers, where patterns are those of RE2.
+fn re2_verdicts(case: &Case, lists: &str) {
+    let mut patterns = PatternCache::new(case.alloc);
+    for (place, words) in lists.split("; ").enumerate() {
+        let verdict = patterns.verdict_in(Dialect::Re2, &case.matchers(words));
+        if let Some(verdict) = case.made(verdict) {
+            put!(case; if place == 0 { "" } else { " " }, ?verdict);
+        }
+    }
+    case.put("\n");
+}
+
 /// The matchers with texts of their own.
 fn owned(case: &Case, matchers: &Matchers) -> Vec<Matcher> {
     let mut all = Vec::new(case.alloc);
@@ -80,12 +97,21 @@ fn owned(case: &Case, matchers: &Matchers) -> Vec<Matcher> {
     all
 }
 
+/// The filter that a text is.
+fn filter_of(case: &Case, text: &str, dialect: Dialect) -> Option<Filter> {
+    let filter = match dialect {
+        Dialect::Regex => Filter::parse(case.alloc, text),
+        Dialect::Re2 => Filter::parse_in(dialect, &PatternCache::new(case.alloc), text),
+    };
+    case.got(filter, FilterError::Memory)
+}
+
 /// `filter [TEXT] of SILENCE`: whether a filter, given with escapes, passes a silence, and whether its version.
-fn filter(case: &Case, rest: &str) {
+fn filter(case: &Case, rest: &str, dialect: Dialect) {
     let (text, words) = rest.rsplit_once("] of ").unwrap_or((rest, ""));
     let bytes = case.unescaped(text.strip_prefix('[').unwrap_or(text));
     let text = str::from_utf8(bytes.as_slice()).unwrap_or("no text");
-    given!(mut filter = case.got(Filter::parse(case.alloc, text), FilterError::Memory));
+    given!(mut filter = filter_of(case, text, dialect));
     let silence = case.silence(words);
     let is_passed = case.made(filter.passes(&silence)).unwrap_or(false);
     given!(version = MeshSilence::spelled(case, words));
@@ -94,16 +120,30 @@ fn filter(case: &Case, rest: &str) {
 }
 
 /// `mutes SILENCE, ..; at MOMENT LABEL ..; ..`: which silences mute labels at moments. `forget` drops what is kept.
-fn all_mutes(case: &Case, rest: &str) {
+fn all_mutes(case: &Case, rest: &str, dialect: Dialect) {
     let (silences, text) = cut(rest, "; ");
     let held = case.held(silences);
     let mut patterns = PatternCache::new(case.alloc);
     for words in text.split("; ") {
-        step(case, &mut patterns, &held, words);
+        step(case, &mut patterns, dialect, &held, words);
     }
 }
 
-fn step(case: &Case, patterns: &mut PatternCache, held: &Map, words: &str) {
+/// Which silences mute labels, by patterns that are compiled for the call alone.
+fn mutes_once(
+    case: &Case,
+    dialect: Dialect,
+    held: &Map,
+    labels: &Labels,
+    now: Moment,
+) -> Option<Mutes> {
+    case.made(match dialect {
+        Dialect::Regex => mutes(case.alloc, held, labels, now),
+        Dialect::Re2 => PatternCache::new(case.alloc).mutes_in(dialect, held, labels, now),
+    })
+}
+
+fn step(case: &Case, patterns: &mut PatternCache, dialect: Dialect, held: &Map, words: &str) {
     let (verb, rest) = first(words);
     if verb == "forget" {
         patterns.drop_unused(&Held::new(case.alloc));
@@ -112,13 +152,38 @@ fn step(case: &Case, patterns: &mut PatternCache, held: &Map, words: &str) {
     let (word, names) = first(rest);
     let now = case.moment(word);
     let labels = Labels::new(case.list(names, " "));
-    print_mutes(case, case.made(mutes(case.alloc, held, &labels, now)));
+    print_mutes(case, mutes_once(case, dialect, held, &labels, now));
     case.put("; kept ");
-    print_mutes(case, case.made(patterns.mutes(held, &labels, now)));
+    print_mutes(
+        case,
+        case.made(patterns.mutes_in(dialect, held, &labels, now)),
+    );
     patterns.drop_unused(held);
     case.put("; again ");
-    print_mutes(case, case.made(patterns.mutes(held, &labels, now)));
+    print_mutes(
+        case,
+        case.made(patterns.mutes_in(dialect, held, &labels, now)),
+    );
     case.put("\n");
+}
+
+/// `both-mutes SILENCE, ..; at MOMENT LABEL ..; ..`: which silences mute labels by one cache, in both dialects by turns.
+fn both_mutes(case: &Case, rest: &str) {
+    let (silences, text) = cut(rest, "; ");
+    let held = case.held(silences);
+    let mut patterns = PatternCache::new(case.alloc);
+    for words in text.split("; ") {
+        let (word, names) = first(behind(words, "at ", "-"));
+        let now = case.moment(word);
+        let labels = Labels::new(case.list(names, " "));
+        print_mutes(case, case.made(patterns.mutes(&held, &labels, now)));
+        case.put(", re2 ");
+        let re2 = patterns.mutes_in(Dialect::Re2, &held, &labels, now);
+        print_mutes(case, case.made(re2));
+        case.put(", ");
+        print_mutes(case, case.made(patterns.mutes(&held, &labels, now)));
+        case.put("\n");
+    }
 }
 
 fn print_mutes(case: &Case, mutes: Option<Mutes>) {

@@ -4,4 +4,4 @@ use Rattle.am_api_silences.proofs.filters.filters_of.Given as goal
 
 -- the texts so far are these filters
 abbrev pub invariant-loop-text : goal.invariant-loop-text
-invariant-loop-text l = AreFilters (map string_bytes (take l.text-index l.texts)) l.filters.items
+invariant-loop-text l = AreFilters l.dialect (map string_bytes (take l.text-index l.texts)) l.filters.items

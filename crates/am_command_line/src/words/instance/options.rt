@@ -13,7 +13,7 @@ const ABOUT: &str =
     "Runs one member: serves the silences of API v2 to people and tools, and frames to its peers";
 
 /// In the order of the help.
-static OPTIONS: [Named; 28] = [
+static OPTIONS: [Named; 29] = [
     Named {
         name: "name",
         value: "NAME",
@@ -55,6 +55,12 @@ static OPTIONS: [Named; 28] = [
         value: "NAME=ADDRESS:PORT",
         takes: Takes::Many,
         help: "An Alertmanager beside which it runs, and the address of its gossip (--cluster.listen-address), or its port alone on 127.0.0.1: each holds what the other does; any number of times, each by a name of its own",
+    },
+    Named {
+        name: "patterns",
+        value: "DIALECT",
+        takes: Takes::One,
+        help: "Which regular expressions patterns are: regex, or re2, as an Alertmanager means them, which refuses more posts; without it re2 with --gossip, and else regex",
     },
     Named {
         name: "host",
@@ -195,5 +201,7 @@ Three machines, a on 10.0.0.1, b on 10.0.0.2 and c on 10.0.0.3, each with the sa
     --peer b=10.0.0.2:9094 --peer c=10.0.0.3:9094 --sil a.sil --nfl a.nfl --tick-every 60 --pull-every 60 --pull-first
 Beside an Alertmanager that gossips on port 9094 of this machine:
   am_tool instance --name a --listen 9101 --gossip am=9094 --sil a.sil --nfl a.nfl --tick-every 60 --save-every 5
+The same, with patterns that an Alertmanager may not read, which it is then not given:
+  am_tool instance --name a --listen 9101 --gossip am=9094 --patterns regex --sil a.sil --nfl a.nfl --tick-every 60
 A Tick is a greeting with a peer's name and the bytes 4 and 0, sent to the port; for a peer b:
   printf '\\0\\1b\\4\\0' >/dev/tcp/127.0.0.1/PORT";

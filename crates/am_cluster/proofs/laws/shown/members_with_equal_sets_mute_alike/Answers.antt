@@ -7,8 +7,8 @@ use Rattle.am_cluster.proofs.DurableHas.{taken_values}
 use Rattle.am_cluster.proofs.laws.shown.members_with_equal_sets_mute_alike.Goals as goal
 
 pub returns : goal.returns
-returns c = λ now labels ids broken others broken_too one found two there here too silences entries first second id muted sound.
-    c.equal_views_mute_alike.ensures one.stand two.stand now labels ids broken others broken_too (c.member_has_maps.ensures one found) (c.member_has_maps-2.ensures two there)
+returns c = λ dialect now labels ids broken others broken_too one found two there here too silences entries first second id muted sound.
+    c.equal_views_mute_alike.ensures dialect one.stand two.stand now labels ids broken others broken_too (c.member_has_maps.ensures one found) (c.member_has_maps-2.ensures two there)
     (record {
       silences = λ key.
           c.equal_sets_show_one.ensures (silences_taken c.args.cluster.now c.args.place) (silences_taken c.args.other.now c.args.peer) now key (silence_in_view now one.stand.silences key) (silence_in_view now two.stand.silences key)

@@ -1,13 +1,20 @@
-use Rattle.std.proofs.Common.{◌≡◌, ℕ, List, true, sym, subst}
-use Rattle.am_matcher.proofs.Keepings.{old_stay}
+use Rattle.std.proofs.Common.{◌≡◌, true, false}
+use Rattle.am_matcher.specs.declared.cache.Prepared.{Prepared}
+use Rattle.am_matcher.specs.declared.dialect.Dialect.TheVariants.{Regex}
+use Rattle.am_matcher.specs.Patterns.{IsSound, IsBroken}
+use Rattle.am_matcher.specs.Dialects.{IsSoundIn, IsBrokenIn}
+use Rattle.am_matcher.proofs.HandedOn.{if_ok_then}
+use Rattle.am_matcher.proofs.Meant.{sound_itself, broken_itself}
 use Rattle.am_matcher.proofs.cache.PatternCache.prepare.Goals as goal
 
-pub returns-in-Some-clause-old : goal.returns-in-Some-clause-old
-returns-in-Some-clause-old c = old_stay c.args.self.now
+pub returns-clause-sound : goal.returns-clause-sound
+returns-clause-sound c =
+    let p = c.args.pattern.now in
+    if_ok_then (λ (x : Prepared). x.is_broken ≡ false → IsSoundIn Regex p) (λ (x : Prepared). x.is_broken ≡ false → IsSound p) c.prepare_in.result
+    (λ x sound no. sound_itself p (sound no)) c.prepare_in.ensures.sound
 
-pub returns-in_err-built-clause-old : goal.returns-in_err-built-clause-old
-returns-in_err-built-clause-old c = old_stay c.args.self.now
-
-pub returns-clause-kept : goal.returns-clause-kept
-returns-clause-kept c = λ test passes pass.
-    c.keep.ensures.kept test (subst (λ (t : List ℕ). test t ≡ true) (sym c.in_ok-built.ensures) passes) pass
+pub returns-clause-broken : goal.returns-clause-broken
+returns-clause-broken c =
+    let p = c.args.pattern.now in
+    if_ok_then (λ (x : Prepared). x.is_broken ≡ true → IsBrokenIn Regex p) (λ (x : Prepared). x.is_broken ≡ true → IsBroken p) c.prepare_in.result
+    (λ x broken yes. broken_itself p (broken yes)) c.prepare_in.ensures.broken

@@ -1,22 +1,14 @@
-use Rattle.std.proofs.Common.{Err, ap}
-use Rattle.am_matcher.proofs.HandedOn.{bad_of_build, given_error, handed_on, no_syntax_of_build}
+use Rattle.am_matcher.specs.declared.dialect.Dialect.TheVariants.{Regex}
+use Rattle.am_matcher.specs.Filters.{IsFilter}
+use Rattle.am_matcher.specs.Dialects.{IsFilterIn}
+use Rattle.am_matcher.proofs.HandedOn.{if_ok_then}
+use Rattle.am_matcher.proofs.Meant.{filter_itself, refused_itself}
 use Rattle.am_matcher.proofs.filter.Filter.parse_by.Goals as goal
 
-pub returns-in_err-matcher-clause-syntax : goal.returns-in_err-matcher-clause-syntax
-returns-in_err-matcher-clause-syntax c e =
-    c.in_err-matcher.ensures.syntax (handed_on c.from_residual.result c.in_err-matcher.field-0.0 _ c.from_residual.ensures.1 e)
+pub returns-clause-read : goal.returns-clause-read
+returns-clause-read c =
+    let text = c.args.text.now in
+    if_ok_then (IsFilterIn Regex text) (IsFilter text) c.parse_in.result (filter_itself text) c.parse_in.ensures.read
 
-pub returns-in_err-matcher-clause-broken : goal.returns-in_err-matcher-clause-broken
-returns-in_err-matcher-clause-broken c e =
-    absurd (c.in_err-matcher.ensures.no_pattern (handed_on c.from_residual.result c.in_err-matcher.field-0.0 _ c.from_residual.ensures.1 e))
-
-pub returns-in_err-compiled-clause-syntax : goal.returns-in_err-compiled-clause-syntax
-returns-in_err-compiled-clause-syntax c e =
-    absurd (no_syntax_of_build _ (given_error c.from_residual-in_err-compiled.result _ _ c.from_residual-in_err-compiled.ensures.1 e))
-
-pub returns-in_err-compiled-clause-broken : goal.returns-in_err-compiled-clause-broken
-returns-in_err-compiled-clause-broken c e = (
-  c.in_ok-matcher.matcher,
-  c.in_ok-matcher.ensures.read,
-  c.in_err-compiled.ensures.broken (ap Err (bad_of_build c.in_err-compiled.field-0.0 (given_error c.from_residual-in_err-compiled.result _ _ c.from_residual-in_err-compiled.ensures.1 e))),
-)
+pub returns-clause-broken : goal.returns-clause-broken
+returns-clause-broken c bad = let found = c.parse_in.ensures.broken bad in (found.0, found.1, refused_itself found.0 found.2)

@@ -1,7 +1,7 @@
 use Rattle.std.proofs.Common.{◌||◌}
 use Rattle.am_matcher.specs.Uses.{is_among, is_used_by}
 use Rattle.am_matcher.proofs.Uses.{used_by_themselves, among_themselves, texts_first, silences_second}
-use Rattle.am_matcher.proofs.cache.PatternCache.mutes.Goals as goal
+use Rattle.am_matcher.proofs.cache.PatternCache.mutes_in.Goals as goal
 
 pub returns-clause-kept : goal.returns-clause-kept
 returns-clause-kept c =

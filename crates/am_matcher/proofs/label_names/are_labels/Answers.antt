@@ -1,7 +1,7 @@
-use Rattle.std.proofs.Common.{List, ℕ, ◌∙◌, ap}
-use Rattle.am_matcher.specs.Hazards.{is_label}
+use Rattle.std.proofs.Common.{◌∙◌, ap}
+use Rattle.am_matcher.specs.Dialects.{is_label}
 use Rattle.am_matcher.proofs.Meant.{are_labels-first}
-use Rattle.am_matcher.proofs.hazard.are_labels.Goals as goal
+use Rattle.am_matcher.proofs.label_names.are_labels.Goals as goal
 
 pub loop-matcher-preserved : goal.loop-matcher-preserved
 loop-matcher-preserved c =
