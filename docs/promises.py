@@ -54,7 +54,7 @@ TAIL = """## Only tested
 - **A member's turns, figures, readiness and first pull**, and that it gives each step its moment: tests/turns.py, tests/operations.py, tests/three_members.py, tests/machines.py.
 - **Pages** go out, and once if nothing fails: tests/pages.py; beside real Alertmanagers tests/real_shims.py, on request.
 - **Command lines, what a path, a server or logs give, the counts of `diff --prometheus`, what `mend` does in turn, pictures' layout, the page for people**: tests/command_line.py, live_sources.py, log_sources.py, gossip.py, pictures.py, page.py (with chromium).
-- **That a member's lock is its secret's, that an entrance hears what it should, that what is sealed opens, that a reply which isn't about silences is that of its call, that the rows which `push` and `mend` send are those of the versions that it picks, without a hazard, and that a member beside Alertmanagers asks and tells them**: tests/machines.py, tests/gossip.py, tests/beside.py.
+- **That a member's lock is its secret's, that an entrance hears what it should, that what is sealed opens, that a reply which isn't about silences is that of its call, that the rows which `push` and `mend` send are those of the versions that it picks, without a hazard, that a member beside Alertmanagers asks and tells them, and that it answers `notify:true` only once each was asked since**: tests/machines.py, tests/gossip.py, tests/beside.py.
 - **Refused memory and hostile input**: tests/refused_memory.py, tests/fuzz.py, am_tests.
 - **Real replicas** of prometheus-alertmanager 0.25.0: tests/real_replicas.py, on request.
 

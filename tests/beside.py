@@ -10,6 +10,7 @@ fails, and at the end how many passed.
 """
 
 import json
+import re
 import sys
 import tempfile
 import threading
@@ -20,9 +21,11 @@ from lib import members
 from gossip import Liar, Replica, answer, bomb, compressed, plain_lzw, states_of, take, version_of
 from lib.members import Member, eventually, free_ports, run
 from lib.tally import check, compare, finish, try_each
+from lib.alert_hashes import hash_of
 from lib.api import silence
 from lib.versions import row
 from lib.wire import delta, greeting, items
+from turns import answered, asked, decided, message
 
 HOUR = 3600
 
@@ -224,6 +227,144 @@ def test_dialects(folder):
         stop(member)
 
 
+def figures(member, name):
+    """The figures of a family, by the words of their labels."""
+    _, body = member.ask("GET", "/metrics")
+    found = re.findall(rf"^{name}\{{(.*)\}} (\S+)$", body.decode(), re.M)
+    return {tuple(re.findall(r'"(.*?)"', labels)): float(number) for labels, number in found}
+
+
+def test_withheld(folder):
+    """What isn't sent is told, once for each version, and counted by its cause at each exchange."""
+    one = Alive()
+    with open(f"{folder}/m.sil", "wb") as file:
+        file.write(row("sil", ", ".join([*hazards("f", 12), of("file")])))
+    member = started("m", folder, {"am": one})
+    check("what is harmless comes", eventually(lambda: one.keys() == ["file"]), one.keys())
+    check("it is asked again", eventually(lambda: one.asked > 3), one.asked)
+    wanted = sorted(f"am_tool: Withheld {'Pattern' if it % 6 < 4 else 'Matcher'} f{it:03}" for it in range(12))
+    told = lambda: sorted(it for it in member.lines if it.startswith("am_tool: Withheld"))
+    compare("each is told once", eventually(lambda: len(told()) == 12 and told()), wanted)
+    matcher = {"name": "job", "value": REFUSED[0], "isRegex": True, "isEqual": True}
+    status, body = member.post({**silence("x"), "matchers": [matcher]})
+    if status == 200:
+        key = json.loads(body)["silenceID"]
+        check("one that comes is told", eventually(lambda: f"am_tool: Withheld Pattern {key}" in member.lines), member.lines)
+    counted = figures(member, "maityrunga_silences_withheld_total")
+    check("by pattern", counted.get(("am", "pattern"), 0) >= 16, counted)
+    check("by matcher", counted.get(("am", "matcher"), 0) >= 8, counted)
+    check("whose line names the Alertmanager", any("Withheld" in it and "(peer am, " in it for it in member.whole_lines), member.whole_lines)
+    stop(member)
+
+
+def test_figures(folder):
+    """When an Alertmanager was heard last, and what it lacked then."""
+    one = Alive(sil=f"{of('a')}, {of('b')}", nfl=entry("g"))
+    away = type("Away", (), {"port": free_ports(1)[0]})
+    member = started("m", folder, {"am": one, "bm": away}, every=2)
+    heard = lambda: figures(member, "maityrunga_alertmanager_last_heard_timestamp_seconds")
+    lacked = lambda: figures(member, "maityrunga_alertmanager_lacked")
+    check("it is heard now", eventually(lambda: abs(heard()[("am",)] - time.time()) < members.PATIENCE), heard())
+    compare("one that isn't there never was", heard()[("bm",)], 0)
+    compare("it lacked nothing", lacked(), {("am",): 0, ("bm",): 0})
+    one.forget()
+    check("it lacked three versions", eventually(lambda: lacked()[("am",)] == 3), lacked())
+    _, body = member.ask("GET", "/api/v2/status")
+    shown = {it["name"]: it for it in json.loads(body)["alertmanagers"]}
+    compare("the status has both", sorted((it["name"], it["address"], it["withheld"]) for it in shown.values()), [(it, f"127.0.0.1:{at.port}", 0) for it, at in (("am", one), ("bm", away))])
+    check("and when they were heard", shown["am"]["lastHeard"].startswith("20") and shown["bm"]["lastHeard"] == "", shown)
+    check("and then none", eventually(lambda: lacked()[("am",)] == 0), lacked())
+    stop(member)
+
+
+# The entry by which an Alertmanager has paged the group of turns.message.
+PAGED = f"g team/webhook/0 updated {NOW} expires {NOW + HOUR} firing {hash_of({'alertname': 'Down'})}"
+
+
+def decision(member, key="g", name="Down"):
+    """A connection on which it is asked whether to page, in no turn."""
+    return asked(member, "/v1/decide?wait=false", message(key, name))
+
+
+def unheard(member):
+    return [it for it in member.whole_lines if it.startswith("am_tool: Unheard")]
+
+
+def test_asked_before(folder):
+    """Before a page each Alertmanager is asked: one that has just paged keeps the member from it."""
+    one, other = Alive(), Alive()
+    member = started("m", folder, {"am1": one, "am2": other}, every=HOUR)
+    check("each is asked at the start", eventually(lambda: (one.asked, other.asked) == (1, 1)), (one.asked, other.asked))
+    reply = answered(decision(member, "h"))
+    compare("nobody has paged", decided(reply), (200, True, "First"))
+    compare("each was asked before", (one.asked, other.asked), (2, 2))
+    one.merge(states_of(nfl=row("nfl", PAGED)))
+    compare("one has just paged", decided(answered(decision(member))), (200, False, "Skip"))
+    compare("each was asked once more", (one.asked, other.asked), (3, 3))
+    compare("what is skipped asks nobody", (decided(answered(decision(member))), one.asked), ((200, False, "Skip"), 3))
+    compare("no line is printed", unheard(member), [])
+    counted = figures(member, "maityrunga_decisions_total")
+    compare("decisions are counted once", (counted[("First",)], counted[("Skip",)]), (1, 2))
+    stop(member)
+
+
+def test_unheard(folder):
+    """One that doesn't answer holds a page up for the time limit, and a line says so, once a minute; what isn't paged doesn't wait."""
+    mute = Stalling(b"")
+    mute.port = int(mute.word.rsplit(":", 1)[1])
+    away = type("Away", (), {"port": free_ports(1)[0]})
+    member = started("m", folder, {"am": mute, "bm": away}, "--time-limit", "2", every=HOUR)
+    for key in ("g", "h"):
+        start = time.monotonic()
+        reply = answered(decision(member, key))
+        compare(f"{key} is paged", decided(reply), (200, True, "First"))
+        check(f"after the limit for {key}", 1.9 < reply[2] - start < 4, reply[2] - start)
+    names = sorted(it.partition("(peer ")[2].partition(",")[0] for it in unheard(member))
+    compare("a line for each", names, ["am", "bm"])
+    status, _ = member.post(silence("x", matchers=[{"name": "alertname", "value": "Muted", "isRegex": False}]))
+    start = time.monotonic()
+    reply = answered(decision(member, "i", "Muted"))
+    compare("a silence is posted", status, 200)
+    compare("what is muted doesn't wait", (decided(reply), reply[2] - start < 1), ((200, False, "Muted"), True))
+    stop(member)
+    member = started("n", folder, {"bm": away}, "--time-limit", "20", every=HOUR)
+    start = time.monotonic()
+    reply = answered(decision(member))
+    compare("one that isn't there holds nothing up", (decided(reply), reply[2] - start < 10), ((200, True, "First"), True))
+    stop(member)
+
+
+def test_ten(folder):
+    """Ten decisions at once make one exchange, behind the one that is under way when they come."""
+    slow, gate, begun = Alive(), threading.Event(), []
+    member = started("m", folder, {"am": slow}, "--time-limit", "30", every=HOUR)
+    check("it is asked at the start", eventually(lambda: slow.asked == 1), slow.asked)
+    plainly = slow.answer
+    slow.answer = lambda *words: (begun.append(1), gate.wait(20), plainly(*words))
+    first = decision(member, "first")
+    check("an exchange begins", eventually(lambda: len(begun) == 1), begun)
+    ten = [decision(member, f"g{it}") for it in range(10)]
+    time.sleep(0.5)
+    gate.set()
+    compare("all are answered", [decided(answered(it)) for it in [first, *ten]], [(200, True, "First")] * 11)
+    compare("by two exchanges", len(begun), 2)
+    stop(member)
+
+
+def test_gone(folder):
+    """A client that goes away gives its place back."""
+    mute = Stalling(b"")
+    mute.port = int(mute.word.rsplit(":", 1)[1])
+    member = started("m", folder, {"am": mute}, "--time-limit", "2", "--at-once", "4", "--waiting", "1", every=HOUR)
+    gone = decision(member, "g")
+    time.sleep(0.3)
+    compare("its place is taken", answered(decision(member, "h"))[:2], (503, "too many wait"))
+    gone.close()
+    again = lambda: (reply := answered(decision(member, "i")))[0] == 200 and decided(reply)
+    compare("and is free again", eventually(again, 10), (200, True, "First"))
+    stop(member)
+
+
 class Stalling(Liar):
     """One that sends these bytes, and nothing more for a long time."""
 
@@ -351,7 +492,7 @@ def test_pull_first(folder):
     stop(member)
 
 
-TESTS = [test_holds, test_given_back, test_at_once, test_not_given, test_hazards, test_dialects, test_liars, test_nobody, test_names, test_kept, test_pull_first]
+TESTS = [test_holds, test_given_back, test_at_once, test_not_given, test_hazards, test_dialects, test_withheld, test_figures, test_asked_before, test_unheard, test_ten, test_gone, test_liars, test_nobody, test_names, test_kept, test_pull_first]
 
 
 def main():

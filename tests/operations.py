@@ -187,6 +187,7 @@ def test_status(folder):
     version = run(["--version"])[1].decode().split()[-1]
     peers = [("a", port), ("b", peer), ('c"\\', other)]
     wanted = {
+        "alertmanagers": [],
         "cluster": {
             "name": "a", "status": "ready",
             "peers": [{"address": f"127.0.0.1:{at}", "name": name} for name, at in peers],
@@ -332,6 +333,11 @@ def test_counts(folder):
     check("connections", found.get("maityrunga_connections") <= 2, found.get("maityrunga_connections"))
     check("connections accepted", grown("maityrunga_connections_accepted_total") >= 12)
     compare("nothing was heard of b", found.get("maityrunga_peer_last_heard_timestamp_seconds", peer="b"), 0)
+    accepted = found.get("maityrunga_connections_accepted_total")
+    member.send(greeting("b"))
+    member.send(greeting("b") + b"\xff")
+    found = eventually(lambda: (it := figures(member)).get("maityrunga_connections_accepted_total") >= accepted + 2 and it)
+    compare("a greeting alone isn't heard, nor a frame that is none", found.get("maityrunga_peer_last_heard_timestamp_seconds", peer="b"), 0)
     version = versions.silence("z job=z 10..5000000000 updated 10 expires 6000000000")
     member.send(greeting("b") + delta("sil", version) + EMPTY_PUSH)
     found = eventually(lambda: (it := figures(member)).get("maityrunga_frames_taken_total", peer="b") == 2 and it)

@@ -1071,7 +1071,7 @@ def test_beside(folder):
     a = begun(Member("a", ports[0], [], folder, gossip[:2]))
     with browser.Browser(folder) as chromium:
         page = chromium.page(url_of(a))
-        wanted = f"am1 Alertmanager at 127.0.0.1:{ports[1]}"
+        wanted = f"am1 Alertmanager at 127.0.0.1:{ports[1]}, not heard yet"
         check("it is shown", eventually(lambda: page.text("#beside") == wanted), page.text("header"))
         compare("as what it is", page.evaluate("document.querySelector('#beside').ariaLabel"), "Alertmanagers")
         quiet(page, "beside")

@@ -1,13 +1,24 @@
 -- What a member says of itself: `alertmanagerStatus` of API v2, as data of JSON (RFC 8259) with the keys of each object in byte order.
 use Rattle.std.specs.Prelude.{ℕ, Bool, true, false, List, [], map, codes}
-use Rattle.serde_json.specs.Data.{Data, string, array, object, member, no_members}
+use Rattle.serde_json.specs.Data.{Data, unsigned, number, string, array, object, member, no_members}
 use Rattle.serde_json.specs.View.{items_of}
 use Rattle.am_api_status.specs.declared.status.Peer.{Peer}
 use Rattle.am_api_status.specs.declared.status.MemberStatus.{MemberStatus}
+use Rattle.am_api_status.specs.declared.status.Neighbor.{Neighbor}
 
 -- a member of the cluster: peerStatus
 abbrev pub peer_data : Peer → Data
 peer_data peer = object (member (codes "address") (string peer.address) (member (codes "name") (string peer.name) no_members))
+
+-- an Alertmanager beside the member: where it is asked, what it lacked when it was heard last, and how often silences weren't sent to it
+abbrev pub neighbor_data : Neighbor → Data
+neighbor_data n =
+    object (
+    member (codes "address") (string n.address) (
+    member (codes "lacked") (number (unsigned n.lacked)) (
+    member (codes "lastHeard") (string n.last_heard) (
+    member (codes "name") (string n.name) (
+    member (codes "withheld") (number (unsigned n.withheld)) no_members)))))
 
 -- a member that answers requests is ready, and one that waits for its first pull, or stops, settles
 abbrev pub status_word : Bool → List ℕ
@@ -41,7 +52,8 @@ versions_data version =
 unfoldable pub standing_data : MemberStatus → List ℕ → Data
 standing_data s start =
     object (
+    member (codes "alertmanagers") (array (items_of (map neighbor_data s.alertmanagers.items))) (
     member (codes "cluster") (cluster_data s) (
     member (codes "config") (config_data s.options) (
     member (codes "uptime") (string start) (
-    member (codes "versionInfo") (versions_data s.version.now) no_members))))
+    member (codes "versionInfo") (versions_data s.version.now) no_members)))))

@@ -3,7 +3,7 @@
 /// The fields of the head that are about the page: its type, and what a browser is to let it do.
 pub const FIELDS: &str = "\
 content-type: text/html; charset=utf-8\r\n\
-content-security-policy: default-src 'none'; script-src 'sha256-O3HxMdc5mSCBaa34mHx5NOUVP9C6UEI/QeH/+VXJyIc='; style-src 'sha256-AVZGnS2QOhhFd8sEJaR8CHArex1rcFLfvaMCskM1bNw='; connect-src 'self'; img-src data:; base-uri 'none'; form-action 'none'; frame-ancestors 'none'; require-trusted-types-for 'script'; trusted-types 'none'\r\n\
+content-security-policy: default-src 'none'; script-src 'sha256-UnSLp9PuL3jIa9oCTAJ+aKmVcvdR6EnYs1Gs1O2l01M='; style-src 'sha256-AVZGnS2QOhhFd8sEJaR8CHArex1rcFLfvaMCskM1bNw='; connect-src 'self'; img-src data:; base-uri 'none'; form-action 'none'; frame-ancestors 'none'; require-trusted-types-for 'script'; trusted-types 'none'\r\n\
 x-content-type-options: nosniff\r\n\
 referrer-policy: no-referrer\r\n\
 cache-control: no-cache\r\n\
@@ -559,11 +559,15 @@ const drawReadiness = (ready, name = at(\"member\").querySelector(\"b\")?.textCo
 \x20\x20at(\"member\").replaceChildren(\"Member \", make(\"b\", {}, name), \" \", make(\"span\", { class: kind }, words));\n\
 };\n\
 \n\
-// When each peer was last heard, in seconds since 1970, from what /metrics says.\n\
-const heardOf = (metrics) => {\n\
-\x20\x20const lines = metrics.matchAll(/^maityrunga_peer_last_heard_timestamp_seconds\\{peer=\"((?:\\\\.|[^\"\\\\])*)\"\\} (\\S+)/gm);\n\
-\x20\x20const plain = (name) => name.replace(/\\\\(.)/g, (_, it) => (it === \"n\" ? \"\\n\" : it));\n\
-\x20\x20return new Map([...lines].map(([, name, seconds]) => [plain(name), Number(seconds)]));\n\
+// The figures of a family, by the word of its first label, from what /metrics says; those of further labels are summed.\n\
+const figuresOf = (metrics, family) => {\n\
+\x20\x20const lines = metrics.matchAll(/^(\\w+)\\{\\w+=\"((?:\\\\.|[^\"\\\\])*)\"[^}]*\\} (\\S+)/gm), found = new Map();\n\
+\x20\x20for (const [, name, word, number] of lines) {\n\
+\x20\x20\x20\x20if (name !== family) continue;\n\
+\x20\x20\x20\x20const plain = word.replace(/\\\\(.)/g, (_, it) => (it === \"n\" ? \"\\n\" : it));\n\
+\x20\x20\x20\x20found.set(plain, (found.get(plain) ?? 0) + Number(number));\n\
+\x20\x20}\n\
+\x20\x20return found;\n\
 };\n\
 \n\
 const heardWords = (seconds) => {\n\
@@ -578,6 +582,18 @@ const neighbour = (name, words, kind = \"dim\") => make(\"li\", {}, make(\"b\", 
 const besideOf = (options) => [...options.matchAll(/^--gossip (.*)=(\\S+)$/gm)]\n\
 \x20\x20.map(([, name, address]) => [name, /^\\d+$/.test(address) ? `127.0.0.1:${address}` : address]);\n\
 \n\
+// What is said of an Alertmanager beside the member, and how.\n\
+const besideWords = (metrics) => {\n\
+\x20\x20const heard = figuresOf(metrics, \"maityrunga_alertmanager_last_heard_timestamp_seconds\");\n\
+\x20\x20const lacked = figuresOf(metrics, \"maityrunga_alertmanager_lacked\"), withheld = figuresOf(metrics, \"maityrunga_silences_withheld_total\");\n\
+\x20\x20return (name, address) => {\n\
+\x20\x20\x20\x20const words = [`Alertmanager at ${address}`, heardWords(heard.get(name))];\n\
+\x20\x20\x20\x20if (lacked.get(name) > 0) words.push(`lacked ${lacked.get(name)} then`);\n\
+\x20\x20\x20\x20if (withheld.get(name) > 0) words.push(\"some silences aren't sent to it, see the member's lines\");\n\
+\x20\x20\x20\x20return [words.filter(Boolean).join(\", \"), heard.get(name) === 0 || withheld.get(name) > 0 ? \"late\" : \"dim\"];\n\
+\x20\x20};\n\
+};\n\
+\n\
 const lookAtMember = async () => {\n\
 \x20\x20const [ready, status, metrics] = await Promise.all([\n\
 \x20\x20\x20\x20fetch(\"-/ready\", { cache: \"no-store\" }).then((reply) => reply.ok, () => null),\n\
@@ -586,9 +602,10 @@ const lookAtMember = async () => {\n\
 \x20\x20]);\n\
 \x20\x20drawReadiness(status && ready, status?.cluster?.name);\n\
 \x20\x20if (!status) return;\n\
-\x20\x20const heard = heardOf(metrics), peers = (status.cluster.peers ?? []).filter(({ name }) => name !== status.cluster.name);\n\
+\x20\x20const heard = figuresOf(metrics, \"maityrunga_peer_last_heard_timestamp_seconds\"), peers = (status.cluster.peers ?? []).filter(({ name }) => name !== status.cluster.name);\n\
 \x20\x20at(\"peers\").replaceChildren(...peers.map(({ name }) => neighbour(name, heardWords(heard.get(name)), heard.get(name) === 0 ? \"late\" : \"dim\")));\n\
-\x20\x20at(\"beside\").replaceChildren(...besideOf(status.config?.original ?? \"\").map(([name, address]) => neighbour(name, `Alertmanager at ${address}`)));\n\
+\x20\x20const besides = besideOf(status.config?.original ?? \"\"), told = besideWords(metrics);\n\
+\x20\x20at(\"beside\").replaceChildren(...besides.map(([name, address]) => neighbour(name, ...told(name, address))));\n\
 };\n\
 \n\
 // ---- changes of a silence\n\

@@ -1,14 +1,14 @@
 //! What a member says of itself in JSON.
 
-ghost use Rattle.std.specs.Prelude.{◌≡◌, ℕ, List, [], ◌∷◌, OnOk, IfOk, codes, map};
-ghost use Rattle.json.specs.Token.{key};
+ghost use Rattle.std.specs.Prelude.{◌≡◌, ℕ, List, [], ◌∷◌, OnOk, IfOk, codes, decimal, map};
+ghost use Rattle.json.specs.Token.{key, number};
 ghost use Rattle.serde_json.specs.Data.{array};
 ghost use Rattle.serde_json.specs.View.{items_of};
 ghost use Rattle.serde_json.specs.Written.{compact_text};
 ghost use Rattle.am_silence_json.specs.Tokens.{Adds, data_tokens, row_tokens};
 ghost use Rattle.am_silence_json.specs.Written.{WritesMoment};
 ghost use Rattle.am_api_status.specs.Replies.{told_bytes};
-ghost use Rattle.am_api_status.specs.Standings.{cluster_data, config_data, peer_data, standing_data, status_word, versions_data};
+ghost use Rattle.am_api_status.specs.Standings.{cluster_data, config_data, neighbor_data, peer_data, standing_data, status_word, versions_data};
 ghost use Rattle.am_api_status.specs.declared.replies.Format.TheVariants as formats;
 
 use crate::replies::{Format, tell};
@@ -27,6 +27,20 @@ pub struct Peer {
     pub address: Text,
 }
 
+/// An Alertmanager beside the member, as it is shown.
+#[derive(Drop)]
+pub struct Neighbor {
+    pub name: Text,
+    /// Where it is asked.
+    pub address: Text,
+    /// When all that it holds was taken last, as a moment; empty before that.
+    pub last_heard: Text,
+    /// How many versions it lacked then.
+    pub lacked: u64,
+    /// How often silences weren't sent to it for their hazards.
+    pub withheld: u64,
+}
+
 /// What a member says of itself.
 #[derive(Drop)]
 pub struct MemberStatus {
@@ -36,6 +50,8 @@ pub struct MemberStatus {
     pub is_ready: bool,
     /// All members, itself too.
     pub peers: Vec<Peer>,
+    /// The Alertmanagers beside it.
+    pub alertmanagers: Vec<Neighbor>,
     /// The options that it was started with.
     pub options: Text,
     /// When it was started.
@@ -73,6 +89,51 @@ fn add_peers(out: &mut Writer, peers: &[Peer]) -> Result<(), AllocError>
     add(out, Token::Key("peers"))?;
     add(out, Token::BeginArray)?;
     add_each_peer(out, peers)?;
+    add(out, Token::EndArray)?;
+    Ok(())
+}
+
+/// Adds a member that is a number.
+fn add_number(out: &mut Writer, name: &str, value: u64) -> Result<(), AllocError>
+    ensures { OnOk result (Adds out.old out.new (key name.now ∷ number (decimal value) ∷ [])) }
+{
+    add(out, Token::Key(name))?;
+    out.u64(value)?;
+    Ok(())
+}
+
+/// Adds an Alertmanager beside the member.
+fn add_neighbor(out: &mut Writer, neighbor: &Neighbor) -> Result<(), AllocError>
+    ensures { OnOk result (Adds out.old out.new (data_tokens (neighbor_data neighbor.now))) }
+{
+    add(out, Token::BeginObject)?;
+    add_text(out, "address", neighbor.address.as_str())?;
+    add_number(out, "lacked", neighbor.lacked)?;
+    add_text(out, "lastHeard", neighbor.last_heard.as_str())?;
+    add_text(out, "name", neighbor.name.as_str())?;
+    add_number(out, "withheld", neighbor.withheld)?;
+    add(out, Token::EndObject)?;
+    Ok(())
+}
+
+/// Adds Alertmanagers beside the member, without brackets.
+fn add_each_neighbor(out: &mut Writer, neighbors: &[Neighbor]) -> Result<(), AllocError>
+    ensures { OnOk result (Adds out.old out.new (row_tokens (map neighbor_data neighbors.now))) }
+{
+    for neighbor in neighbors {
+        add_neighbor(out, neighbor)?;
+    }
+    Ok(())
+}
+
+/// Adds the list of the Alertmanagers beside the member.
+fn add_neighbors(out: &mut Writer, neighbors: &[Neighbor]) -> Result<(), AllocError>
+    ensures { OnOk result (Adds out.old out.new
+        (key (codes "alertmanagers") ∷ data_tokens (array (items_of (map neighbor_data neighbors.now))))) }
+{
+    add(out, Token::Key("alertmanagers"))?;
+    add(out, Token::BeginArray)?;
+    add_each_neighbor(out, neighbors)?;
     add(out, Token::EndArray)?;
     Ok(())
 }
@@ -129,6 +190,7 @@ fn add_standing(out: &mut Writer, standing: &MemberStatus, start: &str) -> Resul
     ensures { OnOk result (Adds out.old out.new (data_tokens (standing_data standing.now start.now))) }
 {
     add(out, Token::BeginObject)?;
+    add_neighbors(out, standing.alertmanagers.as_slice())?;
     add_cluster(out, standing)?;
     add_config(out, standing.options.as_str())?;
     add_text(out, "uptime", start)?;

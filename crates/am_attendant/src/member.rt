@@ -64,6 +64,9 @@ pub trait Attendant {
     fn release(&mut self, dialogue: &mut Conversation)
         ensures { Lasts (talk_of dialogue.old) (talk_of dialogue.new) };
 
+    /// The moment for which the reply of a connection waits, where one does.
+    fn due(&self, dialogue: &Conversation) -> Option<Instant>;
+
     fn come_due(&mut self, instance: &mut Instance, dialogue: &mut Conversation)
         ensures own { ByItself instance.old instance.new }
         ensures lasts { Lasts (talk_of dialogue.old) (talk_of dialogue.new) };
@@ -171,7 +174,7 @@ impl<A: Attendant> Service for Member<'_, A> {
     }
 
     fn due(&self, session: &Conversation) -> Option<Instant> {
-        session.due()
+        self.attendant.due(session)
     }
 
     fn come_due(&mut self, session: &mut Conversation) {

@@ -1,3 +1,4 @@
+pub mod Heard
 pub mod Reading
 pub mod Sieves
 pub mod Told

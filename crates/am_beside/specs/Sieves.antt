@@ -10,6 +10,7 @@ use Rattle.am_snapshot.specs.Texts.{row_text}
 use Rattle.am_snapshot.specs.declared.pieces.RowPiece.{RowPiece}
 use Rattle.am_beside.specs.declared.sieve.Sieve.{Sieve}
 use Rattle.am_beside.specs.declared.sieve.Sieve.TheVariants.{Lacked, Given}
+use Rattle.am_beside.specs.declared.tally.Withheld.{Withheld}
 
 -- of a list just those were chosen that pass a test, in their order
 pub data AreChosen {X : Type 0} (passes : X → Bool → Type 0) : List X → List X → Type 0 where
@@ -23,6 +24,17 @@ module _ {K X : Type 0} (seen : X → Version K) where
     abbrev pub IsHanded : ℕ → List X → X → Bool → Type 0
     IsHanded now held v true = (is_given seen cmp now held v ≡ true) × is_hazard v None
     IsHanded now held v false = (is_given seen cmp now held v ≡ false) ⊎ ((hazard : Hazard) × is_hazard v (Some hazard))
+
+    -- A version that a replica is given but for its hazard is noted behind those before it, with that hazard; else nothing is noted.
+    abbrev pub WithholdsBy : ℕ → List X → X → List (Withheld K) → List (Withheld K) → Type 0
+    WithholdsBy now held v old new = ((new ≡ old) × ((is_given seen cmp now held v ≡ false) ⊎ is_hazard v None))
+        ⊎ ((hazard : Hazard) × (is_given seen cmp now held v ≡ true) × is_hazard v (Some hazard)
+        × (new ≡ old ++ record { key = (seen v).key; updated = (seen v).updated; hazard = hazard } ∷ []))
+
+    -- of a version that a map lacks nothing is noted
+    abbrev pub Withholds : Sieve X K → X → List (Withheld K) → List (Withheld K) → Type 0
+    Withholds (Lacked held) v old new = new ≡ old
+    Withholds (Given held now) v old new = WithholdsBy now held.now v old new
 
     -- a version that passes is lacked by a map, or is handed to a replica
     abbrev pub Passes : Sieve X K → X → Bool → Type 0

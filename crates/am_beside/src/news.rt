@@ -2,6 +2,7 @@
 
 use crate::sieve::Sieve;
 use crate::sifting::sift;
+use crate::tally::{Tally, Withheld};
 use am_gossip::{Part, StateKey};
 use am_memberlist::{part_text, told_text};
 use am_mend::Handed;
@@ -10,7 +11,7 @@ use am_nflog::MeshEntry;
 use am_silence::MeshSilence;
 use am_snapshot::{RowPiece, take_row};
 use am_version_order::{Moment, Version};
-use am_wire::Message;
+use am_wire::{Message, Text};
 use std::alloc::{AllocError, Global};
 use std::mem;
 
@@ -26,21 +27,34 @@ pub struct News {
     entries: Held<MeshEntry>,
     /// How many bytes of versions came since they last went out.
     waiting: usize,
+    /// How many versions the rows have that it is given since they were last counted: what it lacked.
+    lacked: u64,
+    /// The silences that were withheld from it, and aren't reported yet.
+    withheld: Vec<Withheld<Text>>,
 }
 
-/// The message that tells of the live versions of a map, but for those of the future; none where there is no such version.
+/// The message that tells of the live versions of a map, but for those of the future and those that are withheld; none where there
+/// is no such version.
 fn message_of<V: Handed>(
     alloc: Global,
     key: StateKey,
     held: &Held<V>,
     now: Moment,
+    tally: &mut Tally<V::Key>,
 ) -> Result<Option<Vec<u8>>, AllocError>
 where
     V::Key: Drop,
 {
     let nothing = Held::new(alloc);
     let sieve = Sieve::Given(&nothing, now);
-    let RowPiece { row, next: _ } = sift(alloc, &sieve, held.iter(), usize::MAX, usize::MAX)?;
+    let RowPiece { row, next: _ } = sift(
+        alloc,
+        &sieve,
+        held.iter(),
+        usize::MAX,
+        usize::MAX,
+        tally,
+    )?;
     if row.as_slice().is_empty() {
         return Ok(None);
     }
@@ -77,7 +91,39 @@ impl News {
             silences: Held::new(alloc),
             entries: Held::new(alloc),
             waiting: 0,
+            lacked: 0,
+            withheld: Vec::new(alloc),
         }
+    }
+
+    /// It lacked so many versions more.
+    pub(crate) fn lack(&mut self, count: u64) {
+        self.lacked = self.lacked.saturating_add(count);
+    }
+
+    /// Counts what it lacked of the silences, and keeps what is withheld from it until that is reported.
+    pub(crate) fn count(&mut self, tally: Tally<Text>) -> Result<(), AllocError> {
+        let Tally { passed, withheld } = tally;
+        self.lack(passed);
+        self.withhold(withheld)
+    }
+
+    /// Keeps what is withheld from it until that is reported.
+    fn withhold(&mut self, withheld: Vec<Withheld<Text>>) -> Result<(), AllocError> {
+        for one in withheld {
+            self.withheld.push(one)?;
+        }
+        Ok(())
+    }
+
+    /// How many versions it lacked since that was last asked.
+    pub fn take_lacked(&mut self) -> u64 {
+        mem::replace(&mut self.lacked, 0)
+    }
+
+    /// The next silence that was withheld from it, and isn't reported yet.
+    pub fn next_withheld(&mut self) -> Option<Withheld<Text>> {
+        self.withheld.pop()
     }
 
     /// Whether there is nothing to be told.
@@ -132,11 +178,15 @@ impl News {
             return Ok(Some(message_with(alloc, key, &row)?));
         }
         let silences = mem::replace(&mut self.silences, Held::new(alloc));
-        if let Some(message) = message_of(alloc, StateKey::Sil, &silences, now)? {
-            return Ok(Some(message));
+        let mut tally = Tally::new(alloc);
+        let message = message_of(alloc, StateKey::Sil, &silences, now, &mut tally)?;
+        self.withhold(tally.withheld)?;
+        if message.is_some() {
+            return Ok(message);
         }
         let entries = mem::replace(&mut self.entries, Held::new(alloc));
         self.waiting = 0;
-        message_of(alloc, StateKey::Nfl, &entries, now)
+        let mut tally = Tally::new(alloc);
+        message_of(alloc, StateKey::Nfl, &entries, now, &mut tally)
     }
 }

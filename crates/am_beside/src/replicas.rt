@@ -1,6 +1,11 @@
 //! All replicas beside a member.
 
+ghost use Rattle.std.specs.Prelude.{◌≡◌};
+ghost use Rattle.std.specs.List.{list_all};
+ghost use Rattle.am_beside.specs.Heard.{is_over_at};
+
 use crate::replica::Replica;
+use crate::reports::{Report, Reports};
 use crate::work::{Stretch, Work};
 use am_gossip::Frame;
 use am_memberlist::AnswerError;
@@ -26,6 +31,8 @@ pub struct Replicas {
     next: Option<Instant>,
     /// Whose answer is looked at, and how far it is.
     work: Option<(usize, Work)>,
+    /// Of which silences it is told that they aren't sent.
+    reports: Reports,
 }
 
 /// What came of a stretch of work on the answer of the replica at a place.
@@ -37,8 +44,8 @@ pub enum Came {
     Stretch,
     /// A frame.
     Frame(usize, Frame),
-    /// The last: all that the replica holds has come, this frame too, where there is one.
-    Whole(usize, Option<Frame>),
+    /// The last: all that the replica holds has come, this frame too, where there is one. It lacked so many versions.
+    Whole(usize, Option<Frame>, u64),
     /// A fault. Nothing more of the answer comes.
     Fault(usize, AnswerError),
 }
@@ -48,6 +55,16 @@ fn replica_at(replicas: &mut [Option<Replica>], place: usize) -> Option<&mut Rep
     match replicas.get_mut(place) {
         Some(Some(replica)) => Some(replica),
         _ => None,
+    }
+}
+
+/// Tells whether an exchange with a replica is over that began in a round or later, if there is a replica.
+fn is_over(replica: &Option<Replica>, round: u64) -> bool
+    ensures { result ≡ is_over_at round replica.now }
+{
+    match replica {
+        Some(replica) => replica.rounds().is_over(round),
+        None => true,
     }
 }
 
@@ -77,7 +94,37 @@ impl Replicas {
             is_empty: addresses.iter().all(|address| address.is_none()),
             next: None,
             work: None,
+            reports: Reports::new(alloc),
         })
+    }
+
+    /// Tells whether an exchange is over with each replica that began in a round or later.
+    pub fn are_over(&self, round: u64) -> bool
+        // PROMISE: Who waits to hear the replicas since a round waits on while an exchange with one isn't over that began since.
+        ensures { result ≡ list_all (is_over_at round) self.now.replicas.items }
+    {
+        self.replicas.iter().all(|replica| is_over(replica, round))
+    }
+
+    /// Tells whether it is told now that the replica at a place, if there is one, wasn't heard since a round: if it wasn't, and once a
+    /// minute.
+    pub fn is_missed(&mut self, place: usize, round: u64, now: Instant) -> bool {
+        match replica_at(&mut self.replicas, place) {
+            Some(replica) => replica.is_missed(round, now),
+            None => false,
+        }
+    }
+
+    /// The next silence that isn't sent for its hazard, and isn't reported yet, with the place of the replica.
+    pub fn next_report(&mut self) -> Option<Report> {
+        for place in 0..self.replicas.len() {
+            if let Some(replica) = replica_at(&mut self.replicas, place)
+                && let Some(withheld) = replica.news.next_withheld()
+            {
+                return Some(self.reports.report(place, withheld));
+            }
+        }
+        None
     }
 
     /// Whether a replica is at a place.
@@ -132,15 +179,19 @@ impl Replicas {
         }
     }
 
-    /// What goes to a replica next, and to which.
+    /// What goes to a replica next, in a round, and to which.
     ///
     /// # Errors
     ///
     /// [`AllocError`] where memory runs out.
-    pub fn question(&mut self, now: Moment) -> Result<Option<(usize, Vec<u8>)>, AllocError> {
+    pub fn question(
+        &mut self,
+        now: Moment,
+        round: u64,
+    ) -> Result<Option<(usize, Vec<u8>)>, AllocError> {
         for place in 0..self.replicas.len() {
             if let Some(replica) = replica_at(&mut self.replicas, place)
-                && let Some(bytes) = replica.question(self.alloc, now)?
+                && let Some(bytes) = replica.question(self.alloc, now, round)?
             {
                 return Ok(Some((place, bytes)));
             }
@@ -177,7 +228,10 @@ impl Replicas {
         };
         match work.go_on(self.alloc, silences, entries, &mut replica.news, now) {
             Ok(stretch) => self.keep(place, stretch),
-            Err(fault) => Came::Fault(place, fault),
+            Err(fault) => {
+                self.end_look(place, false);
+                Came::Fault(place, fault)
+            }
         }
     }
 
@@ -191,11 +245,23 @@ impl Replicas {
         Some((place, Work::new(self.alloc, answer)))
     }
 
+    /// All that the replica at a place answered was taken, or it is at fault. Answers how many versions it lacked.
+    fn end_look(&mut self, place: usize, is_taken: bool) -> u64 {
+        match replica_at(&mut self.replicas, place) {
+            Some(replica) => {
+                replica.end_look(is_taken);
+                replica.news.take_lacked()
+            }
+            None => 0,
+        }
+    }
+
     /// Keeps what is left of the work on an answer.
     fn keep(&mut self, place: usize, stretch: Stretch) -> Came {
         let Stretch { frame, left } = stretch;
         let Some(left) = left else {
-            return Came::Whole(place, frame);
+            let lacked = self.end_look(place, true);
+            return Came::Whole(place, frame, lacked);
         };
         self.work = Some((place, left));
         match frame {

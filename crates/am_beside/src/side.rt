@@ -4,6 +4,7 @@
 use crate::reading::{begin_row, read_some};
 use crate::sieve::Sieve;
 use crate::sifting::sift;
+use crate::tally::Tally;
 use am_gossip::{Part, StateKey};
 use am_memberlist::AnswerError;
 use am_mend::Handed;
@@ -48,6 +49,8 @@ where
     held: Held<V>,
     stage: Stage<V::Key>,
     given: Vec<u8>,
+    /// What came of the versions that the replica would be given, since it was last taken.
+    tally: Tally<V::Key>,
 }
 
 /// The versions of a map that are left, from a key on where there is one.
@@ -72,7 +75,13 @@ where
             held,
             stage: Stage::Reading,
             given: Vec::new(alloc),
+            tally: Tally::new(alloc),
         }
+    }
+
+    /// What came of the versions that the replica would be given, since it was last taken.
+    pub fn take_tally(&mut self, alloc: Global) -> Tally<V::Key> {
+        mem::replace(&mut self.tally, Tally::new(alloc))
     }
 
     /// Whether nothing is left to be done.
@@ -136,12 +145,14 @@ where
         from: Option<V::Key>,
     ) -> Result<Option<Part>, AllocError> {
         let left = left_of(&self.held, from.as_ref());
+        let mut lacked = Tally::new(alloc);
         let RowPiece { row, next } = sift(
             alloc,
             &Sieve::Lacked(own),
             left,
             COUNT,
             MOST_OF_STRETCH,
+            &mut lacked,
         )?;
         self.stage = match next {
             Some(key) => Stage::Taking(Some(key)),
@@ -166,7 +177,15 @@ where
     ) -> Result<(), AllocError> {
         let left = left_of(own, from.as_ref());
         let sieve = Sieve::Given(&self.held, now);
-        let RowPiece { row, next } = sift(alloc, &sieve, left, MOST_JUDGED, MOST_OF_STRETCH)?;
+        let tally = &mut self.tally;
+        let RowPiece { row, next } = sift(
+            alloc,
+            &sieve,
+            left,
+            MOST_JUDGED,
+            MOST_OF_STRETCH,
+            tally,
+        )?;
         self.given.extend_from_slice(row.as_slice())?;
         self.stage = match next {
             Some(key) => Stage::Giving(Some(key)),

@@ -1,8 +1,9 @@
 //! Which versions go from one side to the other.
 
 ghost use Rattle.std.specs.Prelude.{◌≡◌, IfOk};
-ghost use Rattle.am_beside.specs.Sieves.{IsHanded, Passes};
+ghost use Rattle.am_beside.specs.Sieves.{IsHanded, Passes, Withholds, WithholdsBy};
 
+use crate::tally::{Tally, Withheld};
 use am_mend::{Handed, is_given, is_lacked};
 use am_merge::Held;
 use am_version_order::{Moment, Version};
@@ -17,36 +18,61 @@ pub enum Sieve<'a, V: Version> {
     Given(&'a Held<V>, Moment),
 }
 
-impl<V: Handed> Sieve<'_, V> {
-    /// Tells whether a version passes. A hazard is looked for only in one that the replica would be given.
+impl<V: Handed> Sieve<'_, V>
+where
+    V::Key: Drop,
+{
+    /// Tells whether a version passes. A hazard is looked for only in one that the replica would be given; one that has a hazard is
+    /// noted in the tally.
     ///
     /// # Errors
     ///
     /// [`AllocError`] where memory runs out.
-    pub fn passes(&self, alloc: Global, version: &V) -> Result<bool, AllocError>
-        ensures { IfOk result (Passes V.seen V.Key.cmp V.is_hazard self.now version.now) }
+    pub fn passes(
+        &self,
+        alloc: Global,
+        version: &V,
+        tally: &mut Tally<V::Key>,
+    ) -> Result<bool, AllocError>
+        ensures passes { IfOk result (Passes V.seen V.Key.cmp V.is_hazard self.now version.now) }
+        // PROMISE: A version that isn't handed to a replica for its hazard is noted with it, and no other one.
+        ensures noted { IfOk result (λ _. Withholds V.seen V.Key.cmp V.is_hazard self.now version.now tally.old.withheld.items tally.new.withheld.items) }
     {
         match self {
             Sieve::Lacked(held) => Ok(is_lacked(held, version)),
-            Sieve::Given(held, now) => is_handed(alloc, held, version, *now),
+            Sieve::Given(held, now) => is_handed(alloc, held, version, *now, tally),
         }
     }
 }
 
-/// Tells whether a replica that holds these is given a version at a moment, and the version has no hazard.
+/// Tells whether a replica that holds these is given a version at a moment, and the version has no hazard. One that it is given but
+/// for its hazard is noted in the tally.
 fn is_handed<V: Handed>(
     alloc: Global,
     held: &Held<V>,
     version: &V,
     now: Moment,
+    tally: &mut Tally<V::Key>,
 ) -> Result<bool, AllocError>
-    ensures { IfOk result (IsHanded V.seen V.Key.cmp V.is_hazard now held.now version.now) }
+where
+    V::Key: Drop,
+    ensures handed { IfOk result (IsHanded V.seen V.Key.cmp V.is_hazard now held.now version.now) }
+    ensures noted { IfOk result (λ _. WithholdsBy V.seen V.Key.cmp V.is_hazard now held.now version.now tally.old.withheld.items tally.new.withheld.items) }
 {
     if !is_given(held, version, now) {
         return Ok(false);
     }
     match version.hazard(alloc)? {
         None => Ok(true),
-        Some(_) => Ok(false),
+        Some(hazard) => {
+            let key = version.try_key(alloc)?;
+            let updated = version.updated();
+            tally.withheld.push(Withheld {
+                key,
+                updated,
+                hazard,
+            })?;
+            Ok(false)
+        }
     }
 }

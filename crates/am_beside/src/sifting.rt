@@ -4,6 +4,7 @@ ghost use Rattle.std.specs.Prelude.{◌≡◌, IfOk};
 ghost use Rattle.am_beside.specs.Sieves.{IsSifted, Passes};
 
 use crate::sieve::Sieve;
+use crate::tally::Tally;
 use am_mend::Handed;
 use am_merge::Iter;
 use am_snapshot::RowPiece;
@@ -12,7 +13,8 @@ use am_wire::writing::append_delimited;
 use std::alloc::{AllocError, Global};
 
 /// Returns the row of those of the first versions that pass, and the key of the first one that wasn't looked at. It looks at no more
-/// than `count` versions, and at none once the row has `most` bytes.
+/// than `count` versions, and at none once the row has `most` bytes. The tally counts those that pass, and notes those that are
+/// withheld.
 ///
 /// # Errors
 ///
@@ -24,7 +26,10 @@ pub fn sift<V: Handed>(
     versions: Iter<'_, V>,
     count: usize,
     most: usize,
+    tally: &mut Tally<V::Key>,
 ) -> Result<RowPiece<V::Key>, AllocError>
+where
+    V::Key: Drop,
     // PROMISE: Just the versions that pass go to the other side, in the order of their keys, each once.
     ensures { IfOk result (IsSifted V.seen (Passes V.seen V.Key.cmp V.is_hazard sieve.now) versions.entry) }
 {
@@ -39,9 +44,10 @@ pub fn sift<V: Handed>(
             });
         }
         room -= 1;
-        let passes = sieve.passes(alloc, version)?;
+        let passes = sieve.passes(alloc, version, tally)?;
         if passes {
             append_delimited(&mut row, version.canonical())?;
+            tally.passed = tally.passed.saturating_add(1);
         }
     }
     Ok(RowPiece {

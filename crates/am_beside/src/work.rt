@@ -135,6 +135,7 @@ fn go_on_silences(
     let mut side = side;
     let row = told_rows(alloc, &message)?.silences;
     let frame = look_at(alloc, &mut side, row, own, news, now)?;
+    news.count(side.take_tally(alloc))?;
     let left = if side.is_done() {
         Work::Entries(message, Side::new(alloc, StateKey::Nfl))
     } else {
@@ -158,6 +159,7 @@ fn go_on_entries(
     let mut side = side;
     let row = told_rows(alloc, &message)?.entries;
     let frame = look_at(alloc, &mut side, row, own, news, now)?;
+    news.lack(side.take_tally(alloc).passed);
     let left = if side.is_done() {
         None
     } else {

@@ -1,2 +1,3 @@
 pub mod Talks
 pub mod Answered
+pub mod Waiting

@@ -11,7 +11,7 @@ ghost use Rattle.am_dialogue.specs.Talks.Saying.{Silent};
 use crate::counting::{Account, Census};
 use crate::turns::{Turn, bytes_of_request, is_dear_call};
 use am_api_decisions::{Deciding, LogWriting};
-use am_api_silences::{PendingAnswer, PendingReply, Read, Refusal, ReplyBytes, refuse};
+use am_api_silences::{PendingAnswer, PendingReply, Read, Refusal, ReplyBytes, Request, refuse};
 use am_gate::{Gate, Hears};
 use am_gossip::Frame;
 use am_http::session::{Session, SessionOutput};
@@ -20,7 +20,6 @@ use am_instance::names_both;
 use am_member::{Judging, is_list_request};
 use std::alloc::{AllocError, Global};
 use std::mem;
-use std::time::Instant;
 
 /// How many silences of a list are written in a turn of the loop.
 const STRETCH: usize = 512;
@@ -72,16 +71,24 @@ pub enum Work {
 /// How far the answer to a request has come that isn't about silences.
 #[derive(Drop)]
 pub enum CallProgress {
-    /// A request for a decision waits for this member's turn.
+    /// A request for a decision waits for this member's turn, or until Alertmanagers were heard.
     Turn(Turn),
-    /// One whose turn has come waits for its place in the line.
+    /// One whose moment has come waits for its place in the line.
     Due(Turn),
     /// A decision, of which some alerts are still to be held against the silences.
-    Deciding(Deciding),
+    Deciding(Deliberation),
     /// The entries of the log are being written.
     Log(LogWriting),
     /// The silences are being counted for the member's figures.
     Counting(Census),
+}
+
+/// A decision that is being made.
+#[derive(Drop)]
+pub struct Deliberation {
+    pub deciding: Deciding,
+    /// Its request, where Alertmanagers are still to be heard before it is answered that the group is to be notified.
+    pub unheard: Option<Request>,
 }
 
 impl Work {
@@ -90,6 +97,14 @@ impl Work {
         match self {
             Work::Request(said) | Work::Judging(said, _) => bytes_kept(said),
             Work::Call(CallProgress::Turn(turn) | CallProgress::Due(turn)) => turn.bytes(),
+            Work::Call(
+                CallProgress::Deciding(
+                    Deliberation {
+                        unheard: Some(request),
+                        ..
+                    },
+                ),
+            ) => bytes_of_request(request),
             _ => 0,
         }
     }
@@ -366,10 +381,10 @@ impl Conversation {
         }
     }
 
-    /// When it is this member's turn, where a request waits for that.
-    pub fn due(&self) -> Option<Instant> {
+    /// The request for a decision that waits, where one does.
+    pub fn turn(&self) -> Option<&Turn> {
         match &self.work {
-            Work::Call(CallProgress::Turn(turn)) => Some(turn.due()),
+            Work::Call(CallProgress::Turn(turn)) => Some(turn),
             _ => None,
         }
     }

@@ -9,9 +9,11 @@ mod share;
 mod timers;
 mod turns;
 
-pub use conversation::{CallProgress, Conversation, Work, ends_pull, is_nothing, may_change};
+pub use conversation::{
+    CallProgress, Conversation, Deliberation, Work, ends_pull, is_nothing, may_change,
+};
 pub use counting::{Account, Census, asked_of_itself, request_of};
 pub use room::{frame_bytes, log_said, post_bytes, request_bytes, silences_said};
 pub use share::Share;
 pub use timers::{Intervals, Timers};
-pub use turns::{Turn, Turns, is_call};
+pub use turns::{Turn, Turns, Wait, is_call};

@@ -1,8 +1,9 @@
-//! Requests for a decision that wait for their member's turn.
+//! Requests for a decision that wait for their member's turn, or until Alertmanagers were heard.
 
-ghost use Rattle.std.specs.Prelude.{IsTrue};
+ghost use Rattle.std.specs.Prelude.{◌≡◌, IsTrue};
 ghost use Rattle.am_http.specs.Sessions.{spoken};
 ghost use Rattle.am_dialogue.specs.Talks.{AsksElsewhere, IsElsewhere};
+ghost use Rattle.am_dialogue.specs.Waiting.{due_of};
 
 use am_api_decisions::is_for_decisions;
 use am_api_silences::{Read, Request};
@@ -14,17 +15,41 @@ use std::time::Instant;
 /// what is made of it is held once.
 const MOST_AT_ONCE: usize = 65_536;
 
-/// A request for a decision that waits for this member's turn.
+/// For what a request for a decision waits.
+#[derive(Clone, Copy)]
+pub enum Wait {
+    /// For this member's turn.
+    Turn,
+    /// Until an exchange is over with each Alertmanager beside the member that began in a round or later; it waits since then.
+    Exchanges { round: u64, since: Instant },
+}
+
+/// A request for a decision that waits.
 #[derive(Drop)]
 pub struct Turn {
     request: Request,
-    due: Instant,
+    wait: Wait,
+    /// When it waits no more, whatever came.
+    limit: Instant,
 }
 
 impl Turn {
-    /// A request waits until then.
+    /// A request waits for the member's turn, which comes then.
     pub fn new(request: Request, due: Instant) -> Turn {
-        Turn { request, due }
+        Turn {
+            request,
+            wait: Wait::Turn,
+            limit: due,
+        }
+    }
+
+    /// A request waits since then for the exchanges of a round, until the limit at the latest.
+    pub fn for_exchanges(request: Request, round: u64, since: Instant, limit: Instant) -> Turn {
+        Turn {
+            request,
+            wait: Wait::Exchanges { round, since },
+            limit,
+        }
     }
 
     /// The request.
@@ -32,9 +57,31 @@ impl Turn {
         &self.request
     }
 
-    /// When it is this member's turn.
-    pub fn due(&self) -> Instant {
-        self.due
+    /// The request, where Alertmanagers are still to be heard before it is answered that a group is to be notified.
+    pub fn into_unheard(self) -> Option<Request> {
+        match self.wait {
+            Wait::Turn => Some(self.request),
+            Wait::Exchanges { .. } => None,
+        }
+    }
+
+    /// The round whose exchanges it waits for, where it does.
+    pub fn round(&self) -> Option<u64> {
+        match self.wait {
+            Wait::Turn => None,
+            Wait::Exchanges { round, .. } => Some(round),
+        }
+    }
+
+    /// When it waits no more, where the exchanges of its round are over, or not.
+    pub fn due(&self, are_over: bool) -> Instant
+        // PROMISE: A decision that waits for exchanges waits until they are over, or to its limit; one that waits for its turn, until that comes.
+        ensures { result ≡ due_of self.now are_over }
+    {
+        match self.wait {
+            Wait::Exchanges { since, .. } if are_over => since,
+            _ => self.limit,
+        }
     }
 
     /// How many bytes it keeps.
@@ -48,7 +95,7 @@ impl Turn {
     }
 }
 
-/// How many requests wait for this member's turn, and how many may.
+/// How many requests for decisions wait, and how many may.
 #[derive(Clone, Copy)]
 pub struct Turns {
     waiting: u16,

@@ -8,6 +8,7 @@ mod meaning;
 
 use crate::audience::HasAudience;
 use crate::occasion::Occasion;
+use crate::short_id::ShortId;
 use crate::status;
 use am_disk::FileFault;
 use am_gate::GateFault;
@@ -132,6 +133,15 @@ pub enum Fault {
     /// No peer answered the first pull in time, so requests are answered without it.
     #[error("NoPull")]
     NoPull,
+    /// An Alertmanager wasn't heard before a decision to notify was said.
+    #[error("Unheard")]
+    Unheard,
+    /// A silence isn't sent to an Alertmanager, which would refuse one of its patterns.
+    #[error("Withheld Pattern {0}")]
+    WithheldPattern(ShortId),
+    /// A silence isn't sent to an Alertmanager, whose matchers it wouldn't take.
+    #[error("Withheld Matcher {0}")]
+    WithheldMatcher(ShortId),
     /// So many frames for peers found no memory.
     #[error("Unsent Memory {0}")]
     UnsentMemory(usize),
@@ -176,7 +186,7 @@ impl Fault {
 }
 
 /// How many kinds of faults a member tells apart.
-pub const KINDS: usize = 19;
+pub const KINDS: usize = 21;
 
 impl Fault {
     /// Which kind of fault of a member it is, from 0 on: one for each word with which a line begins.
@@ -198,6 +208,8 @@ impl Fault {
             Fault::Gate(_) => 16,
             Fault::Gossip(AnswerError::Row(_) | AnswerError::Memory) => 18,
             Fault::Gossip(_) => 17,
+            Fault::Unheard => 19,
+            Fault::WithheldPattern(_) | Fault::WithheldMatcher(_) => 20,
             _ => 18,
         }
     }

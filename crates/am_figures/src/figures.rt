@@ -1,5 +1,6 @@
 //! What a member counts.
 
+use crate::beside::Beside;
 use crate::counters::Counters;
 use crate::peers::Heard;
 use crate::saves::Save;
@@ -23,6 +24,7 @@ pub struct Figures {
     pub sent: Counters,
     pub taken: Counters,
     pub heard: Heard,
+    pub beside: Beside,
     /// How many frames were lost before a link took them, for want of memory and by the limit of a frame.
     pub unsent_memory: u64,
     pub unsent_limit: u64,
@@ -49,6 +51,7 @@ impl Drop for Figures {
             sent: _,
             taken: _,
             heard: _,
+            beside: _,
             unsent_memory: _,
             unsent_limit: _,
             begun: _,
@@ -77,6 +80,7 @@ impl Figures {
             sent: Counters::new(alloc, KINDS.len())?,
             taken: Counters::new(alloc, KINDS.len())?,
             heard: Heard::new(alloc, members)?,
+            beside: Beside::new(alloc, members)?,
             unsent_memory: 0,
             unsent_limit: 0,
             begun: 0,

@@ -1,6 +1,7 @@
 //! What a member counts while it runs, and how that is told.
 #![tactic(auto)]
 
+mod beside;
 mod counters;
 mod figures;
 mod peers;
@@ -10,10 +11,11 @@ mod telling;
 mod times;
 mod words;
 
+pub use beside::Beside;
 pub use counters::Counters;
 pub use figures::Figures;
 pub use peers::{Heard, PeerName};
 pub use saves::Save;
 pub use sheet::Shown;
 pub use telling::families;
-pub use words::{Cause, Failing, Kind, MUTED, Request, Step, decision_word};
+pub use words::{Cause, Failing, Kind, MUTED, Request, SKIPPED, Step, WithheldBy, decision_word};

@@ -25,7 +25,7 @@ pub struct Heard {
     lost: Counters,
     /// How many frames came.
     pub taken: Counters,
-    /// When something came last, in nanoseconds since 1970; 0 where nothing did.
+    /// When something was taken last, in nanoseconds since 1970; 0 where nothing was.
     last: Counters,
 }
 
@@ -81,15 +81,19 @@ impl Heard {
         self.lost.get(first.saturating_add(cause))
     }
 
-    /// So many frames of a member came, or its greeting.
-    pub fn take(&mut self, place: usize, count: u64, since_1970: Duration) {
+    /// So many frames of a member came.
+    pub fn take(&mut self, place: usize, count: u64) {
         self.taken.add(place, count);
+    }
+
+    /// Something of a member was taken now: a frame, or all that it answered.
+    pub fn hear(&mut self, place: usize, since_1970: Duration) {
         let nanos = u64::try_from(since_1970.as_nanos()).unwrap_or(u64::MAX);
         let _ = self.last.clear(place);
         self.last.add(place, nanos);
     }
 
-    /// When something of a member came last, in nanoseconds since 1970; 0 where nothing did.
+    /// When something of a member was taken last, in nanoseconds since 1970; 0 where nothing was.
     pub fn last(&self, place: usize) -> u64 {
         self.last.get(place)
     }

@@ -16,6 +16,8 @@ pub struct Shown<'a> {
     pub members: u64,
     /// The other ones.
     pub peers: Vec<PeerName<'a>>,
+    /// The Alertmanagers beside it.
+    pub beside: Vec<PeerName<'a>>,
     /// How many silences are pending, active and expired.
     pub silences: [u64; 3],
     /// How many entries the log holds.
@@ -146,16 +148,17 @@ pub fn of_words(
     Ok(samples)
 }
 
-/// The counters of peers.
+/// The counters of those who stand under a label.
 pub fn by_peer(
     alloc: Global,
+    label: &'static str,
     peers: &[PeerName<'_>],
     counters: &Counters,
 ) -> Result<Vec<Sample>, AllocError> {
     let mut samples = Vec::with_capacity(alloc, peers.len())?;
     for peer in peers {
         let number = Number::Whole(counters.get(peer.place));
-        add_sample(alloc, &mut samples, "", &[("peer", peer.name)], number)?;
+        add_sample(alloc, &mut samples, "", &[(label, peer.name)], number)?;
     }
     Ok(samples)
 }

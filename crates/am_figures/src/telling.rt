@@ -1,5 +1,6 @@
 //! All that is told of a member in figures.
 
+use crate::beside::Beside;
 use crate::counters::Counters;
 use crate::figures::Figures;
 use crate::peers::{Heard, PeerName};
@@ -9,7 +10,9 @@ use crate::sheet::{
     seconds_of,
 };
 use crate::times::{BOUND_WORDS, Times};
-use crate::words::{CAUSES, DECISIONS, FAILINGS, KINDS, REQUESTS, STATES, STATUSES, STEPS};
+use crate::words::{
+    CAUSES, DECISIONS, FAILINGS, KINDS, REQUESTS, STATES, STATUSES, STEPS, WITHHELD,
+};
 use am_metrics::{Family, Kind, Number, Sample};
 use std::alloc::{AllocError, Global};
 
@@ -262,16 +265,45 @@ fn lost(alloc: Global, peers: &[PeerName<'_>], heard: &Heard) -> Result<Vec<Samp
     Ok(samples)
 }
 
-/// When something of each peer came last.
+/// When something of each of those was taken last who stand under a label.
 fn last_heard(
     alloc: Global,
+    label: &'static str,
     peers: &[PeerName<'_>],
     heard: &Heard,
 ) -> Result<Vec<Sample>, AllocError> {
     let mut samples = Vec::with_capacity(alloc, peers.len())?;
     for peer in peers {
         let number = seconds_of(heard.last(peer.place));
-        add_sample(alloc, &mut samples, "", &[("peer", peer.name)], number)?;
+        add_sample(alloc, &mut samples, "", &[(label, peer.name)], number)?;
+    }
+    Ok(samples)
+}
+
+/// Adds how often silences were withheld from an Alertmanager, by cause.
+fn add_withheld(
+    alloc: Global,
+    out: &mut Vec<Sample>,
+    one: PeerName<'_>,
+    beside: &Beside,
+) -> Result<(), AllocError> {
+    for (place, cause) in WITHHELD.iter().enumerate() {
+        let words = [("alertmanager", one.name), ("cause", *cause)];
+        let number = Number::Whole(beside.withheld(one.place, place));
+        add_sample(alloc, out, "", &words, number)?;
+    }
+    Ok(())
+}
+
+/// How often silences were withheld, by Alertmanager and cause.
+fn withheld(
+    alloc: Global,
+    all: &[PeerName<'_>],
+    beside: &Beside,
+) -> Result<Vec<Sample>, AllocError> {
+    let mut samples = Vec::new(alloc);
+    for one in all {
+        add_withheld(alloc, &mut samples, *one, beside)?;
     }
     Ok(samples)
 }
@@ -328,7 +360,7 @@ fn add_peers(
         out,
         "maityrunga_frames_sent_total",
         "Frames handed to the links to a peer.",
-        by_peer(alloc, peers, &heard.sent)?,
+        by_peer(alloc, "peer", peers, &heard.sent)?,
     )?;
     add_counter(
         out,
@@ -340,14 +372,43 @@ fn add_peers(
         out,
         "maityrunga_frames_taken_total",
         "Frames of a peer taken.",
-        by_peer(alloc, peers, &heard.taken)?,
+        by_peer(alloc, "peer", peers, &heard.taken)?,
     )?;
     add_family(
         out,
         "maityrunga_peer_last_heard_timestamp_seconds",
-        "When something of a peer came last, since 1970; 0 before that.",
+        "When a frame of a peer was taken last, since 1970; 0 before that.",
         Kind::Gauge,
-        last_heard(alloc, peers, heard)?,
+        last_heard(alloc, "peer", peers, heard)?,
+    )
+}
+
+/// What goes to each Alertmanager beside it, and comes of it.
+fn add_beside(
+    alloc: Global,
+    out: &mut Vec<Family>,
+    figures: &Figures,
+    all: &[PeerName<'_>],
+) -> Result<(), AllocError> {
+    add_family(
+        out,
+        "maityrunga_alertmanager_last_heard_timestamp_seconds",
+        "When all that an Alertmanager beside it holds was taken last, since 1970; 0 before that.",
+        Kind::Gauge,
+        last_heard(alloc, "alertmanager", all, &figures.heard)?,
+    )?;
+    add_family(
+        out,
+        "maityrunga_alertmanager_lacked",
+        "Versions that an Alertmanager lacked at the last exchange, and was given.",
+        Kind::Gauge,
+        by_peer(alloc, "alertmanager", all, &figures.beside.lacked)?,
+    )?;
+    add_counter(
+        out,
+        "maityrunga_silences_withheld_total",
+        "How often a silence wasn't sent to an Alertmanager that it would hurt, by cause.",
+        withheld(alloc, all, &figures.beside)?,
     )
 }
 
@@ -460,6 +521,7 @@ fn add_all(
     add_connections(alloc, out, figures)?;
     add_cluster(alloc, out, figures, shown.members)?;
     add_peers(alloc, out, &figures.heard, shown.peers.as_slice())?;
+    add_beside(alloc, out, figures, shown.beside.as_slice())?;
     add_saves(alloc, out, &figures.silences, &figures.log)?;
     add_process(alloc, out, figures, shown)
 }
@@ -474,7 +536,7 @@ pub fn families(
     figures: &Figures,
     shown: &Shown<'_>,
 ) -> Result<Vec<Family>, AllocError> {
-    let mut out = Vec::with_capacity(alloc, 32)?;
+    let mut out = Vec::with_capacity(alloc, 40)?;
     add_all(alloc, &mut out, figures, shown)?;
     Ok(out)
 }

@@ -97,6 +97,16 @@ pub enum Cause {
 /// Their words, in that order.
 pub const CAUSES: [&str; 5] = ["connect", "write", "time", "full", "memory"];
 
+/// Why a silence is withheld from an Alertmanager: it would refuse a pattern, or wouldn't take the matchers.
+#[derive(Clone, Copy)]
+pub enum WithheldBy {
+    Pattern,
+    Matcher,
+}
+
+/// Their words, in that order.
+pub const WITHHELD: [&str; 2] = ["pattern", "matcher"];
+
 /// Why a connection is closed before its end.
 #[derive(Clone, Copy)]
 pub enum Failing {
@@ -123,6 +133,9 @@ pub const DECISIONS: [&str; 7] = [
     "Skip",
     "Muted",
 ];
+
+/// The place of the first one by which a group isn't notified.
+pub const SKIPPED: usize = 5;
 
 /// The place of the one that is no step's, since no alert is left.
 pub const MUTED: usize = 6;

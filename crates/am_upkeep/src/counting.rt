@@ -42,10 +42,9 @@ pub fn since_1970<C: Clock>(clock: &C) -> Duration {
     clock.since_1970().unwrap_or(Duration::ZERO)
 }
 
-/// Counts the frames of a peer, as the time since 1970 is this.
-pub fn count_frames(figures: &mut Figures, place: Place, frames: &[Frame], since_1970: Duration) {
-    let count = frames.len() as u64;
-    figures.heard.take(place as usize, count, since_1970);
+/// Counts the frames of a peer.
+pub fn count_frames(figures: &mut Figures, place: Place, frames: &[Frame]) {
+    figures.heard.take(place as usize, frames.len() as u64);
     for frame in frames {
         figures.take(kind_of_frame(frame));
         if let Some(step) = step_of_frame(frame) {

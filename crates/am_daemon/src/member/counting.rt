@@ -4,7 +4,7 @@ ghost use Rattle.std.specs.Prelude.{◌≡◌};
 ghost use Rattle.am_dialogue.specs.Talks.{talk_of};
 
 use am_dialogue::{Account, Conversation, request_of};
-use am_figures::{Failing, Figures, MUTED, Request, Step, decision_word};
+use am_figures::{Failing, Figures, MUTED, Request, SKIPPED, Step, decision_word};
 use am_http::session::SessionOutput;
 use am_instance::Config;
 use am_reactor::Failure;
@@ -54,8 +54,7 @@ pub fn count_said<U: Keeper>(
         account.ask(request, upkeep.now());
     }
     if let Some(place) = place_of(config, name) {
-        let now = upkeep.since_1970();
-        count_frames(upkeep.figures(), place, &said.frames, now);
+        count_frames(upkeep.figures(), place, &said.frames);
     }
 }
 
@@ -91,10 +90,24 @@ fn count_end(figures: &mut Figures, account: &Account, status: &[u8], now: Optio
     }
 }
 
-/// Counts what a reply decides, and the step that decided it.
+/// Whether a reply tells that a group is to be notified.
+pub fn is_to_notify(reply: &[u8]) -> bool {
+    match decision_in(reply) {
+        Some(place) => place < SKIPPED,
+        None => false,
+    }
+}
+
+/// Counts the step that decided what a reply tells.
+pub fn count_decided(figures: &mut Figures, reply: &[u8]) {
+    if let Some(place) = decision_in(reply) {
+        figures.step(Step::Decide, u64::from(place != MUTED));
+    }
+}
+
+/// Counts the decision that a reply tells.
 pub fn count_decision(figures: &mut Figures, reply: &[u8]) {
     if let Some(place) = decision_in(reply) {
         figures.decisions.add(place, 1);
-        figures.step(Step::Decide, u64::from(place != MUTED));
     }
 }

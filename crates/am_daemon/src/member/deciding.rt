@@ -1,16 +1,17 @@
-//! Decisions for programs that send pages: what they ask is answered at once, or at this member's turn.
+//! Decisions for programs that send pages: what they ask is answered at once, or at this member's turn; that a group is to be
+//! notified only once the Alertmanagers beside the member were heard since, or their time is over.
 
 ghost use Rattle.am_dialogue.specs.Answered.{ByItself};
 ghost use Rattle.am_dialogue.specs.Talks.{Closes, KeepsGone, Rests, talk_of};
 
-use super::counting::count_decision;
+use super::counting::{count_decided, count_decision, is_to_notify};
 use super::desk::Desk;
 use super::telling::time_between;
 use am_api_decisions::{
     Asked, Deciding, Notice, Question, Timing, asked_of, begin_log, log_notice,
 };
-use am_api_silences::{PendingAnswer, PendingReply, Read, Refusal, Request};
-use am_dialogue::{CallProgress, Conversation, Turn, Turns, request_bytes};
+use am_api_silences::{PendingAnswer, PendingReply, Read, Refusal, ReplyBytes, Request};
+use am_dialogue::{CallProgress, Conversation, Deliberation, Turn, Turns, request_bytes};
 use am_figures::Step;
 use am_http::session::SessionOutput;
 use am_instance::{FrameSender, Instance};
@@ -104,7 +105,14 @@ fn turn_of<U: Keeper>(upkeep: &U, instance: &Instance, question: &Question) -> O
     upkeep.now()?.checked_add(wait)
 }
 
-/// Has a request wait for its turn, where another one may.
+/// Since when a request waits, and until when at the latest.
+#[derive(Clone, Copy)]
+struct Span {
+    since: Instant,
+    limit: Instant,
+}
+
+/// Has a request wait, where another one may.
 fn wait_for_turn(turns: &mut Turns, turn: Turn) -> Called {
     if turns.begin() {
         Called::Later(CallProgress::Turn(turn))
@@ -155,7 +163,10 @@ impl<U: Keeper> Desk<'_, U> {
         match asked_of(self.alloc, &request) {
             Ok(Asked::Decide(question)) => match turn_of(&self.upkeep, instance, &question) {
                 Some(due) => wait_for_turn(&mut self.turns, Turn::new(request, due)),
-                None => self.begin_deciding(instance, question),
+                None => {
+                    let unheard = self.unheard(Some(request));
+                    self.begin_deciding(instance, question, unheard)
+                }
             },
             Ok(Asked::Notified(notice)) => self.log_in_room(
                 instance,
@@ -167,8 +178,17 @@ impl<U: Keeper> Desk<'_, U> {
         }
     }
 
-    /// The turn of a request has come: it is answered, or waits for its place in the line. Where the member stops, it is turned
-    /// away.
+    /// The request, where there are Alertmanagers to be heard.
+    fn unheard(&self, request: Option<Request>) -> Option<Request> {
+        if self.asked.iter().any(|address| address.is_some()) {
+            request
+        } else {
+            None
+        }
+    }
+
+    /// The moment has come for which a request waited: it is answered, or waits for its place in the line. Where the member stops, it
+    /// is turned away.
     pub(super) fn take_turn(&mut self, instance: &mut Instance, turn: Turn) -> Called
         ensures { ByItself instance.old instance.new }
     {
@@ -178,56 +198,109 @@ impl<U: Keeper> Desk<'_, U> {
         } else if turn.is_dear() {
             Called::Later(CallProgress::Due(turn))
         } else {
-            self.answer_turn(instance, &turn)
+            self.answer_turn(instance, turn)
         }
     }
 
-    /// Begins to answer a request whose turn has come.
-    pub(super) fn answer_turn(&mut self, instance: &mut Instance, turn: &Turn) -> Called
+    /// Begins to answer a request that waits no more.
+    pub(super) fn answer_turn(&mut self, instance: &mut Instance, turn: Turn) -> Called
         ensures { ByItself instance.old instance.new }
     {
         match asked_of(self.alloc, turn.request()) {
-            Ok(Asked::Decide(question)) => self.begin_deciding(instance, question),
+            Ok(Asked::Decide(question)) => {
+                let unheard = self.unheard(turn.into_unheard());
+                self.begin_deciding(instance, question, unheard)
+            }
             Ok(_) => Called::Nothing,
             Err(refusal) => Called::Refused(refusal),
         }
     }
 
-    /// Begins to answer a question.
-    fn begin_deciding(&mut self, instance: &mut Instance, question: Question) -> Called
+    /// Begins to answer a question, of which the request is given where Alertmanagers are still to be heard.
+    fn begin_deciding(
+        &mut self,
+        instance: &mut Instance,
+        question: Question,
+        unheard: Option<Request>,
+    ) -> Called
         ensures { ByItself instance.old instance.new }
     {
         let alerts = question.message.alerts.len() as u64;
         self.upkeep.figures().step(Step::Mutes, alerts);
         let deciding = Deciding::new(self.alloc, question);
-        self.go_on_deciding(instance, deciding)
+        self.go_on_deciding(instance, Deliberation { deciding, unheard })
     }
 
     /// Holds more of the alerts against the silences, for as long as a turn of the loop may take. Where none is left, it is
     /// decided.
-    pub(super) fn go_on_deciding(&mut self, instance: &mut Instance, deciding: Deciding) -> Called
+    pub(super) fn go_on_deciding(
+        &mut self,
+        instance: &mut Instance,
+        deliberation: Deliberation,
+    ) -> Called
         ensures { ByItself instance.old instance.new }
     {
+        let Deliberation { deciding, unheard } = deliberation;
         let Reached { deciding, now } = match ask_on(&self.upkeep, self.alloc, instance, deciding) {
             Ok(reached) => reached,
             Err(refusal) => return Called::Refused(refusal),
         };
         if deciding.is_asked() {
-            self.decide(instance, deciding, now)
+            self.decide(instance, deciding, unheard, now)
         } else {
-            Called::Later(CallProgress::Deciding(deciding))
+            Called::Later(CallProgress::Deciding(Deliberation { deciding, unheard }))
         }
     }
 
-    /// Decides, now that all alerts were held against the silences.
-    fn decide(&mut self, instance: &mut Instance, deciding: Deciding, now: Moment) -> Called
+    /// Decides, now that all alerts were held against the silences. That the group is to be notified isn't answered while Alertmanagers
+    /// are still to be heard.
+    fn decide(
+        &mut self,
+        instance: &mut Instance,
+        deciding: Deciding,
+        unheard: Option<Request>,
+        now: Moment,
+    ) -> Called
         ensures { ByItself instance.old instance.new }
     {
         let turn_seconds = seconds_in(self.upkeep.options().peer_timeout);
         let reply = deciding.decide(self.alloc, instance, Timing { now, turn_seconds });
-        count_decision(self.upkeep.figures(), reply.as_slice());
-        let outbox = FrameSender::new(self.alloc);
-        self.made(instance, PendingReply::Whole(reply), outbox)
+        count_decided(self.upkeep.figures(), reply.as_slice());
+        self.answer_or_hear(instance, reply, unheard)
+    }
+
+    /// Answers by a decision, or has its request wait for exchanges with the Alertmanagers, which begin now.
+    fn answer_or_hear(
+        &mut self,
+        instance: &Instance,
+        reply: ReplyBytes,
+        unheard: Option<Request>,
+    ) -> Called {
+        match (unheard, self.span()) {
+            (Some(request), Some(span)) if is_to_notify(reply.as_slice()) => {
+                self.wait_for_exchanges(request, span)
+            }
+            _ => {
+                count_decision(self.upkeep.figures(), reply.as_slice());
+                let outbox = FrameSender::new(self.alloc);
+                self.made(instance, PendingReply::Whole(reply), outbox)
+            }
+        }
+    }
+
+    /// Since when a request waits for exchanges that waits from now on, and until when at the latest.
+    fn span(&self) -> Option<Span> {
+        let since = self.upkeep.now()?;
+        let limit = since.checked_add(self.upkeep.options().time_limit)?;
+        Some(Span { since, limit })
+    }
+
+    /// Has a request wait for exchanges with the Alertmanagers that begin in a new round.
+    fn wait_for_exchanges(&mut self, request: Request, span: Span) -> Called {
+        let Span { since, limit } = span;
+        self.round = self.round.saturating_add(1);
+        let turn = Turn::for_exchanges(request, self.round, since, limit);
+        wait_for_turn(&mut self.turns, turn)
     }
 
     /// Logs what was notified, where the log has room for so many bytes.

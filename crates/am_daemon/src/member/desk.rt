@@ -30,8 +30,10 @@ pub struct Desk<'a, U> {
     pub shares: Vec<Share>,
     /// The peers that have not pushed all they have since the start.
     pub awaited: Vec<Place>,
-    /// The requests that wait for this member's turn.
+    /// How many requests for decisions wait.
     pub turns: Turns,
+    /// How often one has begun to wait for the Alertmanagers beside the member: the round in which they are asked from now on.
+    pub round: u64,
     /// The member is to stop.
     pub stops: bool,
     /// Its stop has ended the first pull, so that what waits for that is turned away.

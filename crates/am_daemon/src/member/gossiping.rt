@@ -10,11 +10,13 @@ ghost use Rattle.am_refusals.specs.declared.error.StepError.{StepError};
 
 use super::clerk::Clerk;
 use super::desk::Desk;
-use am_beside::Came;
-use am_dialogue::frame_bytes;
-use am_faults::Fault;
+use am_beside::{Came, Report};
+use am_dialogue::{Conversation, Turn, frame_bytes};
+use am_faults::{Fault, ShortId};
+use am_figures::WithheldBy;
 use am_gossip::{Frame, StateKey};
 use am_instance::{Config, Event, Instance, Place};
+use am_matcher::Hazard;
 use am_peers::Fault as ConnectionFault;
 use am_reactor::PeerBytes;
 use am_upkeep::Keeper;
@@ -51,12 +53,37 @@ impl<U: Keeper> Desk<'_, U> {
         match came {
             Came::Nothing | Came::Stretch => {}
             Came::Frame(place, frame) => take_from(&mut self.upkeep, instance, place, frame),
-            Came::Whole(place, frame) => self.take_last(instance, place, frame),
+            Came::Whole(place, frame, lacked) => {
+                self.note_exchange(place, lacked);
+                self.take_last(instance, place, frame);
+            }
             Came::Fault(place, error) => {
                 let fault = Fault::Gossip(error);
                 self.upkeep
                     .tell_of(instance.config(), Some(place as Place), fault);
             }
+        }
+    }
+
+    /// Counts an exchange with the replica at a place, which told all, and lacked so many versions.
+    fn note_exchange(&mut self, place: usize, lacked: u64) {
+        let since_1970 = self.upkeep.since_1970();
+        let figures = self.upkeep.figures();
+        figures.heard.hear(place, since_1970);
+        figures.beside.lack(place, lacked);
+    }
+
+    /// Counts a silence that isn't sent to a replica, and tells of it where it wasn't told before.
+    fn report(&mut self, config: &Config, report: &Report) {
+        let id = ShortId::of(report.id.as_str().as_bytes());
+        let (cause, fault) = match report.hazard {
+            Hazard::Pattern => (WithheldBy::Pattern, Fault::WithheldPattern(id)),
+            Hazard::Matcher => (WithheldBy::Matcher, Fault::WithheldMatcher(id)),
+        };
+        self.upkeep.figures().beside.withhold(report.place, cause);
+        if report.is_first {
+            self.upkeep
+                .tell_of(config, Some(report.place as Place), fault);
         }
     }
 
@@ -83,7 +110,46 @@ impl<U: Keeper> Clerk<'_, U> {
             .replicas
             .go_on(instance.silences(), instance.log(), moment);
         self.desk.take_came(instance, came);
+        self.report_withheld(instance.config());
         self.replicas.left(now)
+    }
+
+    /// Counts the silences that aren't sent to replicas, and tells of those that weren't told before.
+    fn report_withheld(&mut self, config: &Config) {
+        for _ in 0..u64::MAX {
+            match self.replicas.next_report() {
+                Some(report) => self.desk.report(config, &report),
+                None => return,
+            }
+        }
+    }
+
+    /// Whether the exchanges are over for which a request waits.
+    pub(super) fn are_heard(&self, turn: &Turn) -> bool {
+        match turn.round() {
+            Some(round) => self.replicas.are_over(round),
+            None => false,
+        }
+    }
+
+    /// Tells which replicas weren't heard since a request began to wait for them that waits no more, each once a minute.
+    pub(super) fn tell_missed(&mut self, config: &Config, dialogue: &Conversation) {
+        let Some(turn) = dialogue.turn() else {
+            return;
+        };
+        let (Some(round), Some(now)) = (turn.round(), self.desk.upkeep.now()) else {
+            return;
+        };
+        if self.desk.stops {
+            return;
+        }
+        for place in 0..self.desk.asked.len() {
+            if self.replicas.is_missed(place, round, now) {
+                self.desk
+                    .upkeep
+                    .tell_of(config, Some(place as Place), Fault::Unheard);
+            }
+        }
     }
 
     /// What goes to a peer next, of the frames that wait. Those for replicas wait on, until they are told.
@@ -106,7 +172,7 @@ impl<U: Keeper> Clerk<'_, U> {
             return None;
         }
         let moment = self.desk.upkeep.next_moment(instance.last());
-        match self.replicas.question(moment) {
+        match self.replicas.question(moment, self.desk.round) {
             Ok(Some((peer, bytes))) => Some(PeerBytes { peer, bytes }),
             Ok(None) => None,
             Err(_) => {

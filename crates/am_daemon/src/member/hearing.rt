@@ -31,6 +31,8 @@ struct Asked {
     asks: bool,
     /// A Tick.
     ticks: bool,
+    /// There was a frame.
+    has_frames: bool,
 }
 
 impl<U: Keeper> Desk<'_, U> {
@@ -105,12 +107,14 @@ impl<U: Keeper> Desk<'_, U> {
         self.upkeep
             .take(silences_said(&said), log_said(&said), may_change(&said));
         let pulled = ends_pull(&said);
+        let has_frames = !said.frames.is_empty();
         let Spared { said, asks, ticks } = spare(said);
         let exchanged = self.make_steps(instance, &mut dialogue.session, said);
         let asked = Asked {
             pulled,
             asks,
             ticks,
+            has_frames,
         };
         let config = instance.config();
         self.heed(config, dialogue.session.name(), asked, exchanged.fault);
@@ -175,12 +179,25 @@ impl<U: Keeper> Desk<'_, U> {
             pulled,
             asks,
             ticks,
+            has_frames,
         } = asked;
         if fault.is_none() {
             self.end_first_pull_after(config, name, pulled, asks);
+            self.note_frames(config, name, has_frames);
         }
         if fault != Some(ConnectionFault::UnknownName) {
             self.owe(config, name, asks, ticks);
+        }
+    }
+
+    /// Keeps in mind that frames of a peer were taken now, where there were some.
+    fn note_frames(&mut self, config: &Config, name: Option<&str>, has_frames: bool) {
+        if !has_frames {
+            return;
+        }
+        if let Some(place) = place_of(config, name) {
+            let since_1970 = self.upkeep.since_1970();
+            self.upkeep.figures().heard.hear(place as usize, since_1970);
         }
     }
 

@@ -41,7 +41,7 @@ impl<U: Keeper> Desk<'_, U> {
         match call {
             CallProgress::Turn(turn) => dialogue.put_off(CallProgress::Turn(turn)),
             CallProgress::Due(turn) => {
-                let called = self.answer_turn(instance, &turn);
+                let called = self.answer_turn(instance, turn);
                 self.follow_call(dialogue, called);
             }
             CallProgress::Deciding(deciding) => {

@@ -63,7 +63,7 @@ impl<U: Keeper> Attendant for Clerk<'_, U> {
     }
 
     fn broken(&mut self, config: &Config, dialogue: &mut Conversation, broken: Broken) {
-        if dialogue.due().is_some() {
+        if dialogue.turn().is_some() {
             self.desk.turns.end();
         }
         count_broken(
@@ -97,7 +97,13 @@ impl<U: Keeper> Attendant for Clerk<'_, U> {
         dialogue.release(self.desk.alloc, is_kept);
     }
 
+    fn due(&self, dialogue: &Conversation) -> Option<Instant> {
+        let turn = dialogue.turn()?;
+        Some(turn.due(self.are_heard(turn)))
+    }
+
     fn come_due(&mut self, instance: &mut Instance, dialogue: &mut Conversation) {
+        self.tell_missed(instance.config(), dialogue);
         self.desk.go_on_in_turn(instance, dialogue);
     }
 

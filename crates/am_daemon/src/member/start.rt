@@ -269,6 +269,7 @@ fn clerk_of<'a, U>(
         shares,
         awaited,
         turns: Turns::new(waiting),
+        round: 0,
         stops: false,
         turns_away: false,
     };

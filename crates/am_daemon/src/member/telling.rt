@@ -6,7 +6,7 @@ use super::desk::Desk;
 use super::links::address_of;
 use am_api_silences::Read;
 use am_api_status::{
-    Call, MemberStatus, Peer, Resource, call_of, metrics_reply, not_ready, page_reply,
+    Call, MemberStatus, Neighbor, Peer, Resource, call_of, metrics_reply, not_ready, page_reply,
     receivers_reply, status_reply, well_reply,
 };
 use am_dialogue::{CallProgress, Census, Conversation};
@@ -15,8 +15,9 @@ use am_http::session::SessionOutput;
 use am_http::{Cause, Refusal};
 use am_instance::{Config, Instance};
 use am_jobs::VERSION;
-use am_peers::later_moment;
+use am_peers::{later_moment, shown_name};
 use am_self::options_text;
+use am_silence_json::moments::write_moment;
 use am_upkeep::Keeper;
 use am_version_order::Moment;
 use am_wire::Text;
@@ -90,7 +91,16 @@ fn clock_behind<U: Keeper>(upkeep: &U, last: Moment) -> Duration {
     time_between(now, last)
 }
 
-/// The peers, by place.
+/// A moment of so many nanoseconds since 1970, as a text; an empty one where it is 0.
+fn heard_text(alloc: Global, nanos: u64) -> Result<Text, AllocError> {
+    if nanos == 0 {
+        return Text::copied(alloc, "");
+    }
+    let moment = later_moment(Duration::from_nanos(nanos), Moment::LEAST);
+    Text::copied(alloc, write_moment(moment).as_str())
+}
+
+/// Those of whom an address is known, by place.
 fn peers_counted<'b>(
     alloc: Global,
     config: &'b Config,
@@ -101,7 +111,7 @@ fn peers_counted<'b>(
         if address_of(addresses, place).is_some() {
             peers.push(PeerName {
                 place,
-                name: name.as_str(),
+                name: shown_name(name.as_str()),
             })?;
         }
     }
@@ -160,6 +170,7 @@ impl<U: Keeper> Desk<'_, U> {
             name: Text::copied(alloc, options.name)?,
             is_ready: self.is_ready(),
             peers: self.members_shown(config)?,
+            alertmanagers: self.neighbors_shown(config)?,
             options: Text::new(options_text(alloc, options)?),
             start: later_moment(self.upkeep.counted().start, Moment::LEAST),
             version: VERSION,
@@ -184,6 +195,37 @@ impl<U: Keeper> Desk<'_, U> {
             })?;
         }
         Ok(peers)
+    }
+
+    /// The Alertmanagers beside it, with where they are asked and what came of that.
+    fn neighbors_shown(&self, config: &Config) -> Result<Vec<Neighbor>, AllocError> {
+        let alloc = self.alloc;
+        let mut neighbors = Vec::new(alloc);
+        for (place, name) in config.members().iter().enumerate() {
+            if let Some(address) = address_of(&self.asked, place) {
+                let name = Text::copied(alloc, shown_name(name.as_str()))?;
+                neighbors.push(self.neighbor(place, name, address)?)?;
+            }
+        }
+        Ok(neighbors)
+    }
+
+    /// The Alertmanager at a place, which has this name and is asked there.
+    fn neighbor(
+        &self,
+        place: usize,
+        name: Text,
+        address: SocketAddr,
+    ) -> Result<Neighbor, AllocError> {
+        let figures = self.upkeep.counted();
+        let address = Text::new(format!(in self.alloc; "{address}")?);
+        Ok(Neighbor {
+            name,
+            address,
+            last_heard: heard_text(self.alloc, figures.heard.last(place))?,
+            lacked: figures.beside.lacked.get(place),
+            withheld: figures.beside.all_withheld(place),
+        })
     }
 
     /// Begins to count the silences. While a first pull is waited for nothing that waits is done, so they are counted at once.
@@ -231,10 +273,12 @@ impl<U: Keeper> Desk<'_, U> {
     ) -> Result<Shown<'b>, AllocError> {
         let process = self.upkeep.process();
         let peers = peers_counted(self.alloc, instance.config(), &self.addresses)?;
+        let beside = peers_counted(self.alloc, instance.config(), &self.asked)?;
         Ok(Shown {
             version: VERSION,
             members: (peers.len() as u64).saturating_add(1),
             peers,
+            beside,
             silences,
             entries: instance.log().len() as u64,
             waiting: self.turns.count(),

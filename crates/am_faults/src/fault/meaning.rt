@@ -52,6 +52,15 @@ const UNSENT_MEMORY: &str =
 const UNSENT_LIMIT: &str =
     "so many frames to peers were over their limit; a pull brings what they had";
 
+const UNHEARD: &str =
+    "a decision to notify was said before this Alertmanager was heard, as its time was over or the exchange failed";
+
+const WITHHELD_PATTERN: &str =
+    "this silence isn't sent there, since RE2 may not read a pattern of it, and the Alertmanager would page for everything";
+
+const WITHHELD_MATCHER: &str =
+    "this silence isn't sent there, since no Alertmanager can make one with these matchers, or it would mute too much";
+
 /// What a fault means.
 pub fn meaning_of(fault: &Fault) -> &'static str {
     match *fault {
@@ -79,6 +88,9 @@ pub fn meaning_of(fault: &Fault) -> &'static str {
         Fault::ClockBehind(_) => CLOCK_BEHIND,
         Fault::ClockCaughtUp => "the clock is behind the last event no more",
         Fault::NoPull => NO_PULL,
+        Fault::Unheard => UNHEARD,
+        Fault::WithheldPattern(_) => WITHHELD_PATTERN,
+        Fault::WithheldMatcher(_) => WITHHELD_MATCHER,
         Fault::LinesLost(_) => LINES_LOST,
         Fault::UnsentMemory(_) => UNSENT_MEMORY,
         Fault::UnsentLimit(_) => UNSENT_LIMIT,
