@@ -56,7 +56,9 @@ impl Cluster {
         match self.asked(place, event)? {
             Asked::Event { event, source } => self.apply_event(place, event, source, now, line),
             Asked::Start => self.start_at(place, now, line),
-            Asked::NoMember => unreachable!(),
+            Asked::NoMember => {
+                Err(self.refuse(ClusterError::UnknownPeer, Mark::Refused { now }, line))
+            }
         }
     }
 

@@ -6,7 +6,6 @@ use Rattle.am_cluster.specs.Refusals.{refused_anyway}
 use Rattle.am_cluster.specs.Steps.{Fits}
 use Rattle.am_cluster.proofs.Refusing.{can_begin, can_have, late_cause, stranger_refused}
 use Rattle.am_cluster.proofs.Stepping.{done_as, done_by}
-use Rattle.am_cluster.proofs.Turned.{got}
 use Rattle.am_cluster.proofs.cluster.Cluster.do_at.Goals as goal
 
 pub refuse_at-requires-clause-late : goal.refuse_at-requires-clause-late
@@ -28,12 +27,6 @@ pub start_at-requires-clause-ready : goal.start_at-requires-clause-ready
 start_at-requires-clause-ready c = λ replica found.
     can_begin c.args.now replica (subst (λ what. refused_anyway replica what c.args.now ≡ None) (sym (c.in_ok-event.ensures.asked replica found) ∙ c.in-Start.is) (sym (c.line_refusal.ensures replica found) ∙ c.in_default.is))
 
-pub unreachable-requires : goal.unreachable-requires
-unreachable-requires c =
-    let here = got c.args.self.now.replicas c.args.place c.requires in
-    stranger_refused c.args.now here.0
-    (subst (λ what. refused_anyway here.0 what c.args.now ≡ None) (sym (c.in_ok-event.ensures.asked here.0 here.1) ∙ c.in-NoMember.is) (sym (c.line_refusal.ensures here.0 here.1) ∙ c.in_default.is))
-
 pub returns-in-Some : goal.returns-in-Some
 returns-in-Some c = λ replica found.
     done_by c.args.self.now _ c.args.place replica _ c.args.now c.args.line _ (Some c.in-Some.cause) (sym c.in-Some.is ∙ c.line_refusal.ensures replica found) c.refuse_at.ensures
@@ -52,3 +45,8 @@ pub returns-in-Start : goal.returns-in-Start
 returns-in-Start c = λ replica found.
     done_as c.args.self.now _ c.args.place replica _ _ c.args.now c.args.line _ (sym c.in_default.is ∙ c.line_refusal.ensures replica found)
     (sym c.in-Start.is ∙ c.in_ok-event.ensures.asked replica found) (inr (c.start_at.ensures replica found))
+
+pub returns-in-NoMember : goal.returns-in-NoMember
+returns-in-NoMember c = λ replica found.
+    absurd (stranger_refused c.args.now replica
+    (subst (λ what. refused_anyway replica what c.args.now ≡ None) (sym (c.in_ok-event.ensures.asked replica found) ∙ c.in-NoMember.is) (sym (c.line_refusal.ensures replica found) ∙ c.in_default.is)))
