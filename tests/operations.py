@@ -6,8 +6,8 @@
 PROGRAM is crates/am_tool/out/am_tool if it isn't given. Health, readiness, status, receivers, the page and the figures: bytes,
 heads, HEAD, other methods, foreign hosts; readiness while a first pull is waited for; figures that have to move. The text of
 the figures is read by a reader that was written from the format's rules, and by promtool where that is there. Alerting rules,
-the units, the completions and `am_tool install` are tried too. What is wanted is written by hand, from docs/FORMATS.md and
-docs/MEMBERS.md. What can't be tried here for want of a tool is told in a line.
+the units, the completions, `am_tool install` and `am_tool package` are tried too. What is wanted is written by hand, from
+docs/FORMATS.md and docs/MEMBERS.md. What can't be tried here for want of a tool is told in a line.
 """
 
 import datetime
@@ -503,10 +503,14 @@ def test_install(folder):
         compare("systemd-analyze verify", (status, [it for it in error.splitlines() if "am-member" in it or "am-pager" in it]), (0, []))
     check("am_pager runs", b"--member" in outcome([f"{folder}/bin/am_pager", "--help"])[1])
     compare("the program runs", outcome([f"{folder}/bin/am_tool", "--version"])[:2], run(["--version"])[:2])
+    for it in "ab":
+        members.write(f"{folder}/{it}", b"")
+    figures_of_two = [f"{folder}/bin/am_diff_figures", folder, f"{folder}/a", f"{folder}/b"]
+    compare("am_diff_figures finds the program beside it", outcome(figures_of_two)[::2], (0, ""))
 
 
-def test_lacking_file(folder):
-    """An installation that lacks a file fails, whichever it is."""
+def built_top(folder):
+    """The wrapper in a copy of what it installs, where the program is built."""
     shutil.copytree(f"{TOP}/install", f"{folder}/top/install")
     os.makedirs(f"{folder}/top/docs")
     shutil.copy(f"{TOP}/docs/am_tool.1", f"{folder}/top/docs")
@@ -514,13 +518,168 @@ def test_lacking_file(folder):
     os.makedirs(f"{folder}/top/crates/am_tool/out")
     open(f"{folder}/top/crates.txt", "w").close()
     shutil.copy(members.program, f"{folder}/top/crates/am_tool/out/am_tool")
-    install = [f"{folder}/top/am_tool", "install", "--prefix", f"{folder}/to"]
-    compare("all files", outcome(install)[0], 0)
-    files = [*(f"install/{it}" for it in os.listdir(f"{folder}/top/install") if it not in ("alerts_test.yml", "test_tools")), "docs/am_tool.1"]
+    return f"{folder}/top/am_tool"
+
+
+def below(folder):
+    """The files below a folder, each by its path there."""
+    return sorted(os.path.relpath(f"{at}/{it}", folder) for at, _, found in os.walk(folder) for it in found)
+
+
+def try_without(top, files, command):
+    """A command fails without any of these files, and succeeds with all."""
+    compare("all files", outcome(command)[0], 0)
     for it in files:
-        os.rename(f"{folder}/top/{it}", f"{folder}/aside")
-        compare(f"without {it}", outcome(install)[0], 4)
-        os.rename(f"{folder}/aside", f"{folder}/top/{it}")
+        os.rename(f"{top}/{it}", f"{top}/aside")
+        compare(f"without {it}", outcome(command)[0], 4)
+        os.rename(f"{top}/aside", f"{top}/{it}")
+
+
+def installed():
+    """Each file that `install` and `package` copy, by its path in the repository."""
+    files = [it.name for it in os.scandir(f"{TOP}/install") if it.is_file() and it.name not in ("alerts_test.yml", "test_tools")]
+    return [*(f"install/{it}" for it in files), "docs/am_tool.1"]
+
+
+def test_lacking_file(folder):
+    """An installation that lacks a file fails, whichever it is."""
+    tool = built_top(folder)
+    try_without(f"{folder}/top", installed(), [tool, "install", "--prefix", f"{folder}/to"])
+
+
+# ---- the package
+
+
+# What a machine's dpkg knows of the packages that this one wants.
+WANTED = """Package: {name}
+Status: install ok installed
+Maintainer: nobody <root@localhost>
+Architecture: {architecture}
+Version: 99
+Description: stands for the true one
+
+"""
+
+
+def dpkg(root, *words):
+    """Has dpkg work on a system of its own. The package's scripts run outside of it, and hear of that by DPKG_ROOT."""
+    return outcome(["dpkg", f"--root={root}", "--force-script-chrootless", "--log=/dev/null", *words])
+
+
+def new_system(root, architecture):
+    """Makes a system below a folder with nothing but dpkg's own files, and some of a person who runs members. What is handed back has
+    dpkg know of the packages that this one wants."""
+    for it in ("var/lib/dpkg/info", "var/lib/dpkg/updates", "var/lib/dpkg/triggers", "etc/am-member", "var/lib/am-member/a"):
+        os.makedirs(f"{root}/{it}")
+    open(f"{root}/var/lib/dpkg/status", "w").close()
+    for it in ("etc/am-member/a.env", "var/lib/am-member/a/silences"):
+        members.write(f"{root}/{it}", b"mine")
+    wanted = ["libc6", "coreutils", "python3"]
+    for it in wanted:
+        open(f"{root}/var/lib/dpkg/info/{it}.list", "w").close()
+    return "".join(WANTED.format(name=it, architecture=architecture) for it in wanted)
+
+
+def apart_from_dpkg(root):
+    return [it for it in below(root) if not it.startswith("var/lib/dpkg/")]
+
+
+def made(tool, folder):
+    """The one package that is made in a folder, and nothing else is there then."""
+    os.makedirs(folder)
+    status, output, error = outcome([tool, "package", "--to", folder])
+    (name, *others) = [*os.listdir(folder), ""]
+    compare("package", (status, output.decode(), error, others), (0, f"am_tool: made {folder}/{name}\n", "", [""]))
+    return f"{folder}/{name}"
+
+
+def test_package(folder):
+    """The package has what `install` copies, and is installed, upgraded and purged with everything else as it was."""
+    tool = built_top(folder)
+    for words in (["x"], ["--to"], ["--to", ""], ["--to", folder, "x"], ["--help"]):
+        compare(f"package {words}", outcome([tool, "package", *words])[0], 2)
+    if not shutil.which("dpkg-deb"):
+        compare("package without dpkg-deb", outcome([tool, "package", "--to", folder])[0], 3)
+        skip("am_tool package: dpkg-deb is not there")
+        return
+    before = below(f"{folder}/top")
+    compare("package in no folder", outcome([tool, "package", "--to", f"{folder}/none"])[0], 4)
+    first = made(tool, f"{folder}/first")
+    version = run(["--version"])[1].decode().split()[-1]
+    field = lambda name: outcome(["dpkg-deb", "-f", first, name])[1].decode().strip()
+    architecture = field("Architecture")
+    compare("its name", os.path.basename(first), f"maityrunga_{version}_{architecture}.deb")
+    compare("its version", (field("Package"), field("Version")), ("maityrunga", version))
+    check("it wants Python", "python3" in field("Depends"), field("Depends"))
+    lines = outcome(["dpkg-deb", "-c", first])[1].decode().splitlines()
+    compare("what isn't root's, or others may write", [it for it in lines if not re.match(r"[d-]rw[x-]r-[x-]r-[x-] root/root ", it)], [])
+    outcome([tool, "install", "--prefix", f"{folder}/usr"])
+    outcome(["dpkg-deb", "-x", first, f"{folder}/whole"])
+    compare("its files are those of install", below(f"{folder}/whole"), [f"usr/{it}" for it in below(f"{folder}/usr")])
+    for it in below(f"{folder}/usr"):
+        wanted = members.bytes_of(f"{folder}/usr/{it}").replace(f"{folder}/usr/".encode(), b"/usr/")
+        compare(f"{it} is that of install, with the paths of /usr", members.bytes_of(f"{folder}/whole/usr/{it}"), wanted)
+    compare("the wrapper's folder stays as it was", below(f"{folder}/top"), before)
+    if os.geteuid() != 0:
+        skip("am_tool package: only root installs packages")
+        return
+    members.write(f"{folder}/top/crates/am_tool/out/am_tool", b"#!/bin/sh\necho am_tool 99.1\n")
+    try_system(f"{folder}/root", architecture, first, made(tool, f"{folder}/second"), version)
+
+
+def try_system(root, architecture, first, second, version):
+    """A system that gets a package, a later one, and then none."""
+    others = new_system(root, architecture)
+    mine = apart_from_dpkg(root)
+    status, _, error = dpkg(root, "-i", first)
+    check("it isn't installed without Python", status != 0 and "depends on python3" in error, error)
+    dpkg(root, "--purge", "maityrunga")
+    members.write(f"{root}/var/lib/dpkg/status", others.encode())
+    compare("installed", dpkg(root, "-i", first)[::2], (0, ""))
+    held = apart_from_dpkg(root)
+    listed = outcome(["dpkg-deb", "-c", first])[1].decode().splitlines()
+    compare("the system has its files", sorted(held), sorted([*mine, *(it.split(" ./")[1] for it in listed if it[0] == "-")]))
+    compare("the program runs", outcome([f"{root}/usr/bin/am_tool", "--version"])[1].decode(), f"am_tool {version}\n")
+    compare("upgraded", dpkg(root, "-i", second)[::2], (0, ""))
+    compare("the same files", apart_from_dpkg(root), held)
+    compare("the later program runs", outcome([f"{root}/usr/bin/am_tool", "--version"])[1], b"am_tool 99.1\n")
+    compare("purged", dpkg(root, "--purge", "maityrunga")[0], 0)
+    compare("only the others' files are left", apart_from_dpkg(root), mine)
+    check("dpkg knows nothing of it", b"maityrunga" not in members.bytes_of(f"{root}/var/lib/dpkg/status"))
+    compare("the member's file", members.bytes_of(f"{root}/var/lib/am-member/a/silences"), b"mine")
+
+
+def test_package_lacks_file(folder):
+    """No package is made that lacks a file, whichever it is."""
+    if not shutil.which("dpkg-deb"):
+        skip("am_tool package: dpkg-deb is not there")
+        return
+    tool = built_top(folder)
+    os.mkdir(f"{folder}/to")
+    members.write(f"{folder}/top/crates/am_tool/out/am_tool", b"#!/bin/sh\necho am_tool 0.1\n")
+    files = [*installed(), *(f"install/debian/{it}" for it in os.listdir(f"{TOP}/install/debian"))]
+    try_without(f"{folder}/top", files, [tool, "package", "--to", f"{folder}/to"])
+    compare("nothing is left of what failed", len(os.listdir(f"{folder}/to")), 1)
+
+
+def script(name, folder, *words):
+    """What a script of the package tells systemctl, on a machine where systemd runs."""
+    members.write(f"{folder}/systemctl", f"#!/bin/sh\necho \"$*\" >>{folder}/told\n".encode())
+    os.chmod(f"{folder}/systemctl", 0o755)
+    text = members.bytes_of(f"{TOP}/install/debian/{name}").decode().replace("/run/systemd/system", folder)
+    env = {**os.environ, "PATH": f"{folder}:{os.environ['PATH']}"}
+    open(f"{folder}/told", "w").close()
+    status = outcome(["sh", "-c", text, name, *words], env=env)[0]
+    return status, members.bytes_of(f"{folder}/told").decode().splitlines()
+
+
+def test_scripts(folder):
+    """An upgrade stops nothing; a removal stops what runs."""
+    reload, stop = ["daemon-reload"], ["stop am-diff.timer am-pager@*.service am-member@*.service"]
+    rows = [("postinst", ["configure", ""], reload), ("postinst", ["configure", "0.1.0"], reload), ("prerm", ["upgrade", "2"], [])]
+    rows += [("prerm", ["remove"], stop), ("postrm", ["upgrade", "2"], []), ("postrm", ["remove"], reload), ("postrm", ["purge"], [])]
+    for name, words, wanted in rows:
+        compare(f"{name} {words}", script(name, folder, *words), (0, wanted))
 
 
 def test_ready(folder):
@@ -640,7 +799,8 @@ def test_completions(_folder):
 
 TESTS = [
     test_calls, test_status, test_first_pull, test_stop, test_text, test_counts, test_driven, test_saves, test_log, test_many, test_rules,
-    test_unit, test_install, test_lacking_file, test_ready, test_upgrade, test_scrape, test_backup, test_completions,
+    test_unit, test_install, test_lacking_file, test_package, test_package_lacks_file, test_scripts, test_ready, test_upgrade, test_scrape,
+    test_backup, test_completions,
 ]  # fmt: skip
 
 
