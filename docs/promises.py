@@ -37,6 +37,18 @@ PARTS = {
     "Schedules": ["am_schedule", "am_steps", "am_replay", "am_picture", "am_player"],
 }  # fmt: skip
 
+# The rows that other pages link to: their anchors, by function and clause.
+ANCHORS = {
+    "one-request": ("am_api_silences::begin_answer", None),
+    "alike": ("am_cluster::members_with_equal_sets_reply_alike", None),
+    "timely": ("am_runs::timely_runs_are_calm", None),
+    "diff": ("am_commands::diff_sources", "told"),
+    "fold": ("am_commands::fold_sources", "row"),
+    "load": ("am_snapshot::what_is_saved_is_loaded", "loaded"),
+    "log": ("am_journal::Journal::commit", "acknowledged"),
+    "life": ("am_attendant::live", "lived"),
+}
+
 HEAD = """# What is proved
 
 Every function is proved safe: it returns on every input, without undefined behaviour. Each row is a promise, and the clause that carries it; docs/promises.py writes this page. A *law* is a function that does nothing; its clauses hold for all values. [MODEL](MODEL.md) has the words.
@@ -108,7 +120,8 @@ def promises():
 
 
 def row(crate, function, clause, text):
-    name = f"`{crate}::{function}`"
+    anchors = [f'<a id="{it}"></a>' for it, place in ANCHORS.items() if place == (f"{crate}::{function}", clause)]
+    name = f"{''.join(anchors)}`{crate}::{function}`"
     return f"{name}, {clause} | {text}" if clause else f"{name} | {text}"
 
 
@@ -116,6 +129,9 @@ def page():
     found = promises()
     if lacking := set(found) - {crate for crates in PARTS.values() for crate in crates}:
         sys.exit(f"docs/promises.py has no part for {sorted(lacking)}")
+    places = [(f"{crate}::{function}", clause) for crate, marks in found.items() for function, clause, _ in marks]
+    if lacking := [it for it in ANCHORS.values() if places.count(it) != 1]:
+        sys.exit(f"docs/promises.py: not one promise each is at {lacking}")
     lines = [HEAD]
     for part, crates in PARTS.items():
         rows = [row(crate, *mark) for crate in crates for mark in found.get(crate, [])]

@@ -3,16 +3,17 @@
 
     tests/documents.py [--write | PROGRAM]
 
-PROGRAM is crates/am_tool/out/am_tool if it isn't given; `--write` writes the files of samples/. A block below a line `<!--run-->` is given to bash, and has to end
-with status 0; one below `<!--prints-->` is what the block before it printed, and one below `<!--prints among others-->`
-are lines of that, in this order. The blocks of a document are run one after the other in one folder, where the files stand
-that the documents speak of. Of docs/NIGHT.md each block with am_tool is run, at replicas of this script, which hold what samples/
-has, and the second of which then holds all. Status 5 of `am_tool diff`, `push` and `mend`, that something differs, is none here, and `am_tool build` builds
-nothing. The ports of members are free ones. Blocks with curl or amtool are left out where these are not there. Each command of
-README.md has to stand in a block that is run, and samples/ has to be what tests/lib/samples.py has. Each block of Rust in
-docs/library/ has to stand in a source of crates/, whose crates the gate proves, and docs/PROOFS.md has to be what
-docs/promises.py makes. Each page links to what is there; no carrier, a word for every sense, is more frequent in it than once in a
-hundred words. The last line says how many passed.
+PROGRAM is crates/am_tool/out/am_tool if it isn't given; `--write` writes the files of samples/. Every indented block of README.md,
+docs/NIGHT.md, docs/MEND.md and docs/MEMBERS.md is given to bash, and has to end with status 0, but for those below a line
+`<!--prints-->`, which are what the block before printed, those below `<!--prints among others-->`, which are lines of that, in this
+order, and the few of FILES_SHOWN, which are text for files. The blocks of a page are run one after the other in one folder, where
+the files stand that the page speaks of; each section of docs/MEMBERS.md has a folder of its own. Replicas of this script, which
+hold what samples/ has, stand at 10.0.0.1 to 10.0.0.3, and after docs/NIGHT.md the second one holds all. What no test can run is in
+STAND_INS: ssh, scp, systemctl, journalctl and an `install` into the system do there what a test can see. Status 5 of `am_tool diff`, `push` and
+`mend`, that something differs, is none here, and `am_tool build` builds nothing. The ports are free ones. Blocks with a tool of
+TOOLS are left out where that isn't there. samples/ has to be what tests/lib/samples.py has. Each block of Rust in docs/library/ has to stand in a
+source of crates/, whose crates the gate proves, and docs/PROOFS.md has to be what docs/promises.py makes. Each page links to what is
+there. The last line says how many passed.
 """
 
 import glob
@@ -24,31 +25,51 @@ import socket
 import subprocess
 import sys
 import tempfile
+import textwrap
 import time
 
 from beside import Alive
 from lib import members
 from lib.members import TOP, bytes_of, free_ports, write
 from lib.samples import REPLICAS, sample
-from lib.tally import check, compare, count, finish, skip
+from lib.tally import check, compare, finish, skip
 from lib.versions import row
 
-DOCUMENTS = ["README.md", "docs/MEND.md", "docs/MEMBERS.md"]
-
 # The pages that are looked at, and the most words of README, as `wc -w` counts them.
-PAGES = ["README.md", *(f"docs/{it}.md" for it in "NIGHT MEND MEMBERS FORMATS MODEL PROOFS DECISIONS MAP CHANGING CASES LIBRARY".split())]
+PAGES = ["README.md", "CHANGELOG.md", *(f"docs/{it}.md" for it in "NIGHT MEND MEMBERS FORMATS MODEL PROOFS DECISIONS MAP CHANGING CASES LIBRARY".split())]
 PAGES += [*(f"docs/library/{it}.md" for it in "am_merge am_snapshot am_instance am_member am_cluster".split()), "bench/README.md", "bench/RESULTS.md"]
 MOST_OF_README = 900
 
-# Words that carry every sense, and so none.
-CARRIERS = ["what", "where", "stands?", "(?:is|are) told", "tells?", "comes?", "goes?"]
-WORDS_A_CARRIER = 100
+# The pages whose commands are run; those that speak of replicas at 10.0.0.1 and so on, and those that find a member's file.
+DOCUMENTS = ["README.md", "docs/NIGHT.md", "docs/MEND.md", "docs/MEMBERS.md"]
+NEAR_REPLICAS = ["docs/NIGHT.md", "docs/MEND.md", "docs/MEMBERS.md: Beside Alertmanagers"]
+WITH_FILE = ["docs/MEND.md", "docs/MEMBERS.md: In production"]
+
+# The section of docs/MEMBERS.md whose members another one goes on with.
+GOES_ON = {"Pages that go out once": "Three members, step by step"}
+
+# How the blocks begin that are text for files, and no commands.
+FILES_SHOWN = ["PORT=", "PEERS=", "LISTEN=", "SOURCES=", "backend silences"]
 
 MARK = re.compile(r"<!--(run|prints|prints among others)-->")
-PORT = re.compile(r"\b910[123]\b")
+PORT = re.compile(r"\b(910[123]|9201|909[34])\b")
 
 # What only some machines have.
-TOOLS = ["amtool", "curl"]
+TOOLS = ["amtool", "curl", "jq", "prometheus-alertmanager"]
+
+# What no test can run, and what stands for it: another machine has its files in a folder of its name, and a system is left alone.
+STAND_INS = {
+    "ssh": """case $1 in -*) exit 0 ;; esac
+host=$1; shift
+exec sh -c "$(echo "$*" | sed "s|/var/lib/prometheus/alertmanager|$host|g")\"""",
+    "scp": """while [ $# -gt 1 ]; do [ -e "${1%%:*}/${1##*/}" ] || exit 1; shift; done""",
+    "systemctl": """echo "systemctl $*" >>told""",
+    "journalctl": """echo "journalctl $*" >>told""",
+    "install": """[ -s silences ] && [ -s nflog ]""",
+}
+
+# The silence that docs/NIGHT.md has ended at the second replica.
+ACTIVE_AT_SECOND = "813e8f72-63a8-4a18-8572-a608e4754ec7"
 
 # An entry of the log, which is kept for as long as the silences of samples/.
 ENTRY = '{}:{job="db"} ops/webhook/0 updated 1709310904 expires 4865416504 firing 1,2'
@@ -56,39 +77,41 @@ LOG = {"a": ENTRY, "b": ENTRY, "c": ""}
 
 WRAPPER = """#!/usr/bin/env bash
 case ${{1-}} in
-build) ;;
+build | install | package) ;;
 diff | push | mend) {program} "$@" || [ $? = 5 ] ;;
 *) exec {program} "$@" ;;
 esac
 """
 
 
-def indented(lines):
-    """The block of indented lines that comes next, without its indent."""
-    size = next((at for at, it in enumerate(lines) if it and not it.startswith("    ")), len(lines))
-    return "\n".join(it[4:] for it in lines[:size]).strip("\n")
-
-
 def blocks(path):
-    """The marked blocks of a document: what the mark says, the number of its line, and the text."""
-    lines = content(f"{TOP}/{path}").split("\n")
-    for number, line in enumerate(lines, 1):
-        mark = MARK.fullmatch(line)
-        if mark:
-            yield mark[1], number, indented(lines[number:])
+    """The indented blocks of a page: the mark above it ('run' if there is none), the number of its line, its section and its text."""
+    mark, number, section, lines = "run", 0, "", []
+    for at, line in enumerate([*content(f"{TOP}/{path}").split("\n"), "end"], 1):
+        if line.startswith("    "):
+            number = number if lines else at
+            lines.append(line[4:])
+        elif line == "" and lines:
+            lines.append("")
+        elif line:
+            if lines:
+                yield mark, number, section, textwrap.dedent("\n".join(lines)).strip("\n")
+            found, lines = MARK.fullmatch(line), []
+            mark = found[1] if found else "run"
+            section = line.lstrip("# ") if line.startswith("#") else section
 
 
-def is_command(line):
-    first = line.split(" ")[0]
-    return "/" in first or first in TOOLS or shutil.which(first) is not None
+def commands(path, section=None):
+    """The blocks of a page, or of a section of it, but for those that are text for files."""
+    found = [it for it in blocks(path) if section in (None, it[2])]
+    return [it for it in found if it[0] != "run" or not it[3].startswith(tuple(FILES_SHOWN))]
 
 
-def test_every_command():
-    """README.md has no command in a block that isn't run."""
-    whole = [it[4:] for it in content(f"{TOP}/README.md").split("\n") if it.startswith("    ")]
-    marked = "\n".join(text for _, _, text in blocks("README.md")).split("\n")
-    others = [it for it in whole if it not in marked and is_command(it)]
-    compare("commands of README.md that are not run", others, [])
+def test_files_shown():
+    """No word is left in FILES_SHOWN of a text that no page has, and README.md has none."""
+    texts = {path: [text for _, _, _, text in blocks(path)] for path in DOCUMENTS}
+    compare("text for files that no page has", [it for it in FILES_SHOWN if not any(text.startswith(it) for found in texts.values() for text in found)], [])
+    check("README.md has commands and what they print alone", not any(it.startswith(tuple(FILES_SHOWN)) for it in texts["README.md"]))
 
 
 def test_samples():
@@ -96,36 +119,53 @@ def test_samples():
         compare(f"samples/{replica}.sil", bytes_of(f"{TOP}/samples/{replica}.sil"), sample(replica))
 
 
-def prepare(folder):
-    """Puts the files into a folder that the documents speak of."""
+def prepare(folder, name):
+    """Puts the files into a folder that a page speaks of, or a section of it."""
     for place, replica in enumerate(REPLICAS, 1):
         os.mkdir(f"{folder}/am{place}")
         for file, data in (("silences", sample(replica)), ("nflog", row("nfl", LOG[replica]))):
             write(f"{folder}/am{place}/{file}", data)
-    os.mkdir(f"{folder}/docs")
-    for name in ("samples", "docs/pictures"):
-        os.symlink(f"{TOP}/{name}", f"{folder}/{name}")
-    with open(f"{folder}/am_tool", "w", encoding="utf-8") as out:
-        out.write(WRAPPER.format(program=members.program))
-    os.chmod(f"{folder}/am_tool", 0o755)
+    if name in WITH_FILE:
+        write(f"{folder}/a.sil", sample("a"))
+    os.makedirs(f"{folder}/docs")
+    for it in ("samples", "docs/pictures", "install"):
+        os.symlink(f"{TOP}/{it}", f"{folder}/{it}")
+    os.mkdir(f"{folder}/bin")
+    os.symlink("../am_tool", f"{folder}/bin/am_tool")
+    for it, text in [("../am_tool", WRAPPER.format(program=members.program)), *((it, f"#!/bin/sh\n{text}\n") for it, text in STAND_INS.items())]:
+        write(f"{folder}/bin/{it}", text.encode())
+        os.chmod(f"{folder}/bin/{it}", 0o755)
 
 
 class Shell:
-    """Runs blocks in a folder, and ends at the end all that they left running."""
+    """Runs blocks in a folder, and ends at the end all that they left running. Replicas, if there are some, are those of the page."""
 
-    def __init__(self, folder):
+    def __init__(self, folder, replicas_port=None):
         self.folder, self.groups = folder, []
-        self.ports = dict(zip(("9101", "9102", "9103"), map(str, free_ports(3))))
+        names = ["9101", "9102", "9103", "9201", "9093", "9094"]
+        self.ports = dict(zip(names, map(str, free_ports(len(names)))))
+        if replicas_port:
+            self.ports["9094"] = str(replicas_port)
+
+    def placed(self, text):
+        """A text with the addresses and the ports of this run."""
+        return PORT.sub(lambda it: self.ports[it[0]], text.replace("10.0.0.", "127.0.1."))
 
     def run(self, text):
-        """The status and the output of a block. What it leaves running listens then, if it is to listen."""
-        text = PORT.sub(lambda it: self.ports[it[0]], text)
+        """The status and the output of a block. What it leaves running listens then, if it is to listen; a member that it would wait
+        for is left running, too."""
+        text = self.placed(text)
+        if re.search(r"^\./am_tool instance ", text) and not text.endswith("&"):
+            text += " &"
+        env = {**os.environ, "PATH": f"{self.folder}/bin:{os.environ['PATH']}"}
         with open(f"{self.folder}/output", "w+", encoding="utf-8") as out, open(f"{self.folder}/error", "a", encoding="utf-8") as err:
-            ran = subprocess.Popen(["bash", "-euc", text], cwd=self.folder, stdin=subprocess.DEVNULL, stdout=out, stderr=err, start_new_session=True)
+            ran = subprocess.Popen(
+                ["bash", "-euc", text], cwd=self.folder, env=env, stdin=subprocess.DEVNULL, stdout=out, stderr=err, start_new_session=True
+            )
             self.groups.append(ran.pid)
             status = ran.wait(timeout=members.PATIENCE)
-            for port in re.findall(r"--listen (\d+)", text):
-                listen(int(port))
+            for host, port in re.findall(r"--(?:peers-|web\.)?listen(?:-address)?[ =](?:([0-9.]+):)?(\d+)", text):
+                listen(host or "127.0.0.1", int(port))
             out.seek(0)
             return status, out.read().rstrip("\n")
 
@@ -140,36 +180,45 @@ class Shell:
                 pass
 
 
-def listen(port):
-    """Waits until something listens at a port."""
+def listen(host, port):
+    """Waits until something listens at a port, which is a case that fails where nothing does."""
     for _ in range(members.PATIENCE * 10):
         with socket.socket() as client:
-            if client.connect_ex(("127.0.0.1", port)) == 0:
+            if client.connect_ex((host, port)) == 0:
                 return
         time.sleep(0.1)
+    check(f"something listens at {host}:{port}", False)
 
 
-def try_document(path, shell):
+def lacking(text):
+    """The first tool of a block that isn't there."""
+    return next((it for it in TOOLS if re.search(rf"\b{it}\b", text) and shutil.which(it) is None), None)
+
+
+def try_blocks(path, found, shell):
+    """Runs blocks, one after the other, and compares what they print."""
     printed = None
-    for mark, number, text in blocks(path):
+    for mark, number, _, text in found:
         name = f"{path}:{number}"
         if mark == "run":
-            lacking = [it for it in TOOLS if re.search(rf"\b{it}\b", text) and shutil.which(it) is None]
-            if lacking:
-                skip(f"{path}: {lacking[0]} is not there")
+            tool = lacking(text)
+            if tool:
+                skip(f"{path}: {tool} is not there")
                 printed = None
                 continue
             status, printed = shell.run(text)
             check(name, status == 0, f"status {status}, {printed}\n{shell.error()}")
+        elif printed is None:
+            continue
         elif mark == "prints":
             compare(name, printed, text)
         else:
-            rest = iter((printed or "").split("\n"))
+            rest = iter(printed.split("\n"))
             check(name, all(line in rest for line in text.split("\n")), printed)
 
 
 def replicas():
-    """Three replicas that drifted apart, at addresses as docs/NIGHT.md has them, and their port."""
+    """Three replicas that drifted apart, at addresses of their own, and their port."""
     with socket.create_server(("127.0.1.1", 0)) as holder:
         port = holder.getsockname()[1]
     found = [Alive(at=(f"127.0.1.{place}", port)) for place in range(1, len(REPLICAS) + 1)]
@@ -178,20 +227,53 @@ def replicas():
     return found, port
 
 
-def try_night(shell):
+def in_folder(name, work):
+    """Does what a page or a section wants, in a folder of its own, beside replicas if it speaks of some."""
+    found, port = replicas() if name in NEAR_REPLICAS else ([], None)
+    with tempfile.TemporaryDirectory() as folder:
+        prepare(folder, name)
+        shell = Shell(folder, port)
+        try:
+            work(shell)
+        finally:
+            shell.end()
+    compare(f"{name}: faults of the replicas", [it.faults for it in found], [[] for _ in found])
+    return found
+
+
+def try_page(path):
+    """A page in one folder."""
+    found = commands(path)
+    check(f"{path} has commands", len(found) > 1, found)
+    in_folder(path, lambda shell: try_blocks(path, found, shell))
+
+
+def try_sections(path):
+    """A page section by section."""
+    for section in dict.fromkeys(it[2] for it in commands(path)):
+        found = commands(path, section)
+        before = commands(path, GOES_ON[section]) if section in GOES_ON else []
+        in_folder(f"{path}: {section}", lambda shell: try_blocks(path, [*before, *found], shell))
+    compare(f"sections of {path} that are named here and not there", set(GOES_ON) - {it[2] for it in commands(path)}, set())
+
+
+def try_night(path):
     """What docs/NIGHT.md has somebody do who was woken mends the second of three replicas."""
-    found, port = replicas()
-    page = [it for it in re.findall(r"(?:^    .*\n?)+", content(f"{TOP}/docs/NIGHT.md"), re.MULTILINE) if "./am_tool " in it]
-    near = lambda text: text.replace("10.0.0.", "127.0.1.").replace("9094", str(port))
-    check("docs/NIGHT.md has commands", len(page) > 1, page)
-    for text in page:
-        status, printed = shell.run(near(indented(text.split("\n"))))
-        check(f"docs/NIGHT.md: {text}", status == 0, f"status {status}, {printed}\n{shell.error()}")
+
+    def work(shell):
+        with socket.socket() as server:
+            server.bind(("127.0.1.2", 0))
+            shell.ports["9093"] = str(server.getsockname()[1])
+        # (the second replica answers amtool, too)
+        status, _ = shell.run("./am_tool instance --name am2 --listen 10.0.0.2:9093 --sil am2/silences --nfl am2/nflog &")
+        check("a server for amtool starts", status == 0, shell.error())
+        try_blocks(path, [(mark, number, section, text.replace(" ID", f" {ACTIVE_AT_SECOND}")) for mark, number, section, text in commands(path)], shell)
+
+    found = in_folder(path, work)
     words = [f"{name}={it.word}" for name, it in zip(("am1", "am2", "am3"), found)]
     status, output, error = members.run(["diff", "--state", "sil", *words])
     late = [it for it in output.decode().splitlines() if re.search(r" (behind|missing) (\S*,)?am2\b", it)]
     compare("am2 is mended then", (status in (0, 5), late, error), (True, [], ""))
-    compare("faults of the replicas", [it.faults for it in found], [[], [], []])
 
 
 def content(path):
@@ -221,9 +303,9 @@ def plain(page):
 
 
 def anchors(page):
-    """The anchors of a page's headings, as GitHub makes them."""
+    """The anchors of a page: those that it names, and of its headings, as GitHub makes them."""
     headings = re.findall(r"^#+ (.*)$", plain(page), re.MULTILINE)
-    return {re.sub(r"[^\w\- ]", "", it.lower()).replace(" ", "-") for it in headings}
+    return {re.sub(r"[^\w\- ]", "", it.lower()).replace(" ", "-") for it in headings} | set(re.findall(r'<a id="([\w-]+)">', page))
 
 
 def broken_links(path, page):
@@ -250,31 +332,13 @@ def test_sources():
 
 
 def test_pages():
-    """Each page links to what is there, and says what it means; README is short."""
-    here = [*glob.glob(f"{TOP}/docs/**/*.md", recursive=True), *glob.glob(f"{TOP}/bench/*.md"), f"{TOP}/README.md"]
+    """Each page links to what is there, and README is short."""
+    here = [*glob.glob(f"{TOP}/docs/**/*.md", recursive=True), *glob.glob(f"{TOP}/bench/*.md"), f"{TOP}/README.md", f"{TOP}/CHANGELOG.md"]
     compare("pages", sorted(PAGES), sorted(os.path.relpath(it, TOP) for it in here))
     for path in PAGES:
-        page = content(f"{TOP}/{path}")
-        count_of = len(page.split())
-        compare(f"{path}: broken links", broken_links(path, page), [])
-        words = plain(page)
-        for carrier in CARRIERS:
-            found = len(re.findall(rf"\b(?:{carrier})\b", words, re.IGNORECASE))
-            most = max(1, count_of // WORDS_A_CARRIER)
-            check(f"{path}: '{carrier}' at most {most} times", found <= most, found)
+        compare(f"{path}: broken links", broken_links(path, content(f"{TOP}/{path}")), [])
     words = len(content(f"{TOP}/README.md").split())
     check(f"README.md: at most {MOST_OF_README} words", words <= MOST_OF_README, words)
-
-
-def in_folder(work):
-    """Tries a document in a folder of its own."""
-    with tempfile.TemporaryDirectory() as folder:
-        prepare(folder)
-        shell = Shell(folder)
-        try:
-            work(shell)
-        finally:
-            shell.end()
 
 
 def main():
@@ -283,16 +347,16 @@ def main():
             write(f"{TOP}/samples/{replica}.sil", sample(replica))
         return
     members.choose("documents", sys.argv[1:])
-    test_every_command()
+    test_files_shown()
     test_samples()
     test_quotes()
     test_promises()
     test_sources()
     test_pages()
-    for path in DOCUMENTS:
-        count(any(blocks(path)))
-        in_folder(lambda shell: try_document(path, shell))
-    in_folder(try_night)
+    try_page("README.md")
+    try_night("docs/NIGHT.md")
+    try_page("docs/MEND.md")
+    try_sections("docs/MEMBERS.md")
     finish("documents")
 
 

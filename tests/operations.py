@@ -574,7 +574,7 @@ def new_system(root, architecture):
     open(f"{root}/var/lib/dpkg/status", "w").close()
     for it in ("etc/am-member/a.env", "var/lib/am-member/a/silences"):
         members.write(f"{root}/{it}", b"mine")
-    wanted = ["libc6", "coreutils", "python3"]
+    wanted = ["libc6", "libgcc-s1", "coreutils", "python3"]
     for it in wanted:
         open(f"{root}/var/lib/dpkg/info/{it}.list", "w").close()
     return "".join(WANTED.format(name=it, architecture=architecture) for it in wanted)
