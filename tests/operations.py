@@ -799,8 +799,8 @@ def test_completions(_folder):
 
 TESTS = [
     test_calls, test_status, test_first_pull, test_stop, test_text, test_counts, test_driven, test_saves, test_log, test_many, test_rules,
-    test_unit, test_install, test_lacking_file, test_package, test_package_lacks_file, test_scripts, test_ready, test_upgrade, test_scrape,
-    test_backup, test_completions,
+    test_unit, test_install, test_lacking_file, test_ready, test_upgrade, test_scrape, test_backup, test_completions,
+    test_package, test_package_lacks_file, test_scripts,
 ]  # fmt: skip
 
 
