@@ -587,7 +587,7 @@ def apart_from_dpkg(root):
 def made(tool, folder):
     """The one package that is made in a folder, and nothing else is there then."""
     os.makedirs(folder)
-    status, output, error = outcome([tool, "package", "--to", folder])
+    status, output, error = outcome([tool, "package", "--to", folder], timeout=300)
     (name, *others) = [*os.listdir(folder), ""]
     compare("package", (status, output.decode(), error, others), (0, f"am_tool: made {folder}/{name}\n", "", [""]))
     return f"{folder}/{name}"
