@@ -51,39 +51,39 @@ ANCHORS = {
 
 HEAD = """# What is proved
 
-Every function is proved safe: it returns on every input, without undefined behaviour. Each row is a promise, and the clause that carries it; docs/promises.py writes this page. A *law* is a function that does nothing; its clauses hold for all values. [MODEL](MODEL.md) has the words.
+Every function is proved safe: it returns on every input, without undefined behaviour. Each row below is a promise, with the clause that says it. docs/promises.py writes this page. A *law* is a function that does nothing; its clauses hold for all values. [MODEL](MODEL.md) explains the words.
 
-- **Memory.** A call that allocates may answer `Memory` instead.
-- **Bytes.** Clauses on readers and writers speak of known bytes, not of sockets or files.
-- **Calm** is a premise, not a gift: a replica that is cut off for longer than the retention can lose it.
+- **Memory.** A call that allocates may answer `Memory` instead of what is promised.
+- **Bytes.** Clauses about readers and writers speak of known bytes, not of sockets or files.
+- **Calm** is a premise, and nothing that comes for free: a replica that is cut off for longer than the retention may no longer be calm.
 """
 
 TAIL = """## Only tested
 
-- **Definitions** mean what people want: [cases/](CASES.md), worked by hand.
-- **The loop** is fair, keeps deadlines, closes the right connection, tells answers once their peers end, and counts unfinished bytes; replies come: tests/upkeep.py, tests/edges.py. Members under faults of network, process and disk: tests/chaos.py.
-- **`--log`**: a reply and its frames wait for the log, so that members with logs are durable: tests/disk.py.
-- **A member's turns, figures, readiness and first pull**, and that it gives each step its moment: tests/turns.py, tests/operations.py, tests/three_members.py, tests/machines.py.
-- **Pages** go out, and once if nothing fails: tests/pages.py; beside real Alertmanagers tests/real_shims.py, on request.
-- **Command lines, what a path, a server or logs give, the counts of `diff --prometheus`, what `mend` does in turn, pictures' layout, the page for people**: tests/command_line.py, live_sources.py, log_sources.py, gossip.py, pictures.py, page.py (with chromium).
-- **That a member's lock is its secret's, that an entrance hears what it should, that what is sealed opens, that a reply which isn't about silences is that of its call, that the rows which `push` and `mend` send are those of the versions that it picks, without a hazard, that a member beside Alertmanagers asks and tells them, and that it answers `notify:true` only once each was asked since**: tests/machines.py, tests/gossip.py, tests/beside.py.
+- **That definitions mean what people want**: [cases/](CASES.md), worked out by hand.
+- **That the loop** is fair, keeps deadlines, closes the right connection, hands on an answer once the peer ends, and counts unfinished bytes, and that replies come: tests/upkeep.py, tests/edges.py. Members under faults of network, process and disk: tests/chaos.py.
+- **That with `--log`** a reply and its frames wait for the log, so that members with logs are durable: tests/disk.py.
+- **A member's turns, figures, readiness and first pull**, and that it gives each step the right moment: tests/turns.py, tests/operations.py, tests/three_members.py, tests/machines.py.
+- **That pages go out**, and only once if nothing fails: tests/pages.py; with real Alertmanagers tests/real_shims.py, on request.
+- **Command lines, what is read from a path, a server or logs, the counts of `diff --prometheus`, what `mend` does in turn, pictures' layout, the page for people**: tests/command_line.py, live_sources.py, log_sources.py, gossip.py, pictures.py, page.py (with chromium).
+- **That a member uses its secret, that each listener hears what it should, that what is sealed can be opened, that a reply that isn't about silences is the one of its call, that the rows which `push` and `mend` send are those of the versions that it picks, without a hazard, that a member beside Alertmanagers asks them and sends to them, and that it answers `notify:true` only when each has been asked since the question**: tests/machines.py, tests/gossip.py, tests/beside.py.
 - **Refused memory and hostile input**: tests/refused_memory.py, tests/fuzz.py, am_tests.
-- **Real replicas** of prometheus-alertmanager 0.25.0: tests/real_replicas.py, on request.
+- **That real replicas** of prometheus-alertmanager 0.25.0 do the same: tests/real_replicas.py, on request.
 
 ## Trusted
 
-The toolchain, the C library, the statements of the kit's crates, the disk, and that nobody makes an HMAC without its key. Nobody promises that memory lasts or a frame arrives. No contract says
+You have to trust the toolchain, the C library, the statements of the kit's crates, the disk, and that nobody can make an HMAC without its key. Nobody promises that there is enough memory, or that a frame arrives. No contract says
 
 - that `Memory` is answered only if an allocation was refused, or `Read` only if a read failed;
 - which patterns `regex` finds too big, so that `hazard_of` may call any pattern refused; or which ones are compiled before a step;
 - that a pattern of RE2 and its translation match the same texts (cases/re2.txt, recorded from Go);
-- that a connection's pieces are the frames of all its bytes: `connection` says it piece by piece;
+- that the frames of a connection's pieces are those of all its bytes together: `connection` says it piece by piece;
 - that an unfinished head of over 64 fields is refused at once;
 - which canonical texts are kept as they came, or that `sort_row` refuses a row over 64 MiB;
 - that `SystemDisk` and `LogFile` make the calls that they note, and that bytes outside of a write stay;
 - how long an answer takes.
 
-[wrong/README](../wrong/README.md) lists wrong bodies, refused or let through.
+[wrong/README](../wrong/README.md) lists wrong bodies that are refused, and those that get through.
 """
 
 
