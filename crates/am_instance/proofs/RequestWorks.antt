@@ -85,18 +85,23 @@ unfolding refusal early_refusal posted_refusal
 unread_planned stand posted bits now error is = λ other.
     (verdicts.Fine, (λ read. absurd (let lost : None ≡ Some error = sym read ∙ is in cc)), comes_first _ _ _ _ _ _ error is)
 
+-- matchers without a regular expression match the empty text as they are meant
+empty_alike : (dialect : Dialect) (matchers meant : List Matcher) (found : Bool) → has_regexp matchers ≡ false → AreMeant dialect matchers meant →
+    list_all (λ m. matches_value m []) meant ≡ found → found ≡ list_all (λ m. matches_value m []) matchers
+empty_alike dialect matchers meant found none all is =
+    sym is ∙ ap (λ (ms : List Matcher). list_all (λ m. matches_value m []) ms)
+    (meant_once dialect matchers meant matchers all (plain_are_meant dialect matchers none))
+
 -- the verdict on matchers without a regular expression is the plain one
 plain_is : (dialect : Dialect) (matchers : List Matcher) (verdict : Verdict) → has_regexp matchers ≡ false → IsVerdictIn dialect matchers verdict → verdict ≡ plain_verdict dialect matchers
 plain_is dialect matchers verdicts.Bad none (inl (k, m, within, is, broken)) = absurd (true≢false (sym (list_any-from_Any (λ m. is_regexp m.kind) matchers (k, m, within, is, broken.0)) ∙ none))
 plain_is dialect matchers verdicts.Bad none (inr names) = ap (λ (b : Bool). if b then (if list_all (λ m. matches_value m []) matchers then verdicts.AllEmpty else verdicts.Fine) else verdicts.Bad) (sym names)
-plain_is dialect matchers verdicts.AllEmpty none (names, meant, all, sound, found) =
-    let itself = meant_once dialect matchers meant matchers all (plain_are_meant dialect matchers none) in
+plain_is dialect matchers verdicts.AllEmpty none (names, meant, all, judged) =
     ap₂ (λ (b c : Bool). if b then (if c then verdicts.AllEmpty else verdicts.Fine) else verdicts.Bad) (sym names)
-    (sym found ∙ ap (λ (ms : List Matcher). list_all (λ m. matches_value m []) ms) itself)
-plain_is dialect matchers verdicts.Fine none (names, meant, all, sound, found) =
-    let itself = meant_once dialect matchers meant matchers all (plain_are_meant dialect matchers none) in
+    (empty_alike dialect matchers meant true none all judged.1)
+plain_is dialect matchers verdicts.Fine none (names, meant, all, judged) =
     ap₂ (λ (b c : Bool). if b then (if c then verdicts.AllEmpty else verdicts.Fine) else verdicts.Bad) (sym names)
-    (sym found ∙ ap (λ (ms : List Matcher). list_all (λ m. matches_value m []) ms) itself)
+    (empty_alike dialect matchers meant false none all judged.1)
 
 either_way : (test : Bool) (one other : Option SilenceError) → (test ≡ true → one ≡ None) → (test ≡ false → other ≡ None) → (if test then one else other) ≡ None
 either_way true one other first second = first refl
