@@ -3,17 +3,22 @@
 
     tests/documents.py [--write | PROGRAM]
 
-PROGRAM is crates/am_tool/out/am_tool if it isn't given; `--write` writes the files of samples/. Every indented block of README.md,
-docs/NIGHT.md, docs/MEND.md and docs/MEMBERS.md is given to bash, and has to end with status 0, but for those below a line
-`<!--prints-->`, which are what the block before printed, those below `<!--prints among others-->`, which are lines of that, in this
-order, and the few of FILES_SHOWN, which are text for files. The blocks of a page are run one after the other in one folder, where
-the files stand that the page speaks of; each section of docs/MEMBERS.md has a folder of its own. Replicas of this script, which
-hold what samples/ has, stand at 10.0.0.1 to 10.0.0.3, and after docs/NIGHT.md the second one holds all. What no test can run is in
-STAND_INS: ssh, scp, systemctl, journalctl and an `install` into the system do there what a test can see. Status 5 of `am_tool diff`, `push` and
-`mend`, that something differs, is none here, and `am_tool build` builds nothing. The ports are free ones. Blocks with a tool of
-TOOLS are left out where that isn't there. samples/ has to be what tests/lib/samples.py has. Each block of Rust in docs/library/ has to stand in a
-source of crates/, whose crates the gate proves, and docs/PROOFS.md has to be what docs/promises.py makes. Each page links to what is
-there. The last line says how many passed.
+PROGRAM is crates/am_tool/out/am_tool if it isn't given; `--write` writes the files of samples/.
+
+Every indented block of README.md, docs/NIGHT.md, docs/MEND.md and docs/MEMBERS.md is given to bash, and has to end with status 0.
+There are three exceptions: a block below `<!--prints-->` is what the block before it has to print, one below `<!--prints among
+others-->` is lines of that, in this order, and those that begin as FILES_SHOWN are text for files. The blocks of a page are run one
+after the other, in one folder that has the files which the page speaks of; in docs/MEMBERS.md each section has a folder of its own.
+Replicas of this script, which hold what samples/ has, are at 10.0.0.1 to 10.0.0.3, and after docs/NIGHT.md the second one has to
+hold everything. Ports and these addresses are exchanged for free ones of this machine.
+
+What no test can run is named in STAND_INS, with what is run in its place: ssh, scp, systemctl, journalctl, and an `install` into the
+system. `am_tool build`, `install` and `package` do nothing here, and status 5 of `diff`, `push` and `mend`, that something differs,
+counts as 0. A block with a tool of TOOLS is skipped if that isn't there.
+
+Beyond that: samples/ has to be what tests/lib/samples.py has, each block of Rust in docs/library/ has to be in a source of crates/,
+docs/PROOFS.md has to be what docs/promises.py makes, docs/MAP.md has to name what is there, each page has to link to what is there,
+and README.md has to be short. The last line says how many passed.
 """
 
 import glob
@@ -36,8 +41,9 @@ from lib.tally import check, compare, finish, skip
 from lib.versions import row
 
 # The pages that are looked at, and the most words of README, as `wc -w` counts them.
-PAGES = ["README.md", "CHANGELOG.md", *(f"docs/{it}.md" for it in "NIGHT MEND MEMBERS FORMATS MODEL PROOFS DECISIONS MAP CHANGING CASES LIBRARY".split())]
-PAGES += [*(f"docs/library/{it}.md" for it in "am_merge am_snapshot am_instance am_member am_cluster".split()), "bench/README.md", "bench/RESULTS.md"]
+PAGES = ["README.md", "CHANGELOG.md", "bench/README.md", "bench/RESULTS.md"]
+PAGES += [f"docs/{it}.md" for it in "NIGHT MEND MEMBERS FORMATS MODEL PROOFS DECISIONS MAP CHANGING CASES LIBRARY".split()]
+PAGES += [f"docs/library/{it}.md" for it in "am_merge am_snapshot am_instance am_member am_cluster".split()]
 MOST_OF_README = 900
 
 # The pages whose commands are run; those that speak of replicas at 10.0.0.1 and so on, and those that find a member's file.
@@ -108,10 +114,10 @@ def commands(path, section=None):
 
 
 def test_files_shown():
-    """No word is left in FILES_SHOWN of a text that no page has, and README.md has none."""
-    texts = {path: [text for _, _, _, text in blocks(path)] for path in DOCUMENTS}
-    compare("text for files that no page has", [it for it in FILES_SHOWN if not any(text.startswith(it) for found in texts.values() for text in found)], [])
-    check("README.md has commands and what they print alone", not any(it.startswith(tuple(FILES_SHOWN)) for it in texts["README.md"]))
+    """Each text of FILES_SHOWN is in one of the pages, and none in README.md."""
+    texts = [text for path in DOCUMENTS for _, _, _, text in blocks(path)]
+    compare("text for files that no page has", [it for it in FILES_SHOWN if not any(text.startswith(it) for text in texts)], [])
+    compare("blocks of README.md that aren't run", len(commands("README.md")), len([*blocks("README.md")]))
 
 
 def test_samples():
@@ -132,9 +138,11 @@ def prepare(folder, name):
         os.symlink(f"{TOP}/{it}", f"{folder}/{it}")
     os.mkdir(f"{folder}/bin")
     os.symlink("../am_tool", f"{folder}/bin/am_tool")
-    for it, text in [("../am_tool", WRAPPER.format(program=members.program)), *((it, f"#!/bin/sh\n{text}\n") for it, text in STAND_INS.items())]:
-        write(f"{folder}/bin/{it}", text.encode())
-        os.chmod(f"{folder}/bin/{it}", 0o755)
+    scripts = {"am_tool": WRAPPER.format(program=members.program)}
+    scripts.update({f"bin/{it}": f"#!/bin/sh\n{text}\n" for it, text in STAND_INS.items()})
+    for it, text in scripts.items():
+        write(f"{folder}/{it}", text.encode())
+        os.chmod(f"{folder}/{it}", 0o755)
 
 
 class Shell:
@@ -191,8 +199,8 @@ def listen(host, port):
 
 
 def lacking(text):
-    """The first tool of a block that isn't there."""
-    return next((it for it in TOOLS if re.search(rf"\b{it}\b", text) and shutil.which(it) is None), None)
+    """The first tool that a block runs and that isn't there."""
+    return next((it for it in TOOLS if re.search(rf"(?:^|[|&;]) *{it} ", text, re.MULTILINE) and shutil.which(it) is None), None)
 
 
 def try_blocks(path, found, shell):
