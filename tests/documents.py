@@ -17,8 +17,8 @@ system. `am_tool build`, `install` and `package` do nothing here, and status 5 o
 counts as 0. A block with a tool of TOOLS is skipped if that isn't there.
 
 Beyond that: samples/ has to be what tests/lib/samples.py has, each block of Rust in docs/library/ has to be in a source of crates/,
-docs/PROOFS.md has to be what docs/promises.py makes, docs/MAP.md has to name what is there, each page has to link to what is there,
-and README.md has to be short. The last line says how many passed.
+docs/PROOFS.md has to be what docs/promises.py makes, docs/MAP.md has to name what is there, CHANGELOG.md the program's version, each
+page has to link to what is there, and README.md has to be short. The last line says how many passed.
 """
 
 import glob
@@ -304,6 +304,14 @@ def test_promises():
     compare("docs/PROOFS.md (docs/promises.py --write makes it)", content(f"{TOP}/docs/PROOFS.md"), ran.stdout)
 
 
+def test_changes():
+    """CHANGELOG.md has the version that the program says it is."""
+    version = members.run(["--version"])[1].decode().split()[-1]
+    found = re.findall(r"^## ([0-9.]+)", content(f"{TOP}/CHANGELOG.md"), re.MULTILINE)
+    newest_first = sorted(found, key=lambda it: [int(part) for part in it.split(".")], reverse=True)
+    check(f"CHANGELOG.md has {version}, and the newest version first", version in found and found == newest_first, found)
+
+
 def plain(page):
     """The text of a page without blocks and words of code, and without targets of links."""
     lines = [it for it in re.sub(r"```.*?```", "", page, flags=re.DOTALL).split("\n") if not it.startswith("    ")]
@@ -361,6 +369,7 @@ def main():
     test_promises()
     test_sources()
     test_pages()
+    test_changes()
     try_page("README.md")
     try_night("docs/NIGHT.md")
     try_page("docs/MEND.md")
