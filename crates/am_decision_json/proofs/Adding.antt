@@ -6,12 +6,12 @@ use Rattle.std.proofs.lemmas.Grind.{flat_map-append}
 use Rattle.json.specs.Token.{Token, key, string, begin_object, end_object}
 use Rattle.json.specs.Tree.{members_tokens}
 use Rattle.json.specs.Written.{Written}
-use Rattle.serde_json.specs.Data.{Data, object}
+use Rattle.serde_json.specs.Data.{Data}
 use Rattle.serde_json.specs.Written.{members_outline}
 use Rattle.am_matcher.specs.declared.labels.Label.{Label}
 use Rattle.am_silence_json.specs.Tokens.{Adds, data_tokens, row_tokens}
 use Rattle.am_silence_json.proofs.Bodies.{chain}
-use Rattle.am_decision_json.specs.Answers.{label_members, label_tokens}
+use Rattle.am_decision_json.specs.Answers.{label_members, label_tokens, labels_data}
 
 -- the next value of an iterator, and those that are left
 pub value_more : {A : Type 0} (value : A → Data) {a b : Written} {left others : List A} {x : A} → left ≡ x ∷ others → Adds a b (data_tokens (value x))
@@ -50,7 +50,7 @@ members_are (label ∷ labels) = ap (λ ts. key label.name ∷ string label.valu
 -- with the brackets, they are the object
 pub labels_are :
     (a b c d : Written) (labels : List Label) → Adds a b (begin_object ∷ []) → Adds b c (flat_map label_tokens labels) → Adds c d (end_object ∷ [])
-    → Adds a d (data_tokens (object (label_members labels)))
+    → Adds a d (data_tokens (labels_data labels))
 labels_are a b c d labels opening row closing =
     let whole = chain opening (chain row closing) in
     record { before = whole.before; tokens = whole.tokens ∙ ap (λ ts. a.tokens ++ begin_object ∷ ts) (sym (members_are labels)) }

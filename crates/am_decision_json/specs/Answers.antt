@@ -26,23 +26,29 @@ why_text (whys.Notify reason) = reason_text reason
 why_text whys.Skip = codes "Skip"
 why_text whys.Muted = codes "Muted"
 
--- ---- muted alerts
+-- ---- labels
 
 -- labels, in their order
 abbrev pub label_members : List Label → Members
 label_members [] = no_members
 label_members (label ∷ labels) = member label.name (string label.value) (label_members labels)
 
-abbrev pub muted_data : Muted → Data
-muted_data m =
-    object (
-    member (codes "labels") (object (label_members m.labels)) (
-    member (codes "silencedBy") (array (items_of (map string m.silenced_by.items))) (
-    member (codes "silencedByMore") (number (unsigned m.more)) no_members)))
+-- the labels of an alert, as an object
+abbrev pub labels_data : List Label → Data
+labels_data labels = object (label_members labels)
 
 -- the tokens of a label
 abbrev pub label_tokens : Label → List Token
 label_tokens label = key_token label.name ∷ string_token label.value ∷ []
+
+-- ---- muted alerts
+
+abbrev pub muted_data : Muted → Data
+muted_data m =
+    object (
+    member (codes "labels") (labels_data m.labels) (
+    member (codes "silencedBy") (array (items_of (map string m.silenced_by.items))) (
+    member (codes "silencedByMore") (number (unsigned m.more)) no_members)))
 
 -- ---- answers
 

@@ -21,3 +21,4 @@ pub use key::MessageKey;
 pub use message::{Alert, Message, read_message};
 pub use notice::{Notice, read_notice};
 pub use replies::{write_answer, write_logged};
+pub use writing::add_labels;

@@ -3,11 +3,11 @@
 ghost use Rattle.std.specs.Prelude.{◌≡◌, [], ◌∷◌, OnOk, codes, decimal, map};
 ghost use Rattle.std.specs.List.{flat_map};
 ghost use Rattle.json.specs.Token.{key, number};
-ghost use Rattle.serde_json.specs.Data.{array, object, string};
+ghost use Rattle.serde_json.specs.Data.{array, string};
 ghost use Rattle.serde_json.specs.View.{items_of};
 ghost use Rattle.am_silence_json.specs.Tokens.{Adds, data_tokens, row_tokens};
 ghost use Rattle.am_decision_json.specs.Hashes.{hash_data, hashes_data};
-ghost use Rattle.am_decision_json.specs.Answers.{label_members, label_tokens, muted_data, answer_data, logged_data};
+ghost use Rattle.am_decision_json.specs.Answers.{label_tokens, labels_data, muted_data, answer_data, logged_data};
 
 use crate::answer::{Answer, Muted};
 use crate::hashes::HashText;
@@ -75,14 +75,26 @@ fn add_each_label(out: &mut Writer, labels: &[Label]) -> Result<(), AllocError>
     Ok(())
 }
 
-/// Adds the member that has the labels of an alert.
-fn add_labels(out: &mut Writer, labels: &[Label]) -> Result<(), AllocError>
-    ensures { OnOk result (Adds out.old out.new (key (codes "labels") ∷ data_tokens (object (label_members labels.now)))) }
+/// Adds the labels of an alert, in their order: an object with a member for each.
+///
+/// # Errors
+///
+/// [`AllocError`] where memory runs out. Some tokens may be left.
+pub fn add_labels(out: &mut Writer, labels: &[Label]) -> Result<(), AllocError>
+    ensures { OnOk result (Adds out.old out.new (data_tokens (labels_data labels.now))) }
 {
-    add(out, Token::Key("labels"))?;
     add(out, Token::BeginObject)?;
     add_each_label(out, labels)?;
     add(out, Token::EndObject)?;
+    Ok(())
+}
+
+/// Adds the member that has the labels of a muted alert.
+fn add_labels_of(out: &mut Writer, labels: &[Label]) -> Result<(), AllocError>
+    ensures { OnOk result (Adds out.old out.new (key (codes "labels") ∷ data_tokens (labels_data labels.now))) }
+{
+    add(out, Token::Key("labels"))?;
+    add_labels(out, labels)?;
     Ok(())
 }
 
@@ -113,7 +125,7 @@ fn add_muted(out: &mut Writer, muted: &Muted) -> Result<(), AllocError>
     ensures { OnOk result (Adds out.old out.new (data_tokens (muted_data muted.now))) }
 {
     add(out, Token::BeginObject)?;
-    add_labels(out, muted.labels.as_slice())?;
+    add_labels_of(out, muted.labels.as_slice())?;
     add_ids(out, muted.silenced_by.as_slice())?;
     add_number(out, "silencedByMore", muted.more)?;
     add(out, Token::EndObject)?;
