@@ -4,6 +4,7 @@ ghost use Rattle.std.specs.Prelude.{◌≡◌};
 ghost use Rattle.am_instance.specs.Sendings.{nothing_sent, sent_by};
 ghost use Rattle.am_instance.specs.InstanceStates.{InstanceState};
 ghost use Rattle.am_api_silences.specs.Answers.{WhenMade, IsErrorBytes, IsRefusalAnswer, IsRequestAnswer, IsStepAnswer, answer_in};
+ghost use Rattle.am_api_silences.specs.Events.{IsEventIn};
 ghost use Rattle.am_api_silences.specs.PendingReply.{IsMadeOf, Makes};
 ghost use Rattle.am_api_silences.specs.Replies.{IsReplyBytes, Says};
 ghost use Rattle.am_api_silences.specs.declared.pending_reply.PendingReply.TheVariants as makings;
@@ -104,6 +105,19 @@ fn step(alloc: Global, instance: &mut Instance, event: Event, now: Moment) -> Pe
     }
 }
 
+/// The event that a request means at an instance, whose patterns are those of its dialect.
+fn event_at(
+    alloc: Global,
+    instance: &Instance,
+    request: &Request,
+    bits: u128,
+) -> Result<Event, Refusal>
+    ensures { IsEventIn instance.now.config.dialect request.now bits result }
+{
+    let dialect = instance.config().dialect();
+    event_by(alloc, dialect, instance.patterns(), request, bits)
+}
+
 /// Makes the step of a request at `now`, and begins its reply: a list is written afterwards, a stretch at a time. `bits` are
 /// random: a silence that the request makes gets its identifier by them.
 ///
@@ -119,8 +133,7 @@ pub fn begin_answer(
     // PROMISE: A request is answered by one step and that step's reply, or refused with nothing changed.
     ensures { WhenMade (λ answered. IsRequestAnswer instance.old request.now bits now answered instance.new) result }
 {
-    let dialect = instance.config().dialect();
-    match event_by(alloc, dialect, instance.patterns(), request, bits) {
+    match event_at(alloc, instance, request, bits) {
         Ok(event) => step(alloc, instance, event, now),
         Err(refusal) => refuse(alloc, &refusal),
     }
