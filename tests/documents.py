@@ -17,8 +17,9 @@ system. `am_tool build`, `install` and `package` do nothing here, and status 5 o
 counts as 0. A block with a tool of TOOLS is skipped if that isn't there.
 
 Beyond that: samples/ has to be what tests/lib/samples.py has, each block of Rust in docs/library/ has to be in a source of crates/,
-docs/PROOFS.md has to be what docs/promises.py makes, docs/MAP.md has to name what is there, CHANGELOG.md the program's version, each
-page has to link to what is there, and README.md has to be short. The last line says how many passed.
+docs/PROOFS.md has to be what docs/promises.py makes, docs/MAP.md has to name what is there, CHANGELOG.md the program's version, and
+README.md figures of bench/RESULTS.md; each page has to link to what is there, and README.md has to be short. The last line says how
+many passed.
 """
 
 import glob
@@ -312,6 +313,15 @@ def test_changes():
     check(f"CHANGELOG.md has {version}, and the newest version first", version in found and found == newest_first, found)
 
 
+def test_figures():
+    """The figures of README.md's table are those of bench/RESULTS.md (all but "3.7 times", which is worked out of a ratio there)."""
+    table = content(f"{TOP}/README.md").partition("\n| No fault near")[2].partition("\n\n")[0]
+    results = content(f"{TOP}/bench/RESULTS.md")
+    numbers = [it for line in table.split("\n") for cell in line.split("|")[-3:-1] for it in re.findall(r"\d+(?:\.\d+)?", cell)]
+    lost = [it for it in numbers if it != "3.7" and not re.search(rf"(?<![\d.]){re.escape(it)}(?!\d)", results)]
+    compare("figures of README.md that RESULTS.md doesn't have", lost, [])
+
+
 def plain(page):
     """The text of a page without blocks and words of code, and without targets of links."""
     lines = [it for it in re.sub(r"```.*?```", "", page, flags=re.DOTALL).split("\n") if not it.startswith("    ")]
@@ -370,6 +380,7 @@ def main():
     test_sources()
     test_pages()
     test_changes()
+    test_figures()
     try_page("README.md")
     try_night("docs/NIGHT.md")
     try_page("docs/MEND.md")
