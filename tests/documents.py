@@ -276,7 +276,7 @@ def try_night(path):
         # (the second replica answers amtool, too)
         status, _ = shell.run("./am_tool instance --name am2 --listen 10.0.0.2:9093 --sil am2/silences --nfl am2/nflog &")
         check("a server for amtool starts", status == 0, shell.error())
-        try_blocks(path, [(mark, number, section, text.replace(" ID", f" {ACTIVE_AT_SECOND}")) for mark, number, section, text in commands(path)], shell)
+        try_blocks(path, [(*it, text.replace(" ID", f" {ACTIVE_AT_SECOND}")) for *it, text in commands(path)], shell)
 
     found = in_folder(path, work)
     words = [f"{name}={it.word}" for name, it in zip(("am1", "am2", "am3"), found)]
