@@ -3,7 +3,7 @@
 /// The fields of the head that are about the page: its type, and what a browser is to let it do.
 pub const FIELDS: &str = "\
 content-type: text/html; charset=utf-8\r\n\
-content-security-policy: default-src 'none'; script-src 'sha256-UnSLp9PuL3jIa9oCTAJ+aKmVcvdR6EnYs1Gs1O2l01M='; style-src 'sha256-AVZGnS2QOhhFd8sEJaR8CHArex1rcFLfvaMCskM1bNw='; connect-src 'self'; img-src data:; base-uri 'none'; form-action 'none'; frame-ancestors 'none'; require-trusted-types-for 'script'; trusted-types 'none'\r\n\
+content-security-policy: default-src 'none'; script-src 'sha256-pLpXULBC7JEwnmvxlCDB1b+z1GF6RCg+C3TJzgkX29k='; style-src 'sha256-AVZGnS2QOhhFd8sEJaR8CHArex1rcFLfvaMCskM1bNw='; connect-src 'self'; img-src data:; base-uri 'none'; form-action 'none'; frame-ancestors 'none'; require-trusted-types-for 'script'; trusted-types 'none'\r\n\
 x-content-type-options: nosniff\r\n\
 referrer-policy: no-referrer\r\n\
 cache-control: no-cache\r\n\
@@ -250,8 +250,7 @@ dialog::backdrop { background: rgb(0 0 0 / .55); }\n\
 <script>\n\
 \"use strict\";\n\
 \n\
-// How many silences are listed at once; in milliseconds how long after the last key a filter is sent, how often the member is\n\
-// asked at most, and how long a refresh waits for a mouse that rests.\n\
+// Silences on a page; in milliseconds: from the last key to a filter, between looks, and for a resting mouse.\n\
 const MOST_ROWS = 100, TYPING = 300, EVERY = 15000, RESTING = 60000;\n\
 // How many characters of a text, and how many matchers, stand in a row of the list.\n\
 const MOST_TEXT = 300, MOST_CHIPS = 20;\n\
@@ -262,7 +261,7 @@ const SILENCES = \"api/v2/silences\";\n\
 const UNITS = [[\"w\", 604800], [\"d\", 86400], [\"h\", 3600], [\"min\", 60], [\"s\", 1]];\n\
 // The last moment that a field takes, and a silence.\n\
 const LAST = Date.UTC(9999, 11, 31);\n\
-// A start that has passed: the member takes it for the present, even if the browser's clock is ahead.\n\
+// A start in the past, which a member takes for now, even if this clock is ahead.\n\
 const AT_ONCE = new Date(0).toISOString();\n\
 // What the member's refusals mean.\n\
 const REFUSALS = {\n\
@@ -283,7 +282,7 @@ const REFUSALS = {\n\
 \n\
 const at = (id) => document.getElementById(id);\n\
 \n\
-// An element with attributes, functions that hear its events, and what it holds: texts go in as text.\n\
+// An element with attributes, listeners and content; texts go in as text.\n\
 const make = (tag, attributes, ...children) => {\n\
 \x20\x20const element = document.createElement(tag);\n\
 \x20\x20for (const [name, value] of Object.entries(attributes)) {\n\
@@ -346,7 +345,7 @@ const editLinkOf = (id) => `#/silences/edit/${encodeURIComponent(id)}`;\n\
 \n\
 // ---- words\n\
 \n\
-// A span of milliseconds in so many of its units, from the largest on, as \"1 h 58 min\".\n\
+// Milliseconds in words of so many units, as \"1 h 58 min\".\n\
 const spanWords = (milliseconds, most = 2) => {\n\
 \x20\x20let seconds = Math.max(0, Math.round(milliseconds / 1000));\n\
 \x20\x20const parts = UNITS.map(([unit, length]) => {\n\
@@ -414,7 +413,7 @@ const partsOf = (text) => {\n\
 \x20\x20return (inner.match(/(?:\"(?:\\\\.|[^\"\\\\])*\"?|[^\",\\n])+/gs) ?? []).map((part) => part.trim()).filter(Boolean);\n\
 };\n\
 \n\
-// A part with an operator behind its first word is a filter, which the member reads; others are words that a text has to have.\n\
+// A part with an operator is a filter for the member; other parts are words to look for.\n\
 const isFilter = (part) => /^[^\"\\s=!~]*\\s*(=~|!~|!=|=)/.test(part);\n\
 const isMatcher = (part) => /^[a-z_:][\\w:]*\\s*(=~|!~|!=|=)/i.test(part);\n\
 const isLabel = (text) => /^[a-z_:][\\w:]*$/i.test(text);\n\
@@ -455,7 +454,7 @@ const labelsIn = (text) => {\n\
 \x20\x20return Object.fromEntries(matchers.map(({ name, value }) => [name, value]));\n\
 };\n\
 \n\
-// Why a regular expression can't be read, as far as the browser can say it: flags and names of groups are written otherwise here.\n\
+// Returns why a browser can't read a regular expression: it spells flags and names of groups in another way.\n\
 const reasonOf = (pattern) => {\n\
 \x20\x20try {\n\
 \x20\x20\x20\x20new RegExp(pattern.replace(/\\(\\?[imsU]+\\)/g, \"\").replaceAll(\"(?P<\", \"(?<\"));\n\
@@ -465,7 +464,7 @@ const reasonOf = (pattern) => {\n\
 \x20\x20}\n\
 };\n\
 \n\
-// The first of these matchers whose regular expression can't be read, and words about it; or null.\n\
+// The first matcher with a bad regular expression, and why; or null.\n\
 const brokenOf = (matchers) => {\n\
 \x20\x20const place = matchers.findIndex(({ isRegex, value }) => isRegex && reasonOf(value));\n\
 \x20\x20if (place < 0) return null;\n\
@@ -475,7 +474,7 @@ const brokenOf = (matchers) => {\n\
 \n\
 // ---- what is said\n\
 \n\
-// What was done is told politely, and what failed at once. What a look at the member told is gone with the next look that works.\n\
+// Success is announced politely, failure at once. A failed look is forgotten by the next that works.\n\
 let toldByLook = false;\n\
 const say = (text) => { at(\"said\").textContent = text; };\n\
 const tell = (fault, byLook = false) => {\n\
@@ -493,7 +492,7 @@ const blame = (field, words) => {\n\
 \x20\x20field.setAttribute(\"aria-invalid\", words !== \"\");\n\
 };\n\
 \n\
-// Whether all fields of a form are filled as they should be; the first that isn't has the focus.\n\
+// Whether all fields of a form are valid; focuses the first that isn't.\n\
 const isFilled = (form) => {\n\
 \x20\x20const fields = [...form.querySelectorAll(\"input, select, textarea\")];\n\
 \x20\x20for (const field of fields) blame(field, field.validationMessage);\n\
@@ -502,7 +501,7 @@ const isFilled = (form) => {\n\
 \x20\x20return !wrong;\n\
 };\n\
 \n\
-// Does what a person asked for; while it runs its button can't be pressed again. A fault that is about a field stands below it.\n\
+// Does what was asked for, with its button disabled. Shows a fault of a field below the field.\n\
 const act = async (button, doing, fieldOf = () => null) => {\n\
 \x20\x20const hasFocus = document.activeElement === button;\n\
 \x20\x20button.disabled = true;\n\
@@ -527,7 +526,7 @@ const drawnAgain = (element) => {\n\
 \x20\x20return element?.isConnected ? element : [...document.querySelectorAll(\"[data-key]\")].find((it) => key && it.dataset.key === key);\n\
 };\n\
 \n\
-// Who waits for a person's answer; a question that another one takes the place of is answered no.\n\
+// Who waits for an answer; a question that another one replaces is answered no.\n\
 let answered = null;\n\
 const answer = (goes) => {\n\
 \x20\x20const done = answered;\n\
@@ -559,7 +558,7 @@ const drawReadiness = (ready, name = at(\"member\").querySelector(\"b\")?.textCo
 \x20\x20at(\"member\").replaceChildren(\"Member \", make(\"b\", {}, name), \" \", make(\"span\", { class: kind }, words));\n\
 };\n\
 \n\
-// The figures of a family, by the word of its first label, from what /metrics says; those of further labels are summed.\n\
+// The figures of a family of /metrics by its first label, summed over the others.\n\
 const figuresOf = (metrics, family) => {\n\
 \x20\x20const lines = metrics.matchAll(/^(\\w+)\\{\\w+=\"((?:\\\\.|[^\"\\\\])*)\"[^}]*\\} (\\S+)/gm), found = new Map();\n\
 \x20\x20for (const [, name, word, number] of lines) {\n\
@@ -577,7 +576,7 @@ const heardWords = (seconds) => {\n\
 \n\
 const neighbour = (name, words, kind = \"dim\") => make(\"li\", {}, make(\"b\", {}, name), \" \", make(\"span\", { class: kind }, words));\n\
 \n\
-// The names and addresses of the Alertmanagers beside the member, from its options.\n\
+// The Alertmanagers beside the member, from its options.\n\
 // A port alone is one of the member's own machine.\n\
 const besideOf = (options) => [...options.matchAll(/^--gossip (.*)=(\\S+)$/gm)]\n\
 \x20\x20.map(([, name, address]) => [name, /^\\d+$/.test(address) ? `127.0.0.1:${address}` : address]);\n\
@@ -625,8 +624,7 @@ const changesOf = (first, second) => Object.entries(PARTS)\n\
 \x20\x20.filter(([part]) => !isSame(part, first, second))\n\
 \x20\x20.map(([part, [name, words]]) => `${name}: ${short(words(first[part]))} → ${short(words(second[part]))}`);\n\
 \n\
-// The silence as the member has it now. If it isn't as it was shown, a person is told who changed what, and asked; null if it is\n\
-// to stay as it is.\n\
+// Returns the silence as the member has it now. If somebody changed it, asks first; null to leave it as it is.\n\
 const agreed = async (shown, go, another = \"\") => {\n\
 \x20\x20const now = await ask(pathOf(shown.id)), changes = changesOf(shown, now), ended = hasEnded(now) && !hasEnded(shown);\n\
 \x20\x20if (ended && !another) throw new Fault(REFUSALS[\"silence already expired\"]);\n\
@@ -667,7 +665,7 @@ const expire = async (silence, button) => {\n\
 \x20\x20});\n\
 };\n\
 \n\
-// Shows what was done: in the list in its row, and else on the page of the silence.\n\
+// Shows what was done, in the list's row or the silence's page.\n\
 const settled = async (id, words) => {\n\
 \x20\x20const stays = route.view === \"list\" || (route.view === \"one\" && route.id === id);\n\
 \x20\x20if (!stays) history[route.view === \"edit\" ? \"replaceState\" : \"pushState\"](null, \"\", linkOf(id));\n\
@@ -706,7 +704,7 @@ const passing = () => {\n\
 \x20\x20return words.length ? list.all.filter((silence) => hasWords(silence, words)) : list.all;\n\
 };\n\
 \n\
-// Silences in their order: what ends, or begins, next comes first, and what ended or began last.\n\
+// Silences in order: the next to end or begin first, or the last one.\n\
 const sorted = (silences) => {\n\
 \x20\x20const sort = sortOf(list);\n\
 \x20\x20if (sort === \"creator\") return silences.sort((first, second) => names.compare(first.createdBy, second.createdBy));\n\
@@ -734,7 +732,7 @@ const loadList = async (mine, forced) => {\n\
 \x20\x20drawList(forced);\n\
 };\n\
 \n\
-// Says below the filter why it can't be read, and lists nothing.\n\
+// Says below the filter what is wrong with it.\n\
 const refuseFilter = (filters, fault) => {\n\
 \x20\x20const matchers = filters.map(matcherOf), isRead = filters.every(isMatcher) && matchers.some(({ isRegex }) => isRegex);\n\
 \x20\x20blame(at(\"filter\"), isRead ? brokenOf(matchers)?.words ?? REFUSALS[\"bad pattern\"] : fault.message);\n\
@@ -774,7 +772,7 @@ const countsOf = (silences) => {\n\
 \x20\x20return counts;\n\
 };\n\
 \n\
-// A link to another state or page of the list, with the filter and the order that stand there when it is followed.\n\
+// A link to another state or page of the list, with the filter and order of that moment.\n\
 const linkTo = (others, words, more) => make(\"a\", { class: \"button\", \"data-others\": JSON.stringify(others), ...more }, words);\n\
 const aimLinks = () => {\n\
 \x20\x20for (const link of document.querySelectorAll(\"[data-others]\")) link.href = listLink(JSON.parse(link.dataset.others));\n\
@@ -787,7 +785,7 @@ const drawStates = (counts) => at(\"states\").replaceChildren(...STATES.map((sta
 \x20\x20{ \"data-key\": state, ...(state === list.state && { \"aria-current\": \"page\" }) },\n\
 )));\n\
 \n\
-// The links to the pages before and behind, above the rows and below.\n\
+// Links to the next pages, above and below the rows.\n\
 const drawPages = (from, to, count, last) => {\n\
 \x20\x20for (const nav of document.querySelectorAll(\".pages\")) {\n\
 \x20\x20\x20\x20const turned = (by, words) => (list.page + by < 0 || list.page + by > last\n\
@@ -804,8 +802,7 @@ const listWords = (count) => {\n\
 \x20\x20return `${count ? count.toLocaleString() : \"No\"} ${silences}${list.filter.trim() ? \" for this filter\" : \"\"}`;\n\
 };\n\
 \n\
-// Draws the list. Rows that stay the same stay, but for how long they last; what had the focus has it again. If nobody asked for\n\
-// it, nothing moves below the mouse.\n\
+// Draws the list. Rows that are the same stay, and so does the focus. A refresh moves nothing below the mouse.\n\
 const drawList = (forced) => {\n\
 \x20\x20const passed = passing(), silences = sorted(passed.filter(({ status }) => status.state === list.state));\n\
 \x20\x20const last = Math.max(0, Math.ceil(silences.length / MOST_ROWS) - 1);\n\
@@ -936,10 +933,10 @@ const openOne = () => {\n\
 \n\
 // ---- a silence that is created or updated\n\
 \n\
-// What the form is about: the silence that is updated, or null; and whether its end counts, or its duration.\n\
+// The silence that is updated, or null; and whether the end counts, or the duration.\n\
 const form = { former: null, exact: false };\n\
 \n\
-// What each field began with: what it shows of that, the text itself, of which a field may show less, and what was put there.\n\
+// What each field began with: what it shows, the whole text, and what was put there.\n\
 const begun = new WeakMap();\n\
 const put = (field, text, shown = text) => {\n\
 \x20\x20field.value = shown;\n\
@@ -965,7 +962,7 @@ const isoOf = (time) => new Date(time).toISOString();\n\
 \n\
 let rowCount = 0;\n\
 \n\
-// A field for a value. What one line can't show stands in a text area, and below it as it is quoted.\n\
+// A field for a value; a text area if one line can't show it, with the quoted value below.\n\
 const valueField = (id, text) => {\n\
 \x20\x20const plain = { id, name: \"value\", autocomplete: \"off\", spellcheck: \"false\", \"aria-describedby\": `${id}-hint ${id}-fault` };\n\
 \x20\x20return /[\\n\\r]|^\\s|\\s$/.test(text) ? make(\"textarea\", { rows: 1, ...plain }) : make(\"input\", plain);\n\
@@ -1014,7 +1011,7 @@ const removeMatcher = (row) => {\n\
 \x20\x20at(\"add\").focus();\n\
 };\n\
 \n\
-// A list of matchers that is pasted into a label becomes rows; the one that it is pasted into stays if something stands there.\n\
+// A list of matchers that is pasted into a label becomes rows.\n\
 const paste = (event, row) => {\n\
 \x20\x20const matchers = matchersIn(event.clipboardData.getData(\"text\"));\n\
 \x20\x20if (matchers.length === 0) return;\n\
@@ -1034,7 +1031,7 @@ const matchersOfForm = () => [...at(\"matchers\").children].map((row) => {\n\
 \x20\x20return { name: nameOf(label), value: textOf(field), isRegex: operator.endsWith(\"~\"), isEqual: !operator.startsWith(\"!\") };\n\
 });\n\
 \n\
-// What the form begins with: a silence that is updated or created again, or the matchers of a new one.\n\
+// What the form begins with: a silence, or the matchers of a new one.\n\
 const beginning = (silence, matchers) => {\n\
 \x20\x20const updates = silence && !hasEnded(silence), author = kept(forLong, \"author\");\n\
 \x20\x20return {\n\
@@ -1084,7 +1081,7 @@ const addName = () => {\n\
 \x20\x20at(\"author\").focus();\n\
 };\n\
 \n\
-// What stands in the form is kept, by the address of the form, until it is posted or cancelled.\n\
+// Keeps what is in a form, by its address, until it is posted or cancelled.\n\
 const draftKey = () => `draft ${location.hash}`;\n\
 const keepDraft = () => {\n\
 \x20\x20const matchers = [...at(\"matchers\").children].map((row) => {\n\
@@ -1097,7 +1094,7 @@ const keepDraft = () => {\n\
 const dropDraft = () => drop(forThisTab, draftKey());\n\
 const draft = () => JSON.parse(kept(forThisTab, draftKey()));\n\
 \n\
-// The end follows the start and the duration, and the duration follows the end.\n\
+// The end follows start and duration, and the duration follows the end.\n\
 const startTime = () => timeOf(\"starts\") || Date.now();\n\
 const fits = (length) => length > 0 && startTime() + length < LAST;\n\
 const moveEnd = () => {\n\
@@ -1121,7 +1118,7 @@ const checkForm = () => {\n\
 \x20\x20at(\"ends\").setCustomValidity(!form.exact || timeOf(\"ends\") > startTime() ? \"\" : REFUSALS[\"end not after start\"]);\n\
 };\n\
 \n\
-// The moments of the form. A duration counts from when the silence is posted, if no start is given.\n\
+// The times of the form. A duration counts from the post if no start is given.\n\
 const momentsOfForm = () => {\n\
 \x20\x20const given = at(\"starts\").value !== \"\";\n\
 \x20\x20const startsAt = given ? isoOf(timeOf(\"starts\")) : AT_ONCE;\n\
@@ -1164,8 +1161,7 @@ const save = async () => {\n\
 \x20\x20}, fieldOfRefusal);\n\
 };\n\
 \n\
-// What is posted for a silence that is updated: parts that weren't changed here are those that the member has now. Null if it is to\n\
-// stay as it is.\n\
+// Returns what is posted for an update: what wasn't changed here is as the member has it. Null to leave it as it is.\n\
 const updated = async (former, mine) => {\n\
 \x20\x20const now = await agreed(former, \"Update it all the same\", \"Create another\");\n\
 \x20\x20if (!now) return null;\n\
@@ -1188,8 +1184,7 @@ const openForm = async (query) => {\n\
 \n\
 // ---- what is shown\n\
 \n\
-// The place of the page: a view, and perhaps a silence, as Alertmanager's own page has it. Each look at the member has a turn, and\n\
-// an older one draws nothing.\n\
+// The place of the page, as in Alertmanager's own. Only the newest look at the member draws.\n\
 let route = { view: \"list\", id: \"\" }, turn = 0, timer, typing, scrolling;\n\
 \n\
 const routeOf = (hash) => {\n\
@@ -1206,7 +1201,7 @@ const routeOf = (hash) => {\n\
 \x20\x20}\n\
 };\n\
 \n\
-// Asks the member anew for all that is shown, and again later: the later, the longer it took.\n\
+// Asks the member anew, and again later: the later, the longer it took.\n\
 const look = async (forced = false) => {\n\
 \x20\x20clearTimeout(timer);\n\
 \x20\x20const mine = ++turn, began = performance.now();\n\
@@ -1238,7 +1233,7 @@ const shown = async () => {\n\
 \x20\x20if (isShort && here === route) scrollTo(0, scroll);\n\
 };\n\
 \n\
-// Where somebody comes back to the list, the row that they came from has the focus.\n\
+// Back at the list, focuses the row that one came from.\n\
 const moved = async () => {\n\
 \x20\x20const from = route, { page } = list, shows = shown();\n\
 \x20\x20const row = route.view === \"list\" && history.state && drawnAgain({ dataset: { key: from.id } });\n\
@@ -1246,7 +1241,7 @@ const moved = async () => {\n\
 \x20\x20await shows;\n\
 };\n\
 \n\
-// The mouse, when it moved last, and what is drawn once it has left what it points at.\n\
+// The mouse: when it moved last, and what is drawn once it leaves.\n\
 const mouse = { over: null, moved: 0, place: \"\", later: null };\n\
 const pointsAt = (id) => at(id).contains(mouse.over) && performance.now() - mouse.moved < RESTING;\n\
 const waits = (id, later) => {\n\
