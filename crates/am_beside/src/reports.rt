@@ -35,7 +35,7 @@ fn mark_of(id: &[u8], updated: Moment) -> u64 {
         mark = (mark ^ u64::from(*byte)).wrapping_mul(0x0000_0100_0000_01B3);
     }
     let (seconds, nanos) = updated.parts();
-    let moment = (seconds as u64).wrapping_mul(1_000_000_007) ^ u64::from(nanos);
+    let moment = seconds.cast_unsigned().wrapping_mul(1_000_000_007) ^ u64::from(nanos);
     (mark ^ moment).wrapping_mul(0x0000_0100_0000_01B3)
 }
 
