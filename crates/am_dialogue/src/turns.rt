@@ -1,6 +1,6 @@
 //! Requests for a decision that wait for their member's turn, or until Alertmanagers were heard.
 
-ghost use Rattle.std.specs.Prelude.{◌≡◌, IsTrue};
+ghost use Rattle.std.specs.Prelude.{◌≡◌, Bool, true, false, IsTrue};
 ghost use Rattle.am_http.specs.Sessions.{spoken};
 ghost use Rattle.am_dialogue.specs.Talks.{AsksElsewhere, IsElsewhere};
 ghost use Rattle.am_dialogue.specs.Waiting.{due_of};
@@ -35,7 +35,9 @@ pub struct Turn {
 
 impl Turn {
     /// A request waits for the member's turn, which comes then.
-    pub fn new(request: Request, due: Instant) -> Turn {
+    pub fn new(request: Request, due: Instant) -> Turn
+        ensures { (are_over : Bool) → due_of result are_over ≡ due }
+    {
         Turn {
             request,
             wait: Wait::Turn,
@@ -44,7 +46,10 @@ impl Turn {
     }
 
     /// A request waits since then for the exchanges of a round, until the limit at the latest.
-    pub fn for_exchanges(request: Request, round: u64, since: Instant, limit: Instant) -> Turn {
+    pub fn for_exchanges(request: Request, round: u64, since: Instant, limit: Instant) -> Turn
+        ensures over { due_of result true ≡ since }
+        ensures under_way { due_of result false ≡ limit }
+    {
         Turn {
             request,
             wait: Wait::Exchanges { round, since },
