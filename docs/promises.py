@@ -64,11 +64,11 @@ TAIL = """## Only tested
 - **That the loop** is fair, keeps deadlines, closes the right connection, hands on an answer once the peer ends, and counts unfinished bytes, and that replies come: tests/upkeep.py, tests/edges.py. Members under faults of network, process and disk: tests/chaos.py.
 - **That with `--log`** a reply and its frames wait for the log, so that members with logs are durable: tests/disk.py.
 - **A member's turns, figures, readiness and first pull**, and that it gives each step the right moment: tests/turns.py, tests/operations.py, tests/three_members.py, tests/machines.py.
-- **That pages go out**, and only once if nothing fails: tests/pages.py; with real Alertmanagers tests/real_shims.py, on request.
+- **That pages go out**, and only once if nothing fails: tests/pages.py; with real Alertmanagers, where one is installed, tests/real_shims.py.
 - **Command lines, what is read from a path, a server or logs, the counts of `diff --prometheus`, what `mend` does in turn, pictures' layout, the page for people**: tests/command_line.py, live_sources.py, log_sources.py, gossip.py, pictures.py, page.py (with chromium).
 - **That a member uses its secret, that each listener hears what it should, that what is sealed can be opened, that a reply that isn't about silences is the one of its call, that the rows which `push` and `mend` send are those of the versions that it picks, without a hazard, that a member beside Alertmanagers asks them and sends to them, and that it answers `notify:true` only when each has been asked since the question**: tests/machines.py, tests/gossip.py, tests/beside.py.
 - **Refused memory and hostile input**: tests/refused_memory.py, tests/fuzz.py, am_tests.
-- **That real replicas** of prometheus-alertmanager 0.25.0 do the same: tests/real_replicas.py, on request.
+- **That real replicas** of prometheus-alertmanager 0.25.0 do the same: tests/real_replicas.py, real_beside.py, where one is installed.
 
 ## Trusted
 
