@@ -5,3 +5,4 @@ pub mod Whole
 pub mod EntryRows
 pub mod Told
 pub mod Same
+pub mod Kept

@@ -31,13 +31,15 @@ abbrev pub Asks : Call → List ℕ → Asked → Type 0
 Asks (calls.Decide query) body (asked.Decide question) = IsQuestion query.now body question
 Asks calls.Notified body (asked.Notified notice) = IsNoticeIn body notice
 Asks calls.Log body asked.Log = ⊤
+Asks calls.Alerts body asked.Alerts = ⊤
 Asks _ body _ = ⊥
 
--- what is at fault with a call; nothing is with one for the log
+-- what is at fault with a call; nothing is with one for the log or for the alerts
 abbrev pub HasFault : Call → List ℕ → Cause → Type 0
 HasFault (calls.Decide query) body cause = IsQuestionFault query.now body cause
 HasFault calls.Notified body cause = IsNoticeFault body cause
 HasFault calls.Log body cause = ⊥
+HasFault calls.Alerts body cause = ⊥
 
 -- the call that a request is, or that it is none
 abbrev pub IsCall : Request → Result Call Cause → Type 0

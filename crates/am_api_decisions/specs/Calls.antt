@@ -4,7 +4,7 @@ use Rattle.std.specs.List.{starts_with}
 use Rattle.am_http.specs.Paths.{path_of, query_of}
 use Rattle.am_api_decisions.specs.declared.cause.Cause.{Cause}
 use Rattle.am_api_decisions.specs.declared.cause.Cause.TheVariants.{NoSuchPath, MethodNotAllowed}
-use Rattle.am_api_decisions.specs.declared.cause.Resource.TheVariants.{Decisions, Notices, Entries}
+use Rattle.am_api_decisions.specs.declared.cause.Resource.TheVariants.{Decisions, Notices, Entries, Alerts}
 use Rattle.am_api_decisions.specs.declared.routes.Call.{Call}
 use Rattle.am_api_decisions.specs.declared.routes.Call.TheVariants as calls
 
@@ -12,7 +12,7 @@ use Rattle.am_api_decisions.specs.declared.routes.Call.TheVariants as calls
 abbrev pub is_below : List ℕ → Bool
 is_below target = starts_with nat_eq target (codes "/v1/")
 
--- the paths of the three calls
+-- the paths of the four calls
 abbrev pub decide_path : List ℕ
 decide_path = codes "/v1/decide"
 
@@ -22,19 +22,25 @@ notified_path = codes "/v1/notified"
 abbrev pub log_path : List ℕ
 log_path = codes "/v1/log"
 
+abbrev pub alerts_path : List ℕ
+alerts_path = codes "/v1/alerts"
+
 -- the path is that of no call
 pub record IsNoPath (path : List ℕ) : Type 0 where
   pub no_decision : path ≢ decide_path
   pub no_notice : path ≢ notified_path
   pub no_log : path ≢ log_path
+  pub no_alerts : path ≢ alerts_path
 
 -- the call that a request with this method and target asks for; or its path names nothing, or has no such method
 abbrev pub IsCallOf : List ℕ → List ℕ → Result Call Cause → Type 0
 IsCallOf method target (Ok (calls.Decide query)) = (path_of target ≡ decide_path) × (method ≡ codes "POST") × (query.now ≡ query_of target)
 IsCallOf method target (Ok calls.Notified) = (path_of target ≡ notified_path) × (method ≡ codes "POST")
 IsCallOf method target (Ok calls.Log) = (path_of target ≡ log_path) × (method ≡ codes "GET")
+IsCallOf method target (Ok calls.Alerts) = (path_of target ≡ alerts_path) × (method ≡ codes "GET")
 IsCallOf method target (Err NoSuchPath) = IsNoPath (path_of target)
 IsCallOf method target (Err (MethodNotAllowed Decisions)) = (path_of target ≡ decide_path) × (method ≢ codes "POST")
 IsCallOf method target (Err (MethodNotAllowed Notices)) = (path_of target ≡ notified_path) × (method ≢ codes "POST")
 IsCallOf method target (Err (MethodNotAllowed Entries)) = (path_of target ≡ log_path) × (method ≢ codes "GET")
+IsCallOf method target (Err (MethodNotAllowed Alerts)) = (path_of target ≡ alerts_path) × (method ≢ codes "GET")
 IsCallOf method target (Err _) = ⊥

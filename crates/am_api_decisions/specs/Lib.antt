@@ -9,3 +9,4 @@ pub mod Deciding
 pub mod Settling
 pub mod Noticing
 pub mod Entries
+pub mod Recent

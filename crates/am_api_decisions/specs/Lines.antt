@@ -9,7 +9,7 @@ use Rattle.am_refusals.specs.declared.error.StepError.TheVariants.{MomentBack, F
 use Rattle.am_api_decisions.specs.declared.cause.Cause.{Cause}
 use Rattle.am_api_decisions.specs.declared.cause.Cause.TheVariants.{NoSuchPath, MethodNotAllowed, BadQuery, BadJson, BadMessage, Truncated, Memory}
 use Rattle.am_api_decisions.specs.declared.cause.Resource.{Resource}
-use Rattle.am_api_decisions.specs.declared.cause.Resource.TheVariants.{Decisions, Notices, Entries}
+use Rattle.am_api_decisions.specs.declared.cause.Resource.TheVariants.{Decisions, Notices, Entries, Alerts}
 use Rattle.am_api_decisions.specs.declared.cause.Word.{Word}
 use Rattle.am_api_decisions.specs.declared.cause.Word.TheVariants.{Repeat, Resolved, Wait, Index}
 
@@ -18,6 +18,7 @@ abbrev pub allowed_at : Resource → List ℕ
 allowed_at Decisions = codes "POST"
 allowed_at Notices = codes "POST"
 allowed_at Entries = codes "GET"
+allowed_at Alerts = codes "GET"
 
 -- what is said of a word of the query
 abbrev pub bad_word : Word → List ℕ

@@ -22,7 +22,11 @@ fn copied_label(alloc: Global, label: &Label) -> Result<Label, AllocError>
 }
 
 /// A copy of labels.
-fn copied_labels(alloc: Global, labels: &Labels) -> Result<Labels, AllocError>
+///
+/// # Errors
+///
+/// [`AllocError`] where memory ran out.
+pub fn copied_labels(alloc: Global, labels: &Labels) -> Result<Labels, AllocError>
     ensures { IfOk result (λ copy. copy ≡ labels.now) }
 {
     let labels = labels.as_slice();

@@ -28,6 +28,8 @@ pub enum Asked {
     Notified(Notice),
     /// The live entries of the log.
     Log,
+    /// The alerts of the last messages.
+    Alerts,
 }
 
 impl Question {
@@ -60,6 +62,7 @@ fn asked_by(alloc: Global, call: Call<'_>, body: &[u8]) -> Result<Asked, Cause>
         Call::Decide { query } => Ok(Asked::Decide(question_in(alloc, query, body)?)),
         Call::Notified => Ok(Asked::Notified(notice_in(alloc, body)?)),
         Call::Log => Ok(Asked::Log),
+        Call::Alerts => Ok(Asked::Alerts),
     }
 }
 

@@ -16,6 +16,8 @@ pub enum Resource {
     Notices,
     /// `/v1/log`
     Entries,
+    /// `/v1/alerts`
+    Alerts,
 }
 
 /// A word of the query that may be at fault.
@@ -55,6 +57,7 @@ impl Resource {
             Resource::Decisions => "POST",
             Resource::Notices => "POST",
             Resource::Entries => "GET",
+            Resource::Alerts => "GET",
         }
     }
 }

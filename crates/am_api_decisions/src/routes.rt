@@ -17,6 +17,8 @@ pub enum Call<'a> {
     Notified,
     /// The live entries of the log.
     Log,
+    /// The alerts of the last messages.
+    Alerts,
 }
 
 /// What the paths of all calls on decisions begin with.
@@ -62,6 +64,10 @@ pub fn call_of<'a>(method: &str, target: &'a str) -> Result<Call<'a>, Cause>
         "/v1/log" => match method {
             "GET" => Ok(Call::Log),
             _ => Err(Cause::MethodNotAllowed(Resource::Entries)),
+        },
+        "/v1/alerts" => match method {
+            "GET" => Ok(Call::Alerts),
+            _ => Err(Cause::MethodNotAllowed(Resource::Alerts)),
         },
         _ => Err(Cause::NoSuchPath),
     }

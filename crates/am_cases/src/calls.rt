@@ -2,7 +2,8 @@
 
 use crate::members::print_held;
 use am_api_decisions::{
-    Asked, Deciding, Question, Timing, asked_of, begin_log, is_for_decisions, log_notice,
+    Asked, Deciding, Question, RecentAlerts, Timing, asked_of, begin_log, is_for_decisions,
+    log_notice,
 };
 use am_api_silences::{PendingAnswer, PendingReply, ReplyBytes, refuse};
 use am_http::{Read, Refusal, Request, read_request};
@@ -88,6 +89,8 @@ fn answered(
             Ok(reply) => quiet(case, reply),
             Err(refusal) => refuse(case.alloc, &refusal),
         },
+        // (a case has no messages but its own)
+        Ok(Asked::Alerts) => quiet(case, RecentAlerts::new(case.alloc).told(case.alloc)),
     }
 }
 

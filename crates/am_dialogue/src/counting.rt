@@ -57,7 +57,7 @@ fn kind_of_decision(method: &str, target: &str) -> Request {
         Ok(decisions::Call::Decide { .. }) => Request::Decide,
         Ok(decisions::Call::Notified) => Request::Notified,
         Ok(decisions::Call::Log) => Request::Log,
-        Err(_) => Request::Other,
+        Ok(decisions::Call::Alerts) | Err(_) => Request::Other,
     }
 }
 

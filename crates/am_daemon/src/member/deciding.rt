@@ -174,6 +174,7 @@ impl<U: Keeper> Desk<'_, U> {
                 request_bytes(&request),
             ),
             Ok(Asked::Log) => self.list_log(instance),
+            Ok(Asked::Alerts) => self.list_recent(instance),
             Err(refusal) => Called::Refused(refusal),
         }
     }
@@ -227,6 +228,8 @@ impl<U: Keeper> Desk<'_, U> {
     {
         let alerts = question.message.alerts.len() as u64;
         self.upkeep.figures().step(Step::Mutes, alerts);
+        // (where there is no memory for it, its alerts aren't told by others' calls)
+        let _ = self.recent.note(self.alloc, &question.message);
         let deciding = Deciding::new(self.alloc, question);
         self.go_on_deciding(instance, Deliberation { deciding, unheard })
     }
@@ -330,6 +333,13 @@ impl<U: Keeper> Desk<'_, U> {
             Ok(writing) => Called::Later(CallProgress::Log(writing)),
             Err(refusal) => Called::Refused(refusal),
         }
+    }
+
+    /// Lists the alerts of the last messages.
+    fn list_recent(&mut self, instance: &Instance) -> Called {
+        let reply = self.recent.told(self.alloc);
+        let outbox = FrameSender::new(self.alloc);
+        self.made(instance, PendingReply::Whole(reply), outbox)
     }
 
     /// A reply that a step has made, now that what it sends goes out.

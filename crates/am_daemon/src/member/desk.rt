@@ -1,6 +1,7 @@
 //! What answers those who connect to a member.
 
 use super::links::{address_of, hand_all, hand_nothing};
+use am_api_decisions::RecentAlerts;
 use am_dialogue::{Share, Timers, Turns};
 use am_faults::Fault;
 use am_instance::{Config, Instance, Place};
@@ -32,6 +33,8 @@ pub struct Desk<'a, U> {
     pub awaited: Vec<Place>,
     /// How many requests for decisions wait.
     pub turns: Turns,
+    /// The alerts of the last messages that it was asked about.
+    pub recent: RecentAlerts,
     /// How often one has begun to wait for the Alertmanagers beside the member: the round in which they are asked from now on.
     pub round: u64,
     /// The member is to stop.

@@ -3,6 +3,7 @@
 use super::clerk::Clerk;
 use super::desk::Desk;
 use super::guarding::{hosts_of, opening};
+use am_api_decisions::RecentAlerts;
 use am_attendant::{Member, live};
 use am_beside::Replicas;
 use am_dialogue::{Intervals, Share, Timers, Turns};
@@ -269,6 +270,7 @@ fn clerk_of<'a, U>(
         shares,
         awaited,
         turns: Turns::new(waiting),
+        recent: RecentAlerts::new(alloc),
         round: 0,
         stops: false,
         turns_away: false,
