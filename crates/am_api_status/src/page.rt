@@ -3,7 +3,7 @@
 /// The fields of the head that are about the page: its type, and what a browser is to let it do.
 pub const FIELDS: &str = "\
 content-type: text/html; charset=utf-8\r\n\
-content-security-policy: default-src 'none'; script-src 'sha256-pLpXULBC7JEwnmvxlCDB1b+z1GF6RCg+C3TJzgkX29k='; style-src 'sha256-AVZGnS2QOhhFd8sEJaR8CHArex1rcFLfvaMCskM1bNw='; connect-src 'self'; img-src data:; base-uri 'none'; form-action 'none'; frame-ancestors 'none'; require-trusted-types-for 'script'; trusted-types 'none'\r\n\
+content-security-policy: default-src 'none'; script-src 'sha256-PDPrmHvgbnBUhLbYuGvu8/66fhAQhcmfI0fGgBCbIcg='; style-src 'sha256-keS0rPQMTrcc2BK+SwDCFvMQxp8jwaK0YvSfU840mpc='; connect-src 'self'; img-src data:; base-uri 'none'; form-action 'none'; frame-ancestors 'none'; require-trusted-types-for 'script'; trusted-types 'none'\r\n\
 x-content-type-options: nosniff\r\n\
 referrer-policy: no-referrer\r\n\
 cache-control: no-cache\r\n\
@@ -84,6 +84,7 @@ button:disabled, .off { color: var(--dim); cursor: default; }\n\
 #facts { display: grid; grid-template-columns: max-content 1fr; gap: .25rem 1rem; margin: .75rem 0; }\n\
 #facts dt { color: var(--dim); }\n\
 #facts dd { margin: 0; overflow: clip; overflow-wrap: anywhere; }\n\
+#mutes { min-height: 1.5rem; }\n\
 fieldset { margin: 0 0 .75rem; padding: .5rem .75rem; border: 1px solid var(--rule); border-radius: .4rem; }\n\
 fieldset .line { padding-bottom: .5rem; border-bottom: 1px solid var(--rule); }\n\
 fieldset .line > button { margin-top: 1.5rem; }\n\
@@ -168,6 +169,7 @@ dialog::backdrop { background: rgb(0 0 0 / .55); }\n\
 \x20\x20<section id=\"one\" aria-labelledby=\"one-head\" hidden>\n\
 \x20\x20\x20\x20<h2 id=\"one-head\" tabindex=\"-1\">Silence</h2>\n\
 \x20\x20\x20\x20<dl id=\"facts\"></dl>\n\
+\x20\x20\x20\x20<p id=\"mutes\"></p>\n\
 \x20\x20\x20\x20<p class=\"line\">\n\
 \x20\x20\x20\x20\x20\x20<button id=\"extend\" type=\"button\">Extend …</button>\n\
 \x20\x20\x20\x20\x20\x20<a id=\"edit-it\" class=\"button\">Edit</a>\n\
@@ -869,12 +871,16 @@ const mutingWords = (shown, more) => {\n\
 \x20\x20return more === 0 ? `${shown} silences mute it:` : `${shown + more} silences mute it; the first ${shown}:`;\n\
 };\n\
 \n\
-// Asks the member which silences mute an alert with these labels. It decides nothing: the alert is told as one that has ended.\n\
+// Asks the member which of these alerts are muted, and by which silences. It decides nothing: they are told as ones that have ended.\n\
+const mutedOf = async (alerts) => {\n\
+\x20\x20const told = alerts.map((labels) => ({ status: \"resolved\", labels }));\n\
+\x20\x20return (await post(\"v1/decide?wait=false\", { groupKey: \"page\", receiver: \"page\", alerts: told })).muted;\n\
+};\n\
+\n\
 const judge = () => act(at(\"find\"), async () => {\n\
 \x20\x20const labels = labelsIn(at(\"labels\").value), here = route;\n\
 \x20\x20if (!labels) throw new Fault(\"Write the labels as alertname=\\\"Down\\\", instance=\\\"db1:9100\\\", or as JSON.\", \"labels\");\n\
-\x20\x20const { muted } = await post(\"v1/decide?wait=false\", { groupKey: \"page\", receiver: \"page\", alerts: [{ status: \"resolved\", labels }] });\n\
-\x20\x20const { silencedBy = [], silencedByMore = 0 } = muted[0] ?? {};\n\
+\x20\x20const [{ silencedBy = [], silencedByMore = 0 } = {}] = await mutedOf([labels]);\n\
 \x20\x20const silences = await Promise.all(silencedBy.map((id) => ask(pathOf(id))));\n\
 \x20\x20if (here !== route) return;\n\
 \x20\x20blame(at(\"labels\"), \"\");\n\
@@ -896,6 +902,20 @@ const one = { silence: null, drawn: \"\" };\n\
 const loadOne = async (mine, forced) => {\n\
 \x20\x20const silence = await ask(pathOf(route.id));\n\
 \x20\x20if (mine === turn) drawOne(silence, forced);\n\
+};\n\
+\n\
+// How many of the last messages' alerts a silence mutes; nothing if none.\n\
+const mutesWords = async ({ id, status: { state } }) => {\n\
+\x20\x20const alerts = state === \"active\" ? await ask(\"v1/alerts\") : [], count = alerts.length;\n\
+\x20\x20if (count === 0) return \"\";\n\
+\x20\x20const muted = await mutedOf(alerts), isNamed = ({ silencedBy }) => silencedBy.includes(id);\n\
+\x20\x20const least = muted.some((it) => it.silencedByMore > 0 && !isNamed(it)) ? \"at least \" : \"\";\n\
+\x20\x20return `Mutes ${least}${muted.filter(isNamed).length} of ${count} ${count === 1 ? \"alert\" : \"alerts\"} of the last messages.`;\n\
+};\n\
+\n\
+const tellMutes = async (silence) => {\n\
+\x20\x20const words = await mutesWords(silence).catch(() => \"\");\n\
+\x20\x20if (silence === one.silence) at(\"mutes\").textContent = words;\n\
 };\n\
 \n\
 const drawOne = (silence, forced) => {\n\
@@ -921,11 +941,13 @@ const drawOne = (silence, forced) => {\n\
 \x20\x20for (const button of [\"extend\", \"edit-it\", \"expire\"]) at(button).hidden = ended;\n\
 \x20\x20at(\"recreate\").hidden = !ended;\n\
 \x20\x20at(\"edit-it\").href = at(\"recreate\").href = editLinkOf(id);\n\
+\x20\x20tellMutes(silence);\n\
 };\n\
 \n\
 const openOne = () => {\n\
 \x20\x20Object.assign(one, { silence: null, drawn: \"\" });\n\
 \x20\x20at(\"facts\").replaceChildren();\n\
+\x20\x20at(\"mutes\").textContent = \"\";\n\
 \x20\x20at(\"one-head\").textContent = \"Silence\";\n\
 \x20\x20for (const id of [\"extend\", \"edit-it\", \"expire\", \"recreate\"]) at(id).hidden = true;\n\
 \x20\x20at(\"back\").href = listLink();\n\
