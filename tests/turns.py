@@ -27,6 +27,9 @@ TURN = 2
 # The smallest limits of bytes and the largest body.
 MOST_BODY = 1_048_576
 
+# How many alerts of the last messages are kept, and as how many bytes one counts at most, with 64 for each label.
+MOST_ALERTS, MOST_COUNTED, LABEL = 512, 2_048, 64
+
 
 def member(name, folder, options=(), before=("a",)):
     """A member behind others, which aren't there; it has begun."""
@@ -229,6 +232,46 @@ def test_late(folder):
     compare("without its moment it is logged", told(first, undated), (200, b'{"logged":true}'))
     for of in first, second:
         of.kill()
+
+
+def test_alerts(folder):
+    """The alerts that fire in the last message of each group are listed, the newest message first, within their bounds."""
+    of = member("a", folder, before=("b",))
+    fires = lambda key, *names: answered(asked(of, "/v1/decide?wait=false", message(key, *names)))
+    ends = lambda key, *names: answered(asked(of, "/v1/decide", message(key, *names, status="resolved")))
+    names = lambda: [it["alertname"] for it in json.loads(of.ask("GET", "/v1/alerts")[1])]
+    compare("before the first message", of.ask("GET", "/v1/alerts"), (200, b"[]\n"))
+    fires("g", "A", "B"), fires("h", "C")
+    wanted = b'[{"alertname":"C"},{"alertname":"A"},{"alertname":"B"}]\n'
+    compare("the newest message first", of.ask("GET", "/v1/alerts?x=y"), (200, wanted))
+    fires("g", "B", "D")
+    compare("the same group again", names(), ["B", "D", "C"])
+    ends("g", "B", "D")
+    compare("a group that is resolved", names(), ["C"])
+    ends("page", "C")
+    compare("the page's question leaves nothing", names(), ["C"])
+    compare("a silence is posted", post(of, "E"), 200)
+    compare("a group that is muted", decided(fires("i", "E")), (200, False, "Muted"))
+    compare("is listed too", names(), ["E", "C"])
+    largest = MOST_COUNTED - LABEL - len("alertname") - len("j")
+    fires("j", "x" * largest, "y" * (largest + 1))
+    compare("the largest, and one that is larger", [len(it) for it in names()], [largest, 1, 1])
+    fires("k" * (MOST_COUNTED + 1), "K")
+    compare("a group with a large key", [len(it) for it in names()], [largest, 1, 1])
+    fires("l", *(f"n{number}" for number in range(600)))
+    compare("a large message", names(), [f"n{number}" for number in range(MOST_ALERTS)])
+    for number in range(65):
+        fires(f"m{number}", f"m{number}")
+    kept = [f"m{number}" for number in reversed(range(65))] + [f"n{number}" for number in range(MOST_ALERTS - 65)]
+    compare("the oldest are forgotten", names(), kept)
+    for number in range(4):
+        fires(str(number), *(f"{place:03}" + "x" * (largest - 3) for place in range(MOST_ALERTS // 4)))
+    compare("as many of the largest", [len(it) for it in names()], [largest] * MOST_ALERTS)
+    compare("fit into one message", ends("page", *names())[0], 200)
+    for method in "POST", "PUT", "DELETE", "HEAD":
+        reply = of.send(request(method, "/v1/alerts"))
+        compare(f"{method} of them", (parted(reply)[0], b"\r\nallow: GET\r\n" in reply), (405, True))
+    of.kill()
 
 
 def test_log(folder):
