@@ -1327,6 +1327,7 @@ IN_BROWSER = [
     test_layout,
     test_steady,
     test_alert,
+    test_mutes,
     test_beside,
     test_keyboard,
     test_sight,

@@ -290,7 +290,7 @@ def main():
     members.choose("turns", sys.argv[1:])
     with tempfile.TemporaryDirectory(prefix="am_turns_") as folder:
         with contextlib.suppress(KeyboardInterrupt):
-            try_each([test_turn, test_limit, test_gone, test_stop, test_faults, test_large, test_dear, test_late, test_log], folder)
+            try_each([test_turn, test_limit, test_gone, test_stop, test_faults, test_large, test_dear, test_late, test_alerts, test_log], folder)
     finish("turns")
 
 
