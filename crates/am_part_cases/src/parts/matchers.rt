@@ -173,7 +173,8 @@ fn both_mutes(case: &Case, rest: &str) {
     let held = case.held(silences);
     let mut patterns = PatternCache::new(case.alloc);
     for words in text.split("; ") {
-        let (word, names) = first(behind(words, "at ", "-"));
+        let (_, rest) = first(words);
+        let (word, names) = first(rest);
         let now = case.moment(word);
         let labels = Labels::new(case.list(names, " "));
         print_mutes(case, case.made(patterns.mutes(&held, &labels, now)));
