@@ -235,7 +235,7 @@ class Notifier:
         # (what failed is asked again each time when all turns are over)
         late = (asked - self.due[incident]) % (len(NAMES) * TURN)
         start = start if start == self.round.start_of(self.member) else None
-        self.decided[incident] = Decided(asked, replied, start, paged, late)
+        self.decided[incident] = self.decided[incident, paged] = Decided(asked, replied, start, paged, late)
         return status, reply
 
     def shown(self, body):
@@ -247,7 +247,8 @@ class Notifier:
     def page(self, body):
         """A page goes out. It is the last one where the am_pager is to die behind it."""
         incident, content = self.shown(body)
-        found = self.decided[incident]
+        # (a reply may come so late that its am_pager has asked again meanwhile, of other alerts, and pages by that)
+        found = self.decided.get((incident, content), self.decided[incident])
         if content != found.paged:
             self.round.complain("replies", f"{incident.name}: {content} is paged, and not {found.paged}")
         due = found.asked + TURNS[self.name]
