@@ -30,7 +30,7 @@ PARTS = {
     "Members, from bytes to bytes": [
         "am_http", "am_silence_json", "am_api_silences", "am_decision_json", "am_api_decisions", "am_api_status", "am_metrics",
         "am_figures", "am_gossip", "am_seal", "am_gate", "am_peers", "am_member", "am_connection", "am_reactor", "am_living", "am_attendant",
-        "am_dialogue", "am_upkeep", "am_self", "am_daemon",
+        "am_dialogue", "am_lines", "am_upkeep", "am_self", "am_daemon",
     ],
     "Files, comparing and mending": ["am_snapshot", "am_report", "am_lzw", "am_memberlist", "am_mend", "am_beside", "am_commands", "am_disk", "am_journal", "am_files"],
     "Rules": ["am_version_order", "am_merge", "am_silence", "am_nflog", "am_dedup", "am_alert_hash", "am_matcher", "am_wire", "am_streams"],
@@ -63,24 +63,31 @@ TAIL = """## Only tested
 - **That definitions mean what people want**: [cases/](CASES.md), worked out by hand.
 - **That the loop** is fair, keeps deadlines, closes the right connection, hands on an answer once the peer ends, and counts unfinished bytes, and that replies come: tests/upkeep.py, tests/edges.py. Members under faults of network, process and disk: tests/chaos.py.
 - **That with `--log`** a reply and its frames wait for the log, so that members with logs are durable: tests/disk.py.
-- **A member's turns, figures, readiness and first pull**, and that it gives each step the right moment: tests/turns.py, tests/operations.py, tests/three_members.py, tests/machines.py.
-- **That pages go out**, and only once if nothing fails: tests/pages.py; with real Alertmanagers, where one is installed, tests/real_shims.py.
+- **A member's turns, figures, readiness and first pull**, that a decision is broken off at its limit and not before, and that it gives each step the right moment: tests/turns.py, tests/operations.py, tests/three_members.py, tests/machines.py.
+- **That pages go out**, and only once if nothing fails: tests/pages.py; with real Alertmanagers, if one is installed, tests/real_shims.py.
 - **Command lines, what is read from a path, a server or logs, the counts of `diff --prometheus`, what `mend` does in turn, pictures' layout, the page for people**: tests/command_line.py, live_sources.py, log_sources.py, gossip.py, pictures.py, page.py (with chromium).
-- **That a member uses its secret, that each listener hears what it should, that what is sealed can be opened, that a reply that isn't about silences is the one of its call, that the rows which `push` and `mend` send are those of the versions that it picks, without a hazard, that a member beside Alertmanagers asks them and sends to them, and that it answers `notify:true` only when each has been asked since the question**: tests/machines.py, tests/gossip.py, tests/beside.py.
+- **Secrets, Alertmanagers, and replies that aren't about silences**: tests/machines.py, tests/gossip.py, tests/beside.py. They see
+  - that a member uses its secret, gives each connection a random challenge of its own, and seals by the one that it was given; that what is sealed can be opened; that each listener hears what it should;
+  - that a member beside Alertmanagers asks them and sends to them, and answers `notify:true` only when each has been asked since the question;
+  - that the rows which `push` and `mend` send are those of the versions that they pick, without a hazard;
+  - that a reply that isn't about silences is the one of its call.
+- **That the fields of a later release reach** a member's files, logs, peers and the Alertmanagers beside it if it keeps them, and which ones are told as lost, also by a member and of matchers and moments (no clause speaks of `Losses`, am_report): tests/kept_fields.py, beside.py, command_line.py. That a step, a file and a log keep them is proved (`kept` of `IsStep` in am_instance, `recover` in am_files).
 - **Refused memory and hostile input**: tests/refused_memory.py, tests/fuzz.py, am_tests.
-- **That real replicas** of prometheus-alertmanager 0.25.0 do the same: tests/real_replicas.py, real_beside.py, where one is installed.
+- **That real replicas** of prometheus-alertmanager 0.25.0 do the same: tests/real_replicas.py, real_beside.py, if one is installed.
 
 ## Trusted
 
-You have to trust the toolchain, the C library, the statements of the kit's crates, the disk, and that nobody can make an HMAC without its key. Nobody promises that there is enough memory, or that a frame arrives. No contract says
+You have to trust the toolchain, the C library, the statements of the kit's crates and the disk. You also have to trust that nobody can make an HMAC without its key, or foresee the system's random bytes. Nobody promises that there is enough memory, or that a frame arrives. No contract says
 
-- that `Memory` is answered only if an allocation was refused, or `Read` only if a read failed;
+- that `Memory` is answered only if an allocation was refused, and `Read` only if a read failed;
 - which patterns `regex` finds too big, so that `hazard_of` may call any pattern refused; or which ones are compiled before a step;
 - that a pattern of RE2 and its translation match the same texts (cases/re2.txt, recorded from Go);
 - that the frames of a connection's pieces are those of all its bytes together: `connection` says it piece by piece;
 - that an unfinished head of over 64 fields is refused at once;
 - which canonical texts are kept as they came, or that `sort_row` refuses a row over 64 MiB;
 - that `SystemDisk` and `LogFile` make the calls that they note, and that bytes outside of a write stay;
+- when an Alertmanager beside a member is asked next and what its messages say, that what comes for it is taken, or that each silence that isn't sent is reported just once: two of them may share a mark;
+- when a clock is read, or that a stream whose other end has left says so;
 - how long an answer takes.
 
 [wrong/README](../wrong/README.md) lists wrong bodies that are refused, and those that get through.

@@ -19,8 +19,9 @@ from lib.error_lines import EARLY
 from lib.members import choose, free_ports, run, run_at_terminal
 from lib.row_faults import fault_of
 from lib.samples import ENTRY, FIRST, ORDERS, ORDERS_OUTPUT, RESTARTED, RESTARTED_OUTPUT, SECOND
-from lib.tally import check, compare, finish
-from lib.versions import row
+from lib.tally import check, compare, finish, try_each
+from lib.versions import entry, number, of_later, row, silence
+from lib.wire import delimited, field, fields_of
 
 # FIRST with an old comment, and ENTRY with its hashes one by one.
 COMMENTED = bytes.fromhex("2b0a240a0161120812036a6f621a01781a02080a220208642a02080a3a090a016f120268691a00120308c801")
@@ -74,6 +75,7 @@ Options:
       --now <MOMENT>        The moment of taking, in nanoseconds since 1970 or as 2026-11-26T12:00:00Z; with --log it may be left out
       --log                 Joins each file with the logs beside it, FILE.log and FILE.log.old, which a member with --log keeps
       --most-bytes <BYTES>  How many bytes each input and the result may have, 1 to 4294967295 [default: 67108864]
+      --keep-unknown        Keeps the fields of versions that aren't known here, as those of a later Alertmanager; without it, they are dropped
   -h, --help                Print help
 
 Examples:
@@ -93,6 +95,7 @@ Options:
       --now <MOMENT>   The moment of the view, in nanoseconds since 1970 or as 2026-11-26T12:00:00Z; without it, the clock's
       --json           Prints a list in JSON, on one line: silences as API v2 shows them, or entries of the log
       --log            Joins each file with the logs beside it, FILE.log and FILE.log.old, which a member with --log keeps
+      --keep-unknown   Keeps the fields of versions that aren't known here, as those of a later Alertmanager; without it, they are dropped
   -h, --help           Print help
 
 Examples:
@@ -120,8 +123,8 @@ Options:
   -h, --help            Print help
 
 Of each key that differs there is a line for each group of sources that hold the same there: first those that have the
-greatest version, which counts, then those that are behind, and by what (update, expiry or bytes), and then those that
-hold nothing.
+greatest version, which counts, then those that are behind, and by what (update, expiry, bytes or unknown fields), and
+then those that hold nothing.
 
 By gossip://HOST:PORT, where it listens for other replicas, an Alertmanager tells all it holds, so it is compared as its files
 are, and takes no notice.
@@ -185,7 +188,7 @@ The status is 0 where the replica holds all of them or greater ones, and 5 where
 something would be sent.
 
 Examples:
-  cat a.sil b.sil c.sil | am_tool fold --state sil --now 0 | am_tool push --state sil gossip://10.0.0.1:9094
+  cat a.sil b.sil c.sil | am_tool fold --keep-unknown --state sil --now 0 | am_tool push --state sil gossip://10.0.0.1:9094
   am_tool push --state nfl --dry-run gossip://10.0.0.1:9094 < all.nfl
 """
 
@@ -202,6 +205,7 @@ Options:
       --open-peers                   Hears frames without --secret also at an address that other machines reach: whoever reaches it can change silences
       --gossip <NAME=ADDRESS:PORT>   An Alertmanager beside which it runs, and the address of its gossip (--cluster.listen-address), or its port alone on 127.0.0.1: each holds what the other does; any number of times, each by a name of its own
       --patterns <DIALECT>           Which regular expressions patterns are: regex, or re2, as an Alertmanager means them, which refuses more posts; without it re2 with --gossip, and else regex
+      --keep-unknown                 Keeps the fields of versions that aren't known here, as those of a later Alertmanager, and sends them on; with --gossip it always does, and without either they are dropped
       --host <NAME>                  A name by which it is asked beside 127.0.0.1, localhost and the address of --listen, as that of a proxy; any number of times. Under any other it answers 403, and so it does the page of another site
       --sil <FILE>                   The file of the silences; where there is none, it holds none
       --nfl <FILE>                   The file of the notification log; where there is none, it is empty
@@ -209,12 +213,14 @@ Options:
       --peer-timeout <S>             For how many seconds members wait for one another before they notify, 1 to 999999999 [default: 15]
       --connections <N>              After how many connections it saves both files and ends, 1 to 18446744073709551615; without it, it goes on
       --time-limit <S>               For how many seconds a connection may last, of a client or to a peer, 1 to 3600 [default: 5]
+      --decide-limit <S>             How many seconds a decision may take once its turn has come, 1 to 3600; then alerts that aren't held against all silences count as not muted [default: 10]
       --at-once <N>                  How many connections it serves at once, 1 to 65535; one that comes beyond gets the place of the one on which nothing has moved for longest [default: 256]
       --waiting <N>                  How many requests for a decision wait for its turn, 1 to 65535, and no more than half of --at-once; one that comes beyond is answered 503 [default: 128]
       --most-unfinished <BYTES>      How many bytes of unfinished requests and frames it keeps in all, 1 to 18446744073709551615; beyond, the connection that has most of them is closed [default: 134217728]
       --most-bytes <BYTES>           How many bytes a file may have, of the silences or of the log, 1 to 4294967295; a post for which there is no room is answered 500 [default: 1073741824]
       --lines-a-second <N>           How many lines of one kind of fault it prints in a second, 1 to 65535; further ones are counted in a line [default: 10]
       --tick-every <S>               Ticks by itself every so many seconds, 1 to 999999999: drops what has expired, and saves both files
+      --trust-clock                  Ticks even where the clock went ahead by more than --retention in a moment; without it, it then drops nothing, and says so each minute
       --pull-every <S>               Asks each peer for all it has every so many seconds, 1 to 999999999, and says at the start which spread and flight time that keeps
       --save-every <S>               Saves both files every so many seconds, 1 to 999999999, where something may have changed
       --gossip-every <S>             Asks each --gossip for all it has every so many seconds, 1 to 999999999, and gives back what it lacks; new versions go to it at once [default: 60]
@@ -363,8 +369,8 @@ CASES = [
         UNEXPECTED.format("--stat") + "\n  tip: a similar argument exists: '--state'\n" + FOLD_USAGE.replace("[OPTIONS] ", ""),
     ),
     (["--now", "0"], b"", 2, b"", UNEXPECTED.format("--now") + USAGE),
-    (["--version"], b"", 0, b"am_tool 0.1.0\n", ""),
-    (["-V"], b"", 0, b"am_tool 0.1.0\n", ""),
+    (["--version"], b"", 0, b"am_tool 0.2.0\n", ""),
+    (["-V"], b"", 0, b"am_tool 0.2.0\n", ""),
     (["fold", "--version"], b"", 2, b"", UNEXPECTED.format("--version") + AS_VALUE.format("--version") + FOLD_USAGE),
     (["unfold"], b"", 2, b"", UNKNOWN.format("unfold") + "\n  tip: a similar subcommand exists: 'fold'\n" + USAGE),
     (["replay", "extra"], b"", 2, b"", UNEXPECTED.format("extra") + REPLAY_USAGE),
@@ -466,7 +472,7 @@ CASES = [
 CUT = 40
 
 
-def test_words():
+def test_words(_folder):
     for words, given, status, output, error in CASES:
         compare(f"am_tool {words}", run(words, input=given), (status, output, error))
 
@@ -535,6 +541,31 @@ PENDING = b"pending 2001-09-09T01:46:40.000Z 2001-09-09T01:48:20.000Z\n"
 
 DIFF = ["diff", "--state", "sil", "a=-", "b=/dev/null", "--now"]
 
+# The first sample with the fields 10 and 11 in its silence, and 8 beside it; and what a person is told who folds it.
+OF_LATER = bytes.fromhex("29 0a1f 0a0161 1208 12036a6f62 1a0178 1a02080a 22020864 2a02080a 520170 588100 120308c801 420171")
+LOSES = "am_tool: warning: {} fields that are not known here: {} (--keep-unknown keeps them)\n"
+
+# The same sample with the field 9 in its matcher, 12 in its start and its expiry, and an old comment with the field 4 whose moment
+# has 3: these are dropped by all. An entry with the field 9 in its receiver.
+OF_PARTS = (
+    field(1, b"a")
+    + field(2, field(2, b"job") + field(3, b"x") + number(9, 1))
+    + field(3, number(1, 10) + number(12, 1))
+    + field(4, number(1, 100))
+    + field(5, number(1, 10))
+    + field(7, field(1, b"o") + field(2, b"hi") + field(3, number(1, 5) + number(3, 1)) + number(4, 1))
+)
+UP_TO = field(2, number(1, 200) + field(12, b"x"))
+PARTS = delimited(field(1, OF_PARTS) + UP_TO)
+PARTS_TOO = delimited(field(1, OF_PARTS + number(10, 1)) + UP_TO)
+RECEIVER = field(2, field(1, b"r") + field(2, b"w"))
+OF_RECEIVER = [it for _, it in fields_of(entry("g r/w/0 updated 10 expires 200 firing 1"))]
+assert OF_RECEIVER[0].count(RECEIVER) == 1
+OF_RECEIVER[0] = OF_RECEIVER[0].replace(RECEIVER, field(2, field(1, b"r") + field(2, b"w") + number(9, 1)))
+OF_RECEIVER = delimited(field(1, OF_RECEIVER[0]) + field(2, OF_RECEIVER[1]))
+LOSE = "am_tool: warning: {} smaller {} fields that are not known here: {}\n"
+FIVE = LOSE.format(5, "messages lose", "3, 4, 9, 12")
+
 # Words and standard input of commands that are done; the status, standard output, and what a person is told.
 WARNINGS = [
     (SHOW + ["10000000000"], SECOND, 0, b"sil a active\n", EARLY.format("1970-01-01T00:00:10.000Z")),
@@ -547,11 +578,22 @@ WARNINGS = [
     (DIFF + ["2000-01-01T00:00:00Z"], LATER, 5, b"sil x greatest a " + PENDING + b"sil x missing b\n", ""),
     (["diff", "--state", "sil", "--json", "--now", "1", "-", "b=/dev/null"], b"", 0, b"[]\n", ""),
     (FOLD, FIRST + SECOND, 0, SECOND, ""),
+    (FOLD, OF_LATER + SECOND, 0, SECOND, LOSES.format("1 message loses", "8, 10, 11")),
+    (FOLD, OF_LATER + OF_LATER + SECOND, 0, SECOND, LOSES.format("2 messages lose", "8, 10, 11")),
+    (FOLD + ["--keep-unknown"], OF_LATER, 0, OF_LATER, ""),
+    (FOLD, PARTS + SECOND, 0, SECOND, FIVE),
+    (FOLD, PARTS + PARTS_TOO + SECOND, 0, SECOND, LOSES.format("1 message loses", "10") + LOSE.format(10, "messages lose", "3, 4, 9, 12")),
+    (FOLD + ["--keep-unknown"], PARTS_TOO + SECOND, 0, SECOND, FIVE),
+    (["fold", "--state", "nfl", "--now", "0"], OF_RECEIVER, 0, row("nfl", "g r/w/0 updated 10 expires 200 firing 1"), LOSE.format(1, "message loses", "9")),
+    (SHOW + ["20000000000"], OF_LATER, 0, b"sil a active\n", LOSES.format("1 message loses", "8, 10, 11")),
+    (SHOW + ["20000000000", "--keep-unknown"], OF_LATER, 0, b"sil a active\n", ""),
+    (SHOW + ["20000000000", "--keep-unknown"], PARTS_TOO, 0, b"sil a active\n", FIVE),
+    (DIFF + ["1"], PARTS + SECOND, 5, b"sil a greatest a pending 1970-01-01T00:00:20.000Z 1970-01-01T00:01:40.000Z\nsil a missing b\n", FIVE + EARLY.format("1970-01-01T00:00:00.000Z")),
     ([], ORDERS, 0, ORDERS_OUTPUT, ""),
 ]
 
 
-def test_terminal():
+def test_terminal(_folder):
     """A fault is told by its line alone, and to a person at a terminal with what it means. A warning is for people."""
     for words, given, status, line, meaning in FAULTS:
         told = f"am_tool {words}"
@@ -563,7 +605,53 @@ def test_terminal():
         compare(f"{told}: well at a terminal", run_at_terminal(words, input=given), (status, output, warning))
 
 
-def test_flipped_bits():
+# Versions that are the same but for fields of a later release, and by what the second is behind the first.
+PLAIN = silence("x job=x 10..100 updated 10 expires 200 by me saying c")
+LOGGED = entry("g r/w/0 updated 10 expires 200 firing 1")
+MANY = b"".join(number(it, 1) for it in range(10, 27))
+UNKNOWN = [
+    (PLAIN, (number(10, 1) + field(11, b"v"), b""), (b"", b""), "fields 10,11"),
+    (PLAIN, (number(10, 2) + field(11, b"v"), b""), (number(10, 1) + field(11, b"v"), b""), "fields 10"),
+    # in the order of the numbers, and not of the fields; inside the silence and beside it
+    (PLAIN, (field(11, b"v") + number(6, 1), field(8, b"z")), (b"", b""), "fields 6,8,11"),
+    (PLAIN, (field(11, b"v"), field(11, b"z")), (field(11, b"v"), field(11, b"y")), "fields 11"),
+    # the fields of a number stand for their bytes, one behind the other
+    (PLAIN, (number(10, 2) + number(10, 1), b""), (number(10, 1) + number(10, 2), b""), "fields 10"),
+    (PLAIN, (number(12, 1) + number(10, 1), b""), (number(10, 1) + number(12, 1), b""), "bytes"),
+    # at most 16 are named
+    (PLAIN, (MANY[:-3], b""), (b"", b""), "fields 10,11,12,13,14,15,16,17,18,19,20,21,22,23,24,25"),
+    (PLAIN, (MANY, b""), (b"", b""), "fields 10,11,12,13,14,15,16,17,18,19,20,21,22,23,24,25,.."),
+    (LOGGED, (field(10, b"v"), b""), (b"", b""), "fields 10"),
+    (LOGGED, (field(10, b"v"), field(9, b"v")), (field(10, b"v"), b""), "fields 9"),
+]
+
+
+def test_unknown_fields(folder):
+    """diff names the fields that aren't known here, where two versions differ by them alone."""
+    for version, first, second, wanted in UNKNOWN:
+        for name, (inner, outer) in (("a", first), ("b", second)):
+            with open(f"{folder}/{name}", "wb") as file:
+                file.write(delimited(of_later(version, inner, outer)))
+        state = "sil" if version == PLAIN else "nfl"
+        words = ["diff", "--state", state, "--now", "50000000000", f"a={folder}/a", f"b={folder}/b"]
+        status, output, error = run(words)
+        told = output.decode().partition(" behind b ")[2]
+        compare(f"{wanted}: the second is behind", (status, told, error), (5, f"{told_of(version, wanted)}\n", ""))
+        _, output, _ = run([*words, "--json"])
+        compare(f"{wanted}: in JSON", re.findall(r'"by":"(.*?)"', output.decode()), [wanted])
+        _, output, _ = run([*words, "--long"])
+        changed = [it for it in output.decode().splitlines() if it.startswith("  changed")]
+        compare(f"{wanted}: in long lines", changed, [] if wanted == "bytes" else [f"  changed {wanted}"])
+
+
+def told_of(version, wanted):
+    """What stands behind the names of the sources on a line."""
+    if version == PLAIN:
+        return f"active 1970-01-01T00:00:10.000Z 1970-01-01T00:01:40.000Z by {wanted}"
+    return f"1970-01-01T00:00:10.000Z 1970-01-01T00:03:20.000Z 1 - by {wanted}"
+
+
+def test_flipped_bits(_folder):
     """Whatever bit of a row is flipped, and wherever it is cut, all that stands on standard error is the line of its fault."""
     for state, whole in [("sil", FIRST), ("sil", COMMENTED), ("nfl", ENTRY), ("nfl", UNPACKED)]:
         flipped = [bytes([*whole[:at], whole[at] ^ 1 << bit, *whole[at + 1 :]]) for at in range(len(whole)) for bit in range(8)]
@@ -574,7 +662,7 @@ def test_flipped_bits():
             compare(f"fold of {given.hex(' ')} of {state}", (status, error), wanted)
 
 
-def test_streams():
+def test_streams(_folder):
     """Standard streams that can't be read or written."""
     row = {"input": FIRST + SECOND}
     stopped = "am_tool: Write 0\n"
@@ -601,7 +689,7 @@ def test_streams():
     os.close(writer)
 
 
-def test_most_bytes():
+def test_most_bytes(_folder):
     """Inputs and results of over 64 MiB."""
     large = row("sil", ", ".join(f"k{it:02} job=x 10..100 updated 10 expires 200 by me saying {(1 << 20) * 'c'}" for it in range(65)))
     compare("an input of 65 MiB", run(FOLD, input=large), (1, b"", "am_tool: TooLarge\n"))
@@ -609,7 +697,7 @@ def test_most_bytes():
     check("which is let in", found == (0, large, ""), found[0])
 
 
-def test_cut_output():
+def test_cut_output(_folder):
     """A file that takes no more than so many bytes: exactly these went out."""
 
     def limit():
@@ -628,11 +716,27 @@ def test_cut_output():
         compare("its bytes before the cut", file.read(), ORDERS_OUTPUT[:CUT])
 
 
+def test_long_replay(_folder):
+    """A schedule whose output has over a hundred lines, each of which is another one."""
+    keys = [f"k{number:02}" for number in range(40)]
+    # (of each second silence the end comes later)
+    lines = ["cluster 100 15 a b"]
+    lines += [f"sil {key} {key} 10 10 {50 + 40 * (place % 2)} 200 job m" for place, key in enumerate(keys)]
+    lines += [f"at 11 a from b {' '.join(keys[:20])}", f"at 12 a from b {' '.join(keys[20:])}", f"at 13 b from a {' '.join(keys)}"]
+    lines += ["at 20 a show", "at 60 a show", "at 120 b show"]
+    active, expired, states = "active", "expired", ("expired", "active")
+    wanted = ["a shows 40 0", *(f"a sil {key} {active}" for key in keys)]
+    wanted += ["a shows 40 0", *(f"a sil {key} {states[place % 2]}" for place, key in enumerate(keys))]
+    wanted += ["b shows 40 0", *(f"b sil {key} {expired}" for key in keys), "calm a", "calm b"]
+    ended = lambda of: "".join(f"{it}\n" for it in of).encode()
+    compare("a long replay", run(["replay"], input=ended(lines)), (0, ended(wanted), ""))
+
+
 # So many settles of 16 members take over a second.
 LONG = 100_000
 
 
-def test_progress():
+def test_progress(_folder):
     """How far a long schedule is played is shown on a terminal, and taken away in the end; elsewhere nothing is."""
     names = "abcdefghijklmnop"
     schedule = {"input": f"cluster 1 1 {' '.join(names)}\n".encode() + b"at 1 settle\n" * LONG}
@@ -669,7 +773,7 @@ def outcomes_under_limits(words, **how):
     return found
 
 
-def test_memory():
+def test_memory(_folder):
     """Wherever memory is refused, the program says so and nothing else."""
     refused = (4, b"", "am_tool: Memory\n")
     compare("refused memory", outcomes_under_limits(FOLD, input=FIRST), [refused, (0, FIRST, "")])
@@ -687,15 +791,15 @@ def test_memory():
 
 def main():
     choose("command line", sys.argv[1:])
-    test_words()
-    test_terminal()
-    test_flipped_bits()
-    test_streams()
-    test_most_bytes()
-    test_cut_output()
-    test_progress()
-    test_memory()
+    with tempfile.TemporaryDirectory() as folder:
+        try_each(TESTS, folder)
     finish("command line")
+
+
+TESTS = [
+    test_words, test_terminal, test_unknown_fields, test_flipped_bits, test_streams, test_most_bytes, test_cut_output, test_long_replay,
+    test_progress, test_memory,
+]  # fmt: skip
 
 
 if __name__ == "__main__":

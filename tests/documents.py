@@ -7,8 +7,10 @@ PROGRAM is crates/am_tool/out/am_tool if it isn't given; `--write` writes the fi
 
 Every indented block of README.md, docs/NIGHT.md, docs/MEND.md and docs/MEMBERS.md is given to bash, and has to end with status 0.
 There are three exceptions: a block below `<!--prints-->` is what the block before it has to print, one below `<!--prints among
-others-->` is lines of that, in this order, and those that begin as FILES_SHOWN are text for files. The blocks of a page are run one
-after the other, in one folder that has the files which the page speaks of; in docs/MEMBERS.md each section has a folder of its own.
+others-->` is lines of that, in this order, and those that begin as FILES_SHOWN are text for files. Where the text above a block ends
+with a colon, the block has to print each `"KEY":VALUE` of it; and members have to list what a block posts to one of them. The blocks
+of a page are run one after the other, in one folder that has the files which the page speaks of; in docs/MEMBERS.md each section has
+a folder of its own.
 Replicas of this script, which hold what samples/ has, are at 10.0.0.1 to 10.0.0.3, and after docs/NIGHT.md the second one has to
 hold everything. Ports and these addresses are exchanged for free ones of this machine.
 
@@ -17,12 +19,14 @@ system. `am_tool build`, `install` and `package` do nothing here, and status 5 o
 counts as 0. A block with a tool of TOOLS is skipped if that isn't there.
 
 Beyond that: samples/ has to be what tests/lib/samples.py has, each block of Rust in docs/library/ has to be in a source of crates/,
-docs/PROOFS.md has to be what docs/promises.py makes, docs/MAP.md has to name what is there, CHANGELOG.md the program's version, and
-README.md figures of bench/RESULTS.md; each page has to link to what is there, and README.md has to be short. The last line says how
-many passed.
+docs/PROOFS.md has to be what docs/promises.py makes, docs/pictures/layers.svg what docs/layers.py draws, docs/MAP.md has to name what is
+there, CHANGELOG.md the program's version, and README.md figures of bench/RESULTS.md; each page has to link to what is there, and
+README.md has to be short. The last line says how many passed.
 """
 
+import collections
 import glob
+import json
 import os
 import re
 import shutil
@@ -38,7 +42,7 @@ from beside import Alive
 from lib import members
 from lib.members import TOP, bytes_of, free_ports, write
 from lib.samples import REPLICAS, sample
-from lib.tally import check, compare, finish, skip
+from lib.tally import check, compare, finish, skip, try_each
 from lib.versions import row
 
 # The pages that are looked at, and the most words of README, as `wc -w` counts them.
@@ -60,6 +64,16 @@ FILES_SHOWN = ["PORT=", "PEERS=", "LISTEN=", "SOURCES=", "backend silences"]
 
 MARK = re.compile(r"<!--(run|prints|prints among others)-->")
 PORT = re.compile(r"\b(910[123]|9201|909[34])\b")
+
+# What a text says that a block prints, and a block that posts a silence to a member.
+PROMISED = re.compile(r'`("\w+":[^`]+)`')
+POSTS = re.compile(r"^curl .*/api/v2/silences (?:-d|--data-binary) ", re.MULTILINE)
+
+# What the pages post, as members list it.
+POSTED = {
+    "comment": "maintenance", "createdBy": "me", "status": {"state": "active"},
+    "matchers": [{"name": "job", "value": "db", "isRegex": False, "isEqual": True}],
+}  # fmt: skip
 
 # What only some machines have.
 TOOLS = ["amtool", "curl", "jq", "prometheus-alertmanager"]
@@ -91,9 +105,14 @@ esac
 """
 
 
+# An indented block of a page: the mark above it ('run' if there is none), the number of its line, its section, the line of text
+# above it, and its own text.
+Block = collections.namedtuple("Block", "mark number section above text")
+
+
 def blocks(path):
-    """The indented blocks of a page: the mark above it ('run' if there is none), the number of its line, its section and its text."""
-    mark, number, section, lines = "run", 0, "", []
+    """The indented blocks of a page."""
+    mark, number, section, above, lines = "run", 0, "", "", []
     for at, line in enumerate([*content(f"{TOP}/{path}").split("\n"), "end"], 1):
         if line.startswith("    "):
             number = number if lines else at
@@ -102,26 +121,27 @@ def blocks(path):
             lines.append("")
         elif line:
             if lines:
-                yield mark, number, section, textwrap.dedent("\n".join(lines)).strip("\n")
+                yield Block(mark, number, section, above, textwrap.dedent("\n".join(lines)).strip("\n"))
             found, lines = MARK.fullmatch(line), []
             mark = found[1] if found else "run"
+            above = above if found else line
             section = line.lstrip("# ") if line.startswith("#") else section
 
 
 def commands(path, section=None):
     """The blocks of a page, or of a section of it, but for those that are text for files."""
-    found = [it for it in blocks(path) if section in (None, it[2])]
-    return [it for it in found if it[0] != "run" or not it[3].startswith(tuple(FILES_SHOWN))]
+    found = [it for it in blocks(path) if section in (None, it.section)]
+    return [it for it in found if it.mark != "run" or not it.text.startswith(tuple(FILES_SHOWN))]
 
 
-def test_files_shown():
+def test_files_shown(_folder):
     """Each text of FILES_SHOWN is in one of the pages, and none in README.md."""
-    texts = [text for path in DOCUMENTS for _, _, _, text in blocks(path)]
+    texts = [it.text for path in DOCUMENTS for it in blocks(path)]
     compare("text for files that no page has", [it for it in FILES_SHOWN if not any(text.startswith(it) for text in texts)], [])
     compare("blocks of README.md that aren't run", len(commands("README.md")), len([*blocks("README.md")]))
 
 
-def test_samples():
+def test_samples(_folder):
     for replica in REPLICAS:
         compare(f"samples/{replica}.sil", bytes_of(f"{TOP}/samples/{replica}.sil"), sample(replica))
 
@@ -207,7 +227,7 @@ def lacking(text):
 def try_blocks(path, found, shell):
     """Runs blocks, one after the other, and compares what they print."""
     printed = None
-    for mark, number, _, text in found:
+    for mark, number, _, above, text in found:
         name = f"{path}:{number}"
         if mark == "run":
             tool = lacking(text)
@@ -217,6 +237,8 @@ def try_blocks(path, found, shell):
                 continue
             status, printed = shell.run(text)
             check(name, status == 0, f"status {status}, {printed}\n{shell.error()}")
+            look_at_promises(name, above, printed)
+            look_at_posts(name, text, printed, shell)
         elif printed is None:
             continue
         elif mark == "prints":
@@ -224,6 +246,35 @@ def try_blocks(path, found, shell):
         else:
             rest = iter(printed.split("\n"))
             check(name, all(line in rest for line in text.split("\n")), printed)
+
+
+def look_at_promises(name, above, printed):
+    """Compares what a block prints with what the text above it says."""
+    promised = PROMISED.findall(above) if above.endswith(":") else []
+    compare(f"{name}: what it doesn't print and the text says", [it for it in promised if it not in printed], [])
+
+
+def values_in(text):
+    """The values of JSON that stand in a text, one behind the other."""
+    found, at = [], 0
+    while text[at:].strip():
+        value, at = json.JSONDecoder().raw_decode(text, at + len(text[at:]) - len(text[at:].lstrip()))
+        found.append(value)
+    return found
+
+
+def look_at_posts(name, text, printed, shell):
+    """Looks whether what a block posts is listed by the members that it asks, at once or soon, and by amtool."""
+    if "amtool" in text and "silence query" in text:
+        check(f"{name}: amtool lists it", all(it in printed for it in (POSTED["comment"], POSTED["createdBy"], 'job="db"')), printed)
+    if not POSTS.search(text):
+        return
+    wanted = {**POSTED, "id": values_in(printed)[0]["silenceID"]}
+    lists = "\n".join(it for it in text.split("\n") if it.startswith("curl ") and not POSTS.match(it))
+    found = lambda: [[{key: it.get(key) for key in wanted} for it in listed] for listed in values_in(shell.run(lists)[1])]
+    asked = lists.count("curl ")
+    check(f"{name}: other members are asked", asked > 1, text)
+    check(f"{name}: what was posted is listed", members.eventually(lambda: found() == [[wanted]] * asked, 10), (found(), wanted))
 
 
 def replicas():
@@ -257,17 +308,27 @@ def try_page(path):
     in_folder(path, lambda shell: try_blocks(path, found, shell))
 
 
-def try_sections(path):
-    """A page section by section."""
-    for section in dict.fromkeys(it[2] for it in commands(path)):
+def test_readme(_folder):
+    try_page("README.md")
+
+
+def test_mend(_folder):
+    try_page("docs/MEND.md")
+
+
+def test_members(_folder):
+    """docs/MEMBERS.md, section by section."""
+    path = "docs/MEMBERS.md"
+    for section in dict.fromkeys(it.section for it in commands(path)):
         found = commands(path, section)
         before = commands(path, GOES_ON[section]) if section in GOES_ON else []
         in_folder(f"{path}: {section}", lambda shell: try_blocks(path, [*before, *found], shell))
-    compare(f"sections of {path} that are named here and not there", set(GOES_ON) - {it[2] for it in commands(path)}, set())
+    compare(f"sections of {path} that are named here and not there", set(GOES_ON) - {it.section for it in commands(path)}, set())
 
 
-def try_night(path):
+def test_night(_folder):
     """What docs/NIGHT.md has somebody do who was woken mends the second of three replicas."""
+    path = "docs/NIGHT.md"
 
     def work(shell):
         with socket.socket() as server:
@@ -276,7 +337,7 @@ def try_night(path):
         # (the second replica answers amtool, too)
         status, _ = shell.run("./am_tool instance --name am2 --listen 10.0.0.2:9093 --sil am2/silences --nfl am2/nflog &")
         check("a server for amtool starts", status == 0, shell.error())
-        try_blocks(path, [(*it, text.replace(" ID", f" {ACTIVE_AT_SECOND}")) for *it, text in commands(path)], shell)
+        try_blocks(path, [it._replace(text=it.text.replace(" ID", f" {ACTIVE_AT_SECOND}")) for it in commands(path)], shell)
 
     found = in_folder(path, work)
     words = [f"{name}={it.word}" for name, it in zip(("am1", "am2", "am3"), found)]
@@ -290,7 +351,7 @@ def content(path):
         return file.read()
 
 
-def test_quotes():
+def test_quotes(_folder):
     """What docs/library/ quotes is code."""
     sources = [content(it) for it in glob.glob(f"{TOP}/crates/*/src/**/*.rt", recursive=True)]
     for page in glob.glob(f"{TOP}/docs/library/*.md"):
@@ -298,14 +359,14 @@ def test_quotes():
         check(page, quotes and all(any(it in source for source in sources) for it in quotes), quotes)
 
 
-def test_promises():
+def test_promises(_folder):
     """docs/PROOFS.md is made from the marks beside the clauses."""
     ran = subprocess.run([sys.executable, f"{TOP}/docs/promises.py"], capture_output=True, text=True)
     check("docs/promises.py", ran.returncode == 0, ran.stderr)
     compare("docs/PROOFS.md (docs/promises.py --write makes it)", content(f"{TOP}/docs/PROOFS.md"), ran.stdout)
 
 
-def test_changes():
+def test_changes(_folder):
     """CHANGELOG.md has the version that the program says it is."""
     version = members.run(["--version"])[1].decode().split()[-1]
     found = re.findall(r"^## ([0-9.]+)", content(f"{TOP}/CHANGELOG.md"), re.MULTILINE)
@@ -313,9 +374,9 @@ def test_changes():
     check(f"CHANGELOG.md has {version}, and the newest version first", version in found and found == newest_first, found)
 
 
-def test_figures():
+def test_figures(_folder):
     """The figures of README.md's table are those of bench/RESULTS.md (all but "3.7 times", which is worked out of a ratio there)."""
-    table = content(f"{TOP}/README.md").partition("\n| No fault near")[2].partition("\n\n")[0]
+    table = content(f"{TOP}/README.md").partition("\n| Paged once")[2].partition("\n\n")[0]
     results = content(f"{TOP}/bench/RESULTS.md")
     numbers = [it for line in table.split("\n") for cell in line.split("|")[-3:-1] for it in re.findall(r"\d+(?:\.\d+)?", cell)]
     lost = [it for it in numbers if it != "3.7" and not re.search(rf"(?<![\d.]){re.escape(it)}(?!\d)", results)]
@@ -346,18 +407,56 @@ def broken_links(path, page):
     return found
 
 
-SOURCE = re.compile(r"\bam_\w+/src/[\w/]+\.rt\b")
+SOURCE = re.compile(r"\bam_\w+/(?:src/[\w/]+\.rt|specs/[\w/]+\.antt)\b")
+
+# A source in a table, and the items in it that are named behind it: `am_x/src/y.rt`: `one`, `other`.
+ITEMS = re.compile(r"`(am_\w+/(?:src|specs)/[\w/]+\.\w+)`: ((?:`\w+`(?:, )?)+)")
 
 
-def test_sources():
-    """Each source that docs/MAP.md names is there, and each crate is named."""
+def is_item(source, name):
+    return re.search(rf"\b(?:fn|struct|enum|trait|const|static|abbrev pub|abbrev|record|data) {name}\b", source)
+
+
+def test_sources(_folder):
+    """Each source that docs/MAP.md, docs/MODEL.md and docs/CHANGING.md name is there, with the items that they name in it, and
+    docs/MAP.md names each crate."""
+    for path in ("docs/MAP.md", "docs/MODEL.md", "docs/CHANGING.md"):
+        page = content(f"{TOP}/{path}")
+        lost = [it for it in SOURCE.findall(page) if not os.path.exists(f"{TOP}/crates/{it}")]
+        compare(f"sources of {path} that are not there", lost, [])
+        named = [(file, it) for file, names in ITEMS.findall(page) if file not in lost for it in re.findall(r"\w+", names)]
+        lost = [(file, it) for file, it in named if not is_item(content(f"{TOP}/crates/{file}"), it)]
+        compare(f"items of {path} that their source doesn't have", lost, [])
     page = content(f"{TOP}/docs/MAP.md")
-    compare("sources of docs/MAP.md that are not there", [it for it in SOURCE.findall(page) if not os.path.exists(f"{TOP}/crates/{it}")], [])
     crates = [it for it in sorted(os.listdir(f"{TOP}/crates")) if os.path.isdir(f"{TOP}/crates/{it}/src")]
     compare("crates that docs/MAP.md doesn't name", [it for it in crates if not re.search(rf"\b{it}\b", page)], [])
 
 
-def test_pages():
+def test_names(_folder):
+    """Each name that docs/MODEL.md explains is an item of a crate that its row names."""
+    page = content(f"{TOP}/docs/MODEL.md").partition("\n### Names in the code\n")[2].partition("\n## ")[0]
+    sources = {}
+    for path in glob.glob(f"{TOP}/crates/*/src/**/*.rt", recursive=True):
+        sources.setdefault(path[len(f"{TOP}/crates/") :].split("/")[0], []).append(content(path))
+    rows = [line.split(" | ", 1) for line in page.split("\n") if line.startswith("`")]
+    lost = [
+        name
+        for names, rest in rows
+        for name in re.findall(r"`(\w+)`", names)
+        if not any(is_item(it, name) for crate in re.findall(r"\bam_\w+", rest) for it in sources.get(crate, []))
+    ]
+    compare("names of docs/MODEL.md that no crate of their row has", lost, [])
+    compare("crates of docs/MODEL.md that are not there", sorted(set(re.findall(r"\bam_\w+", page)) - set(sources)), [])
+
+
+def test_layers(_folder):
+    """docs/pictures/layers.svg is what docs/layers.py draws of crates.txt, which has no crate that depends on a higher layer."""
+    ran = subprocess.run([sys.executable, f"{TOP}/docs/layers.py"], capture_output=True, text=True)
+    check("docs/layers.py", ran.returncode == 0, ran.stderr)
+    compare("docs/pictures/layers.svg (docs/layers.py --write draws it)", content(f"{TOP}/docs/pictures/layers.svg") == ran.stdout, True)
+
+
+def test_pages(_folder):
     """Each page links to what is there, and README is short."""
     here = [*glob.glob(f"{TOP}/docs/**/*.md", recursive=True), *glob.glob(f"{TOP}/bench/*.md"), f"{TOP}/README.md", f"{TOP}/CHANGELOG.md"]
     compare("pages", sorted(PAGES), sorted(os.path.relpath(it, TOP) for it in here))
@@ -373,19 +472,15 @@ def main():
             write(f"{TOP}/samples/{replica}.sil", sample(replica))
         return
     members.choose("documents", sys.argv[1:])
-    test_files_shown()
-    test_samples()
-    test_quotes()
-    test_promises()
-    test_sources()
-    test_pages()
-    test_changes()
-    test_figures()
-    try_page("README.md")
-    try_night("docs/NIGHT.md")
-    try_page("docs/MEND.md")
-    try_sections("docs/MEMBERS.md")
+    with tempfile.TemporaryDirectory() as folder:
+        try_each(TESTS, folder)
     finish("documents")
+
+
+TESTS = [
+    test_files_shown, test_samples, test_quotes, test_promises, test_sources, test_names, test_layers, test_pages, test_changes, test_figures,
+    test_readme, test_night, test_mend, test_members,
+]  # fmt: skip
 
 
 if __name__ == "__main__":

@@ -4,9 +4,10 @@
     tests/edges.py [PROGRAM]
 
 PROGRAM is crates/am_tool/out/am_tool if it isn't given. A last save fails, a directory is handed to the disk, two processes want
-one file, a stop and the time limit come while nothing is answered yet, the clock goes ahead and comes back, links and what is
-no file stand in a file's place, faults and silent clients come by the hundred and the thousand, pages of other sites ask,
-frames ask for more than is good for anybody, requests have many patterns, and states are full, or of over 64 MiB.
+one file, a stop and the time limit come while nothing is answered yet, the clock goes ahead, also by far, and comes back, links
+and what is no file stand in a file's place, faults and silent clients come by the hundred and the thousand, pages of other sites
+ask, frames ask for more than is good for anybody, requests have many patterns or much to say, and states are full, or of over
+64 MiB.
 tests/lib/system.c stands between a member and the C library. What is wanted is written by hand, from docs/FORMATS.md and
 docs/MEMBERS.md.
 """
@@ -35,11 +36,11 @@ from lib.wire import EMPTY_PUSH, PULL, PUSH, TICK, delimited, delta, field, fram
 
 ONE_FILE = "error: '--sil <FILE>' and '--nfl <FILE>' name one file"
 
-# How many clients say nothing, and in how many seconds others are answered beside them.
-CROWD, SOON = 5000, 0.1
+# How many clients say nothing, and how many times as long others may take beside them as at a member that nobody else asks.
+CROWD, SOON = 5000, 50
 
-# What compiling one pattern, or reading the largest body, may take, in seconds: 0.05 where nothing else runs.
-ONE_TURN = 0.25
+# How many times as long others may wait beside many patterns as beside one.
+ONE_TURN = 5
 
 library = None
 
@@ -287,6 +288,85 @@ def test_clock(folder):
     compare("a post behind a start", post(again, "later")[0], 200)
     time.sleep(1.5)
     compare("which has the clock's moment", (again.stop(), again.lines[1:]), (0, []))
+
+
+# By how many seconds a clock goes far ahead, and for how long an ended silence is kept then.
+FAR, KEPT = 40 * 86_400, 60
+
+
+def shifted(name, folder, shift, options=()):
+    """A member with a peer p whose clock a file shifts, which ticks each second, and holds a silence of two hours."""
+    write(shift, b"0")
+    options = ["--tick-every", "1", "--retention", str(KEPT), *options]
+    member = with_peer(name, folder, options, **under_library(CLOCK=shift))
+    compare("a post", post(member, "held")[0], 200)
+    return member
+
+
+def ticks(member):
+    """How many Ticks it has made."""
+    _, text = member.ask("GET", "/metrics")
+    return int(re.search(r'^maityrunga_steps_total\{event="tick"\} (\d+)$', text.decode(), re.M)[1])
+
+
+def goes_ahead(member, shift):
+    """The clock goes far ahead, which is told; then two seconds pass, in which a peer asks for a Tick."""
+    write(shift, str(FAR).encode())
+    check("a clock that went far ahead is told", eventually(lambda: told(member, "Clock Ahead"), 20), member.lines)
+    found = re.fullmatch(r"am_tool: Clock Ahead (\d+)", member.lines[-1])
+    check("by so many seconds", found is not None and abs(int(found[1]) - FAR) < 10, member.lines)
+    member.send(greeting("p") + TICK)
+    time.sleep(2.5)
+
+
+def test_clock_far_ahead(folder):
+    """A clock that was far ahead for a moment drops nothing, and goes on as it did once it is back."""
+    shift = f"{folder}/shift"
+    member = shifted("j", folder, shift)
+    brief = silence("brief", seconds=2)
+    compare("a brief post", member.post(brief)[0], 200)
+    check("it ticks", eventually(lambda: ticks(member) > 0, 20))
+    goes_ahead(member, shift)
+    before = ticks(member)
+    time.sleep(1.5)
+    compare("no Tick is made then", ticks(member), before)
+    write(shift, b"0")
+    compare("nothing is lost", member.comments(), ["brief", "held"])
+    check("it ticks again", eventually(lambda: ticks(member) > before, 20))
+    for ahead in (KEPT - 10, 2 * (KEPT - 10)):
+        before = ticks(member)
+        write(shift, str(ahead).encode())
+        check("a clock that goes ahead by less is believed", eventually(lambda: ticks(member) > before + 1, 20))
+    check("so what has expired is dropped", eventually(lambda: member.comments() == ["held"], 20), member.comments())
+    compare("the stop", (member.stop(), told(member, "Clock Ahead")), (0, 1))
+
+
+def test_event_far_ahead(folder):
+    """After an event while the clock was far ahead no Tick is made before a restart, and nothing is lost."""
+    shift = f"{folder}/shift"
+    member = shifted("k", folder, shift)
+    goes_ahead(member, shift)
+    compare("a post far ahead", post(member, "ahead", FAR)[0], 200)
+    write(shift, b"0")
+    check("the clock is behind that", eventually(lambda: told(member, "Clock Behind"), 20), member.lines)
+    before = ticks(member)
+    time.sleep(2.5)
+    compare("no Tick is made", ticks(member), before)
+    compare("the stop", member.stop(), 0)
+    again = with_peer("k", folder, ["--tick-every", "1", "--retention", str(KEPT)], **under_library(CLOCK=shift))
+    check("it ticks behind a restart", eventually(lambda: ticks(again) > 0, 20))
+    compare("and nothing is lost", (again.comments(), again.stop(), told(again, "Clock")), (["ahead", "held"], 0, 0))
+
+
+def test_trusted_clock(folder):
+    """With --trust-clock a clock is believed however far it goes ahead."""
+    shift = f"{folder}/shift"
+    member = shifted("l", folder, shift, ["--trust-clock"])
+    check("a Tick saves what it holds", eventually(lambda: bytes_of(member.sil), 20))
+    write(shift, str(FAR).encode())
+    check("a Tick drops what has expired by it", eventually(lambda: bytes_of(member.sil) == b"", 20), member.lines)
+    compare("so nothing is listed", member.listed(), [])
+    compare("and nothing is told", (member.stop(), told(member, "Clock")), (0, 0))
 
 
 # ---- logs
@@ -547,11 +627,12 @@ def peak(member):
 
 def slowest(member, look):
     """How long the slowest request took, in seconds, while something goes on."""
-    slow = 0
+    slow, found = 0, set()
     while look():
         start = time.monotonic()
-        compare("a request meanwhile", member.ask("GET", "/api/v2/silence/none")[0], 404)
+        found.add(member.ask("GET", "/api/v2/silence/none")[0])
         slow = max(slow, time.monotonic() - start)
+    compare("the requests meanwhile", found, {404})
     return slow
 
 
@@ -666,10 +747,10 @@ def version(value):
     return versions.silence(f"{value} job={value} {now}..{now + 7200} updated {now} expires {now + 9000} saying {value}")
 
 
-def with_peer(name, folder, options=()):
+def with_peer(name, folder, options=(), **how):
     """A member with a peer `p` that isn't there, which has begun."""
     port, nobody = free_ports(2)
-    return begun(Stoppable(name, port, [("p", nobody)], folder, options))
+    return begun(Stoppable(name, port, [("p", nobody)], folder, options, **how))
 
 
 def told(member, word):
@@ -679,22 +760,38 @@ def told(member, word):
     return left_out + sum(line.startswith(f"am_tool: {word} ") for line in member.lines)
 
 
+def list_time(member):
+    (status, _), seconds = took(lambda: member.ask("GET", "/api/v2/silences"))
+    compare("a list beside silent clients", status, 200)
+    return seconds
+
+
+def delta_time(member, value):
+    reply, seconds = took(lambda: member.send(greeting("p") + delta("sil", version(value))))
+    compare("a Delta beside silent clients", reply, b"")
+    return seconds
+
+
+def is_soon(pairs):
+    """Whether of pairs of times, beside others and without them, that in the middle of the first is near that of the second."""
+    beside, without = (sorted(row)[len(pairs) // 2] for row in zip(*pairs))
+    return beside <= SOON * without
+
+
 def test_silent_crowd(folder):
     """Silent clients keep nobody out, however many they are."""
-    member = with_peer("q", folder)
+    member, quiet = with_peer("q", folder), with_peer("n", folder)
     with crowd(member, CROWD):
         lists, deltas = [], []
         for value in ("x", "y", "z"):
-            (status, _), seconds = took(lambda: member.ask("GET", "/api/v2/silences"))
-            compare("a list beside silent clients", status, 200)
-            lists.append(seconds)
-            reply, seconds = took(lambda: member.send(greeting("p") + delta("sil", version(value))))
-            compare("a Delta beside silent clients", reply, b"")
-            deltas.append(seconds)
-        check("a list is soon there", sorted(lists)[1] <= SOON, lists)
-        check("and so is a Delta", sorted(deltas)[1] <= SOON, deltas)
-        compare("all came", member.comments(), ["x", "y", "z"])
-    compare("the stop", member.stop(), 0)
+            lists.append([list_time(it) for it in (member, quiet)])
+            deltas.append([delta_time(it, value) for it in (member, quiet)])
+        check("a list is soon there", is_soon(lists), lists)
+        check("and so is a Delta", is_soon(deltas), deltas)
+        for it in (member, quiet):
+            compare("all came", it.comments(), ["x", "y", "z"])
+    for it in (member, quiet):
+        compare("the stop", it.stop(), 0)
     count = told(member, "Crowded")
     check("each client that was let go is told", CROWD - 300 <= count <= CROWD, count)
     check("as one that said nothing", "am_tool: Crowded 0" in member.lines, member.lines[:3])
@@ -703,14 +800,16 @@ def test_silent_crowd(folder):
 
 def test_crowd_of_wait(folder):
     """Clients that wait for the first pull don't keep out the peer that brings it."""
-    member = with_peer("w", folder, ["--pull-first", "--pull-first-limit", "600", "--time-limit", "60"])
+    member, quiet = (with_peer(it, folder, ["--pull-first", "--pull-first-limit", "600", "--time-limit", "60"]) for it in "wn")
     with contextlib.ExitStack() as stack:
         streams = [stack.enter_context(asked(member, request("GET", "/api/v2/silences"))) for _ in range(300)]
         time.sleep(1)
         states = part("sil", delimited(version("x"))) + part("nfl", b"")
-        reply, seconds = took(lambda: member.send(greeting("p") + frame(PULL, states)))
-        check("a Pull beside clients that wait for it", reply == b"" and seconds <= SOON, (reply, seconds))
+        found = [took(lambda it=it: it.send(greeting("p") + frame(PULL, states))) for it in (member, quiet)]
+        compare("the replies to Pulls", [reply for reply, _ in found], [b"", b""])
+        check("a Pull beside clients that wait for it", is_soon([[seconds for _, seconds in found]]), found)
         replies = [parted(received(stream)) for stream in streams]
+    compare("the stop of the other one", quiet.stop(), 0)
     compare("those that waited longest", set(replies[:45]), {NOT_READY})
     compare("the others", {(status, body.count(b'"comment":"x"')) for status, body in replies[45:]}, {(200, 1)})
     compare("no connection is at fault", (member.stop(), faults(member)), (0, []))
@@ -759,6 +858,45 @@ def test_unfinished(folder):
     compare("the stop", member.stop(), 0)
 
 
+LIST = "/api/v2/silences"
+
+
+def long_list(name, folder, count, size):
+    """The file of a member's silences: so many that say so many bytes each."""
+    now = int(time.time())
+    times = f"{now}..{now + 7200} updated {now} expires {now + 9000}"
+    say = lambda number: versions.silence(f"s{number:05} job=db {times} by me saying {'x' * size}")
+    write(f"{folder}/{name}.sil", b"".join(delimited(say(number)) for number in range(count)))
+
+
+def slow_reader(member):
+    """A connection on which a list is asked for and not read."""
+    stream = socket.socket()
+    stream.setsockopt(socket.SOL_SOCKET, socket.SO_RCVBUF, 4096)
+    stream.connect(("127.0.0.1", member.port))
+    stream.sendall(request("GET", LIST))
+    return stream
+
+
+def test_slow_readers(folder):
+    """Replies that nobody reads take memory up to a limit, and keep nobody out who reads."""
+    long_list("z", folder, 1000, 8000)
+    member = alone("z", folder, ["--time-limit", "60", "--most-unfinished", "40000000", *ALL_LINES])
+    whole = member.ask("GET", LIST)
+    check("a list is long", whole[0] == 200 and len(whole[1]) > 8_000_000, (whole[0], len(whole[1])))
+    before = peak(member)
+    with contextlib.ExitStack() as stack:
+        readers = [stack.enter_context(slow_reader(member)) for _ in range(30)]
+        check("those who read get all", [member.ask("GET", LIST) == whole for _ in range(3)] == [True] * 3)
+        grown = peak(member) - before
+        check("memory grows by two replies and those that are being written", grown < 80, grown)
+        check("of those who don't read, some were closed", told(member, "Write") > 20, member.lines[1:])
+        last = readers[-1]
+        last.settimeout(PATIENCE)
+        compare("the last of them is answered when it reads", parted(received(last)), whole)
+    compare("the stop", member.stop(), 0)
+
+
 def still_open(stream):
     """Whether nothing came of a connection, not even its end."""
     stream.setblocking(False)
@@ -800,6 +938,13 @@ def beside(member, data):
     return parted(asked.result()), seconds
 
 
+def longest_beside(member, name, data, refusal):
+    """For how long somebody has to wait beside a request that is refused, made twice: what else the machine does may come once."""
+    found = [beside(member, data) for _ in range(2)]
+    compare(f"{name} patterns that take much", [reply for reply, _ in found], [(400, refusal)] * 2)
+    return min(max(seconds) for _, seconds in found)
+
+
 def test_patterns(folder):
     """What one request compiles is bounded, and nobody waits for more than one pattern of it."""
     member = alone("r", folder, ["--time-limit", "60"])
@@ -808,20 +953,55 @@ def test_patterns(folder):
     status, body = member.ask("GET", filtered(["c..", "c..", r"c\.."]))
     compare("a list by patterns", (status, len(json.loads(body))), (200, 1))
     before = peak(member)
+    posted = lambda patterns: request("POST", "/api/v2/silences", with_patterns(patterns))
     largest = with_patterns(map(heavy, range(19_900)))
     check("many patterns fit into a body", 1_000_000 < len(largest) <= 1_048_576, len(largest))
+    one = longest_beside(member, "a post with one", posted([heavy("x")]), b'"bad pattern"')
     for name, data, refusal in [
-        ("a post with ten", request("POST", "/api/v2/silences", with_patterns(map(heavy, range(10)))), b'"bad pattern"'),
+        ("a post with ten", posted(map(heavy, range(10))), b'"bad pattern"'),
         ("a list with 200", request("GET", filtered(map(heavy, range(200)))), b'"bad filter"'),
         ("a post with many", request("POST", "/api/v2/silences", largest), b'"bad pattern"'),
     ]:
-        reply, seconds = beside(member, data)
-        compare(f"{name} patterns that take much", reply, (400, refusal))
-        check(f"nobody waits for long beside {name}", max(seconds) <= ONE_TURN, seconds)
+        longest = longest_beside(member, name, data, refusal)
+        check(f"nobody waits for long beside {name}", longest <= ONE_TURN * one, (longest, one))
     same = filtered([r"\pL{150}"] * 200)
     compare("a list with one pattern in 200 filters", member.ask("GET", same), (200, b"[]"))
     grown = peak(member) - before
     check("memory grows by at most 200 MiB", grown <= 200, grown)
+    compare("a stop", (member.stop(), member.lines[1:]), (0, []))
+
+
+# ---- posts that have much to say
+
+LONG_POSTS = 8
+
+
+def asked_meanwhile(member, look):
+    """The statuses of requests that are made, one after the other, while something goes on."""
+    statuses = []
+    while look():
+        statuses.append(member.ask("GET", "/api/v2/silence/none")[0])
+    return statuses
+
+
+def test_long_posts(folder):
+    """Posts above 64 KiB that are whole at once are taken one after the other, and others are answered between them."""
+    member = alone("l", folder, ["--time-limit", str(PATIENCE)])
+    matchers = [{"name": f"j{number}", "value": "x" * 20, "isRegex": False} for number in range(1000)]
+    data = request("POST", "/api/v2/silences", json.dumps(silence("x", matchers=matchers)).encode())
+    check("each is above 64 KiB", len(data) > 66_000, len(data))
+    with contextlib.ExitStack() as stack:
+        streams = [stack.enter_context(asked(member, data[:-1])) for _ in range(LONG_POSTS)]
+        for _ in range(5):
+            member.ask("GET", "/api/v2/silence/none")
+        for stream in streams:
+            stream.sendall(data[-1:])
+        lane = stack.enter_context(ThreadPoolExecutor(1))
+        replies = lane.submit(lambda: [parted(received(stream))[0] for stream in streams])
+        statuses = asked_meanwhile(member, lambda: not replies.done())
+    compare("all are answered", replies.result(), [200] * LONG_POSTS)
+    compare("so are others", set(statuses), {404})
+    check("and between them", len(statuses) >= LONG_POSTS // 2, len(statuses))
     compare("a stop", (member.stop(), member.lines[1:]), (0, []))
 
 
@@ -1021,13 +1201,18 @@ def main():
             test_crowd_of_wait,
             test_silent_beside_wait,
             test_unfinished,
+            test_slow_readers,
             test_patterns,
+            test_long_posts,
             test_full,
             test_room_again,
             test_full_of_notices,
             test_many_muting,
             test_frames_of_full,
             test_large,
+            test_clock_far_ahead,
+            test_event_far_ahead,
+            test_trusted_clock,
         ]
         try_each(tests, folder)
     finish("edges")

@@ -14,16 +14,20 @@ import socket
 import sys
 import tempfile
 import threading
+import time
 
 from lib import members
 from lib.error_lines import EARLY
 from lib.members import Member, free_ports, run, run_at_terminal
 from lib.samples import silence_of_job
-from lib.tally import check, compare, finish
+from lib.tally import check, compare, finish, try_each
 from lib.versions import row
 
 # The moment of each comparison, in nanoseconds.
 NOW = "50000000000"
+
+# For how many seconds a connection may last where nothing else is wanted.
+USUAL_LIMIT = 5
 
 REQUEST = "GET {1}/api/v2/silences HTTP/1.0\r\nHost: {0}\r\nAccept: application/json\r\nConnection: close\r\n\r\n"
 
@@ -40,10 +44,10 @@ def reply_of(body, status="200 OK"):
 
 
 class Server:
-    """A listener that sends each client the same bytes once its request is whole, or nothing, and closes."""
+    """A listener that sends each client the same bytes once its request is whole, or so many seconds later, or nothing, and closes."""
 
-    def __init__(self, reply):
-        self.reply, self.asked = reply, []
+    def __init__(self, reply, wait=0):
+        self.reply, self.wait, self.asked = reply, wait, []
         self.listener = socket.create_server(("127.0.0.1", 0))
         self.host = f"127.0.0.1:{self.listener.getsockname()[1]}"
         threading.Thread(target=self.serve, daemon=True).start()
@@ -57,6 +61,7 @@ class Server:
                     while not request.endswith(b"\r\n\r\n"):
                         request += stream.recv(4096)
                     self.asked.append(request.decode())
+                    time.sleep(self.wait)
                     if self.reply is None:
                         stream.recv(1)
                     else:
@@ -95,7 +100,7 @@ def test_lists(folder):
     compare("in JSON", (status, json.loads(output)), (5, [{"key": {"id": "a"}, "groups": groups}]))
 
 
-def test_paths():
+def test_paths(_folder):
     """A server's API may stand below a path."""
     for word, path in (("/alertmanager", "/alertmanager"), ("/a/b%20c/", "/a/b%20c"), ("/", ""), ("", "")):
         one, other = Server(reply_of("[]")), Server(reply_of("[]"))
@@ -103,7 +108,7 @@ def test_paths():
         compare(f"a server with the path {word!r}", (found, one.asked), ((0, "", ""), [REQUEST.format(one.host, path)]))
 
 
-def test_early():
+def test_early(_folder):
     """A moment that may have been meant in seconds is told at a terminal, where a server shows what is later."""
     one, none = Server(reply_of(json.dumps([gettable("a")]))), Server(reply_of("[]"))
     words = ["diff", "--state", "sil", "--now", "9", f"a=http://{one.host}", f"b=http://{none.host}"]
@@ -112,7 +117,7 @@ def test_early():
     compare("at a terminal", run_at_terminal(words), (5, lines, EARLY.format("1970-01-01T00:00:00.000Z")))
 
 
-def test_faults():
+def test_faults(_folder):
     """A server at fault is told by its name, and nothing is printed."""
     well = Server(reply_of("[]"))
     whole = json.dumps([gettable("a")])
@@ -131,6 +136,8 @@ def test_faults():
     silent = Server(None)
     wanted = (3, "", "am_tool: a Read 0\n")
     compare("no reply in time", differ(f"b=http://{well.host}", f"a=http://{silent.host}", words=["--time-limit", "1"]), wanted)
+    slow = Server(reply_of("[]"), wait=USUAL_LIMIT + 1)
+    compare("a reply in more time", differ(f"b=http://{well.host}", f"a=http://{slow.host}", words=["--time-limit", "600"]), (0, "", ""))
     port = free_ports(1)[0]
     wanted = (3, "", "am_tool: a Connect ConnectionRefused\n")
     compare("nobody there", differ(f"a=http://127.0.0.1:{port}", f"b=http://{well.host}"), wanted)
@@ -155,11 +162,7 @@ def test_member(folder):
 def main():
     members.choose("live sources", sys.argv[1:])
     with tempfile.TemporaryDirectory() as folder:
-        test_lists(folder)
-        test_paths()
-        test_early()
-        test_faults()
-        test_member(folder)
+        try_each([test_lists, test_paths, test_early, test_faults, test_member], folder)
     finish("live sources")
 
 

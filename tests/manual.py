@@ -72,8 +72,12 @@ def help_of(words):
     return output.decode().rstrip("\n").split("\n")
 
 
+# By how much the lines are indented that a command goes on with.
+INDENT = 4
+
+
 def folded(line):
-    """A command as lines that fit: it goes on behind a backslash, or behind a pipe."""
+    """A command as lines that fit: it goes on behind a backslash, or behind a pipe. One that can't be parted stays too long."""
     lines = []
     while len(line) > CODE:
         at = line.rfind(" | ", 0, CODE) + 2
@@ -82,9 +86,20 @@ def folded(line):
             # (no option is parted from its value, and no file from its redirection)
             at = max(line.rfind(sign, 0, CODE - 2) for sign in (" --", " <", " >"))
             end = " \\"
+        if at < INDENT:
+            break
         lines.append(line[:at] + end)
-        line = "    " + line[at + 1 :]
+        line = " " * INDENT + line[at + 1 :]
     return [*lines, line]
+
+
+def test_folded():
+    """Commands are parted where they may be, and those that can't be are told as too wide by the width of the page."""
+    word = "x" * CODE
+    compare("one that fits", folded(word), [word])
+    compare("one without a place to part it", folded(word + "y"), [word + "y"])
+    compare("nor behind its first part", folded(f"am_tool --a {word}"), ["am_tool \\", f"    --a {word}"])
+    compare("one with a pipe", folded(f"{'a' * 40} | {'b' * 40}"), ["a" * 40 + " |", "    " + "b" * 40])
 
 
 def paragraphs(lines):
@@ -156,6 +171,7 @@ def main():
     words = sys.argv[1:]
     is_written = words[:1] == ["--write"]
     members.choose("manual", words[is_written:])
+    test_folded()
     made = page()
     if is_written:
         with open(PAGE, "w", encoding="utf-8") as file:

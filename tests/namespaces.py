@@ -27,7 +27,7 @@ from lib import members
 from lib.members import PATIENCE, TOP, begun, eventually
 from lib.tally import check, compare, finish, try_each
 from lib.wire import delta
-from machines import ANOTHER, SECRET, connection, stop, written
+from machines import ANOTHER, SECRET, burst, stop, written
 
 # Where machines hear requests, at port 9093, and where members hear frames: b at the same port.
 AT = {"a": "10.77.0.1", "b": "10.77.0.2", "c": "10.77.0.3", "d": "10.77.0.4"}
@@ -85,6 +85,10 @@ class Member(machines.Member):
     def send(self, *pieces, close=True, at=None):
         with inside(self.name):
             return super().send(*pieces, close=close, at=at)
+
+    def answer(self, greets, answer, at=None):
+        with inside(self.name):
+            return super().answer(greets, answer, at)
 
     def states(self):
         return {silence["comment"]: silence["status"]["state"] for silence in self.listed() or []}
@@ -171,7 +175,7 @@ def strangers(folder):
         compare("d takes a post", [each.say("of d") for each in [begun(d)]], [200])
         for member, peer in zip(of, "baa"):
             check(f"{member.name} refuses d", member.told("am_tool: Seal Missing"), member.lines)
-            d.send(connection(ANOTHER, peer, member.name, text), at=FRAMES[member.name])
+            d.answer(peer, lambda challenge, of=(peer, member.name): [burst(ANOTHER, challenge, *of, text)], FRAMES[member.name])
             check(f"{member.name} refuses another secret", member.told_of("am_tool: Seal Sum", peer), member.whole_lines)
             shown = d.ask("GET", "/api/v2/silences", host=member.address, at=(member.address, 9093))
             compare(f"what {member.name} shows to d", shown, (200, b"[]"))

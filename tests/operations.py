@@ -14,9 +14,11 @@ import datetime
 import json
 import os
 import re
+import resource
 import shutil
 import signal
 import socket
+import struct
 import subprocess
 import sys
 import tempfile
@@ -27,7 +29,7 @@ from lib import members, versions
 from lib.api import request, silence
 from lib.members import TOP, Member, Stoppable, begun, eventually, free_ports, outcome, run
 from lib.tally import check, compare, finish, skip, try_each
-from lib.wire import EMPTY_PUSH, delimited, delta, greeting
+from lib.wire import EMPTY_PUSH, PUSH, TICK, delimited, delta, greeting, varint
 
 PATHS = ["/", "/-/healthy", "/-/ready", "/api/v2/status", "/api/v2/receivers", "/metrics"]
 
@@ -204,6 +206,7 @@ def test_status(folder):
     compare("the options", lines, [
         "--name a", f"--listen {port}", f"--peer b={peer}", f'--peer c"\\={other}', "--patterns regex", "--host am.example",
         f"--sil {member.sil}", f"--nfl {member.nfl}", "--retention 3600", "--peer-timeout 15", "--time-limit 5",
+        "--decide-limit 10",
         "--at-once 256", "--waiting 128", "--most-unfinished 134217728", "--most-bytes 1073741824", "--lines-a-second 10",
         "--tick-every 60", "--gossip-every 60", "--log", "--pull-first-limit 30", "",
     ])  # fmt: skip
@@ -276,8 +279,9 @@ def test_text(folder):
     compare("the version", found.get("alertmanager_build_info", version=version), 1)
     start = found.get("process_start_time_seconds")
     check("the start", abs(start - time.time()) < members.PATIENCE, start)
-    for name in ("process_resident_memory_bytes", "process_open_fds"):
-        check(name, found.get(name) > 1, found.get(name))
+    system = of_system(member.process.pid)
+    wanted = {name: (value, found.get(name)) for name, value in system.items() if not is_near(found.get(name), value)}
+    compare("what the system says of the process, and what is told", wanted, {})
     check("bounded", len(body) < 100_000, len(body))
     if shutil.which("promtool"):
         ran = subprocess.run(["promtool", "check", "metrics"], input=body, capture_output=True)
@@ -287,10 +291,45 @@ def test_text(folder):
     member.kill()
 
 
+def of_system(process):
+    """The figures of a process, as the system has them."""
+    with open(f"/proc/{process}/statm", encoding="ascii") as file:
+        pages = int(file.read().split()[1])
+    return {"process_resident_memory_bytes": pages * os.sysconf("SC_PAGESIZE"), "process_open_fds": len(os.listdir(f"/proc/{process}/fd"))}
+
+
+def is_near(found, wanted):
+    """Whether a figure is within a tenth of what is wanted, or one more or less, as that of a connection that is closed."""
+    return abs(found - wanted) <= max(1, wanted / 10)
+
+
+class Counted(Member):
+    """A member that knows over how many connections it was asked, and over how many for its figures."""
+
+    connections, looks = 0, 0
+
+    def send(self, *pieces, **how):
+        self.connections += 1
+        self.looks += pieces[0].startswith(b"GET /metrics ")
+        return super().send(*pieces, **how)
+
+
+def nonzero(found, family):
+    """The figures of a family that aren't 0, by the words of their labels."""
+    of_family = {key: value for key, value in found.samples.items() if key[0] == family and value}
+    return {" ".join(word for _, word in sorted(labels)): value for (_, labels), value in of_family.items()}
+
+
+def compare_families(found, wanted):
+    """Compares families with what their figures are to be that aren't 0."""
+    for family, figures_of_it in wanted.items():
+        compare(family, nonzero(found, family), figures_of_it)
+
+
 def test_counts(folder):
     """Figures that have to move, and none that an asker makes."""
-    ports = dict(zip("ab", free_ports(2)))
-    member = Member("a", ports["a"], [("b", ports["b"])], folder, ["--tick-every", "1"])
+    begun_at, (port, peer) = time.monotonic(), free_ports(2)
+    member = Counted("a", port, [("b", peer)], folder)
     member.start()
     before = figures(member)
     compare("three posts", [member.post(silence(f"v{at}"))[0] for at in range(3)], [200] * 3)
@@ -308,46 +347,172 @@ def test_counts(folder):
     compare("a decision", member.ask("POST", "/v1/decide?wait=false", body)[0], 200)
     muted = json.dumps({**message, "alerts": [{"status": "firing", "labels": {"job": "v1", "reason": "First"}}]}).encode()
     compare("a decision on what is muted", member.ask("POST", "/v1/decide?wait=false", muted)[0], 200)
-    found = eventually(lambda: (it := figures(member)).get("maityrunga_frames_lost_total", peer="b", cause="connect") and it)
-
-    def grown(name, **labels):
-        return found.get(name, **labels) - before.get(name, **labels)
-
-    requests = "maityrunga_http_requests_total"
-    for call, status, wanted in [
-        ("post", "200", 3), ("post", "400", 1), ("list", "200", 1), ("other", "404", 3), ("other", "400", 1), ("other", "403", 1),
-        ("decide", "200", 2), ("post", "500", 0),
-    ]:  # fmt: skip
-        compare(f"{call} {status}", grown(requests, call=call, status=status), wanted)
-    compare("times of posts", grown("maityrunga_http_request_duration_seconds_count", call="post"), 4)
-    check("they took time", grown("maityrunga_http_request_duration_seconds_sum", call="post") > 0)
-    compare("active ones", grown("alertmanager_silences", state="active"), 3)
-    for event, wanted in [("post", 3), ("list", 1), ("mutes", 2), ("decide", 1)]:
-        compare(f"steps: {event}", grown("maityrunga_steps_total", event=event), wanted)
-    for reason, wanted in [("First", 1), ("Muted", 1), ("Repeat", 0)]:
-        compare(f"decisions: {reason}", grown("maityrunga_decisions_total", reason=reason), wanted)
-    check("frames sent", grown("maityrunga_frames_sent_total", peer="b") >= 3)
-    check("frames lost", grown("maityrunga_frames_lost_total", peer="b", cause="connect") >= 3)
-    check("messages", grown("alertmanager_cluster_messages_sent_total", msg_type="update") >= 3)
+    all_lost = lambda it: it.get("maityrunga_frames_lost_total", peer="b", cause="connect") == 3
+    found = eventually(lambda: all_lost(it := figures(member)) and it) or figures(member)
     compare("labels", found.samples.keys() - before.samples.keys(), set())
-    check("connections", found.get("maityrunga_connections") <= 2, found.get("maityrunga_connections"))
-    check("connections accepted", grown("maityrunga_connections_accepted_total") >= 12)
-    compare("nothing was heard of b", found.get("maityrunga_peer_last_heard_timestamp_seconds", peer="b"), 0)
-    accepted = found.get("maityrunga_connections_accepted_total")
+    compare("connections accepted", found.get("maityrunga_connections_accepted_total"), member.connections)
+    looks = member.looks - 1
+    compare_families(found, {
+        "maityrunga_http_requests_total": {
+            "post 200": 3, "post 400": 1, "list 200": 1, "other 404": 3, "other 400": 1, "other 403": 1, "decide 200": 2,
+            "metrics 200": looks,
+        },
+        "alertmanager_silences": {"active": 3},
+        "alertmanager_cluster_messages_sent_total": {"update": 3},
+        "maityrunga_steps_total": {"post": 3, "list": 1, "mutes": 2, "decide": 1},
+        "maityrunga_decisions_total": {"First": 1, "Muted": 1},
+        "maityrunga_http_request_duration_seconds_count": {"post": 4, "list": 1, "other": 5, "decide": 2, "metrics": looks},
+        "maityrunga_frames_sent_total": {"b": 3},
+        "maityrunga_frames_lost_total": {"connect b": 3},
+        "maityrunga_peer_last_heard_timestamp_seconds": {},
+    })  # fmt: skip
+    seconds, passed = nonzero(found, "maityrunga_http_request_duration_seconds_sum"), time.monotonic() - begun_at
+    check("requests took time", sorted(seconds) == ["decide", "list", "metrics", "other", "post"] and sum(seconds.values()) < passed, (seconds, passed))
     member.send(greeting("b"))
     member.send(greeting("b") + b"\xff")
-    found = eventually(lambda: (it := figures(member)).get("maityrunga_connections_accepted_total") >= accepted + 2 and it)
+    all_came = lambda it: it.get("maityrunga_connections_accepted_total") == member.connections
+    found = eventually(lambda: all_came(it := figures(member)) and it) or figures(member)
     compare("a greeting alone isn't heard, nor a frame that is none", found.get("maityrunga_peer_last_heard_timestamp_seconds", peer="b"), 0)
     version = versions.silence("z job=z 10..5000000000 updated 10 expires 6000000000")
-    member.send(greeting("b") + delta("sil", version) + EMPTY_PUSH)
-    found = eventually(lambda: (it := figures(member)).get("maityrunga_frames_taken_total", peer="b") == 2 and it)
+    member.send(greeting("b") + delta("sil", version) + EMPTY_PUSH + TICK)
+    all_done = lambda it: it.get("maityrunga_frames_taken_total", peer="b") == 3 and it.get("maityrunga_steps_total", event="tick") == 1
+    found = eventually(lambda: all_done(it := figures(member)) and it) or figures(member)
     heard = found.get("maityrunga_peer_last_heard_timestamp_seconds", peer="b")
     check("b was heard now", abs(heard - time.time()) < members.PATIENCE, heard)
-    for kind in ("update", "full_state"):
-        compare(f"a frame: {kind}", found.get("alertmanager_cluster_messages_received_total", msg_type=kind), 1)
-    for event in ("delta", "state"):
-        compare(f"steps: {event}", found.get("maityrunga_steps_total", event=event), 1)
+    compare_families(found, {
+        "alertmanager_cluster_messages_received_total": {"update": 1, "full_state": 1, "tick": 1},
+        "maityrunga_frames_taken_total": {"b": 3},
+        "maityrunga_steps_total": {"post": 3, "list": 1, "mutes": 2, "decide": 1, "delta": 1, "state": 1, "tick": 1},
+    })  # fmt: skip
+    check("one connection is open", eventually(lambda: figures(member).get("maityrunga_connections") == 1), figures(member).get("maityrunga_connections"))
+    with members.asked(member, b""), members.asked(member, b""):
+        check("three are open", eventually(lambda: figures(member).get("maityrunga_connections") == 3), figures(member).get("maityrunga_connections"))
     member.kill()
+
+
+def reset(stream):
+    """Ends a connection as one does that something is wrong with."""
+    stream.setsockopt(socket.SOL_SOCKET, socket.SO_LINGER, struct.pack("ii", 1, 0))
+    stream.close()
+
+
+def test_links(folder):
+    """What goes to a peer that takes it, the whole state too, is sent, and not lost."""
+    (port,) = free_ports(1)
+    with members.silent_peer() as peer:
+        member = begun(Member("a", port, [("b", peer.getsockname()[1])], folder))
+        compare("a post", member.post(silence("x"))[0], 200)
+        member.send(greeting("b") + EMPTY_PUSH)
+        both = lambda it: it.get("maityrunga_frames_sent_total", peer="b") == 2
+        compare_families(eventually(lambda: both(it := figures(member)) and it) or figures(member), {
+            "alertmanager_cluster_messages_sent_total": {"update": 1, "full_state": 1},
+            "alertmanager_cluster_messages_received_total": {"full_state": 1},
+            "maityrunga_frames_sent_total": {"b": 2},
+            "maityrunga_frames_lost_total": {},
+            "maityrunga_frames_unsent_total": {},
+        })  # fmt: skip
+        member.kill()
+
+
+def narrow_peer():
+    """A listener into whose connections little goes that nobody reads."""
+    listener = socket.socket()
+    listener.setsockopt(socket.SOL_SOCKET, socket.SO_RCVBUF, 4096)
+    listener.bind(("127.0.0.1", 0))
+    listener.listen()
+    listener.settimeout(members.PATIENCE)
+    return listener
+
+
+def test_lost(folder):
+    """What a peer doesn't read within the time limit is lost, and so is what one has not read that breaks the connection."""
+    (port,) = free_ports(1)
+    version = lambda key: versions.silence(f"{key} job=x 10..5000000000 updated 10 expires 6000000000 by me saying {'c' * 900_000}")
+    with narrow_peer() as mute, narrow_peer() as broken:
+        peers = [("b", mute.getsockname()[1]), ("c", broken.getsockname()[1])]
+        member = Member("a", port, peers, folder, ["--time-limit", "3", *members.ALL_LINES])
+        members.write(member.sil, b"".join(delimited(version(f"k{it}")) for it in range(12)))
+        begun(member)
+        for name in "bc":
+            member.send(greeting(name) + EMPTY_PUSH)
+        stream, _ = broken.accept()
+        stream.recv(1)
+        reset(stream)
+        wanted, family = {"time b": 1, "write c": 1}, "maityrunga_frames_lost_total"
+        lost = eventually(lambda: nonzero(figures(member), family) == wanted)
+        check("a frame is lost to each", lost, (nonzero(figures(member), family), member.lines))
+        compare("which is told", sum(it.startswith("am_tool: Send Write ") for it in member.lines), 2)
+        member.kill()
+
+
+def test_unsent(folder):
+    """A version that is too large for a frame, as one of a file may be, goes to no peer, and is counted."""
+    port, peer = free_ports(2)
+    member = Member("a", port, [("b", peer)], folder, ["--time-limit", "60"])
+    words = "k job=x 10..5000000000 updated 10 expires 6000000000 by me saying "
+    # (a Delta has at most 4 MiB)
+    members.write(member.sil, delimited(versions.silence(words + "c" * 4_194_304)))
+    begun(member)
+    compare("it is ended", member.ask("DELETE", "/api/v2/silence/k"), (200, b""))
+    compare_families(figures(member), {
+        "maityrunga_steps_total": {"delete": 1},
+        "maityrunga_frames_unsent_total": {"limit": 1},
+        "maityrunga_frames_sent_total": {},
+    })  # fmt: skip
+    compare("which is told", eventually(lambda: member.lines[1:]), ["am_tool: Unsent Limit 1"])
+    member.kill()
+
+
+def test_broken(folder):
+    """Connections that break are counted by their cause, and those that the system refuses."""
+    port, peer = free_ports(2)
+    options = ["--time-limit", "60", "--peer-timeout", "600", "--at-once", "4", "--most-unfinished", "1000000", *members.ALL_LINES]
+    member = begun(Member("b", port, [("a", peer)], folder, options))
+    wanted, family = {}, "maityrunga_connections_broken_total"
+
+    def so_many(cause, number):
+        wanted[cause] = number
+        found = eventually(lambda: nonzero(figures(member), family) == wanted, 20)
+        check(f"{number} by {cause}", found, (nonzero(figures(member), family), wanted))
+
+    waits = members.asked(member, request("POST", "/v1/decide", group("later")))
+    check("it waits", eventually(lambda: figures(member).get("maityrunga_requests_waiting") == 1))
+    reset(waits)
+    so_many("read", 1)
+    large = [members.asked(member, greeting("a") + bytes([PUSH]) + varint(10_000_000) + bytes(size)) for size in (600_000, 500_000)]
+    so_many("unfinished", 1)
+    for stream in large:
+        stream.close()
+    silent = [members.asked(member, b"") for _ in range(6)]
+    # (of the last four one gave its place to the question)
+    so_many("crowded", 3)
+    for stream in silent:
+        stream.close()
+    compare("large posts", [member.post(silence(str(it), "c" * 900_000))[0] for it in range(8)], [200] * 8)
+    unread = socket.socket()
+    unread.setsockopt(socket.SOL_SOCKET, socket.SO_RCVBUF, 4096)
+    unread.connect(("127.0.0.1", port))
+    unread.sendall(b"GET /api/v2/silences HTTP/1.1\r\n\r\n")
+    unread.recv(1)
+    reset(unread)
+    so_many("write", 1)
+    try_refused(member)
+    member.kill()
+
+
+def try_refused(member):
+    """Has the system refuse a member a connection, for want of descriptors."""
+    _, most = resource.prlimit(member.process.pid, resource.RLIMIT_NOFILE)
+    check("all is closed", eventually(lambda: figures(member).get("maityrunga_connections") == 1))
+    compare("none is refused yet", figures(member).get("maityrunga_accepts_failed_total"), 0)
+    resource.prlimit(member.process.pid, resource.RLIMIT_NOFILE, (len(os.listdir(f"/proc/{member.process.pid}/fd")), most))
+    with members.asked(member, b"") as stream:
+        told = lambda: sum(it.startswith("am_tool: Accept ") for it in member.lines)
+        check("a refusal is told", eventually(told), member.lines[-3:])
+        resource.prlimit(member.process.pid, resource.RLIMIT_NOFILE, (most, most))
+        stream.settimeout(members.PATIENCE)
+    same = lambda: figures(member).get("maityrunga_accepts_failed_total") == told()
+    check("each is counted", eventually(same), (figures(member).get("maityrunga_accepts_failed_total"), told()))
 
 
 def group(key):
@@ -367,11 +532,12 @@ def test_driven(folder):
     _, answer = member.ask("POST", "/v1/decide?wait=false", group("one"))
     compare("a notice", member.ask("POST", "/v1/notified", answer)[0], 200)
     compare("and its entry", figures(member).get("maityrunga_log_entries"), 6)
-    for waiting in (1, 2):
+    waiting = []
+    for count in (1, 2):
         # (whose turn comes after ten minutes, as this member is the second one)
-        members.asked(member, request("POST", "/v1/decide", group(f"later {waiting}")))
-        found = eventually(lambda: figures(member).get("maityrunga_requests_waiting") == waiting)
-        check(f"{waiting} wait for their turn", found, figures(member).get("maityrunga_requests_waiting"))
+        waiting.append(members.asked(member, request("POST", "/v1/decide", group(f"later {count}"))))
+        found = eventually(lambda: figures(member).get("maityrunga_requests_waiting") == count)
+        check(f"{count} wait for their turn", found, figures(member).get("maityrunga_requests_waiting"))
     for count in (1, 2):
         members.received(members.asked(member, b""))
         found = eventually(lambda: figures(member).get("maityrunga_connections_broken_total", cause="time") == count)
@@ -396,21 +562,35 @@ def processor_seconds(process):
 
 def test_saves(folder):
     """Saves that are done, and saves that fail."""
-    (port,) = free_ports(1)
+    port, peer = free_ports(2)
     os.mkdir(f"{folder}/there")
-    member = Member("a", port, [], f"{folder}/there", ["--save-every", "1", "--tick-every", "1"])
+    member = Member("a", port, [("b", peer)], f"{folder}/there", members.ALL_LINES)
     member.start()
-    member.post(silence("x"))
-    found = eventually(lambda: (it := figures(member)).get("maityrunga_saves_total", state="sil") and it)
-    done = found.get("maityrunga_last_save_timestamp_seconds", state="sil")
-    check("a save is done", abs(done - time.time()) < members.PATIENCE, done)
-    check("it took a while", 0 < found.get("maityrunga_last_save_duration_seconds", state="sil") < members.PATIENCE)
-    check("ticks", found.get("maityrunga_steps_total", event="tick") > 0)
-    compare("no save failed", found.get("maityrunga_saves_failed_total", state="sil"), 0)
+    compare("nothing is saved yet", nonzero(figures(member), "maityrunga_saves_total"), {})
+    compare("a post", member.post(silence("x"))[0], 200)
+    begun_at = time.monotonic()
+    member.send(greeting("b") + TICK)
+    is_saved = lambda it: it.get("maityrunga_saves_total", state="nfl")
+    found = eventually(lambda: is_saved(it := figures(member)) and it) or figures(member)
+    passed = time.monotonic() - begun_at
+    compare_families(found, {
+        "maityrunga_saves_total": {"sil": 1, "nfl": 1},
+        "maityrunga_saves_failed_total": {},
+        "maityrunga_steps_total": {"post": 1, "tick": 1},
+    })  # fmt: skip
+    for state in ("sil", "nfl"):
+        done = found.get("maityrunga_last_save_timestamp_seconds", state=state)
+        check(f"a save of {state} is done", abs(done - time.time()) < members.PATIENCE, done)
+        took = found.get("maityrunga_last_save_duration_seconds", state=state)
+        check(f"that of {state} took a while", 0 < took < passed, (took, passed))
     os.rename(f"{folder}/there", f"{folder}/gone")
-    member.post(silence("y"))
-    failed = eventually(lambda: figures(member).get("maityrunga_saves_failed_total", state="sil"))
-    check("a save fails", failed > 0, failed)
+    compare("another post", member.post(silence("y"))[0], 200)
+    time.sleep(1.1)
+    member.send(greeting("b") + TICK)
+    failures = lambda: sum(it.startswith("am_tool: Silences File NotFound") for it in member.lines)
+    check("a save that fails is told", eventually(failures), member.lines)
+    compare("and counted", figures(member).get("maityrunga_saves_failed_total", state="sil"), failures())
+    compare("it is none that is done", figures(member).get("maityrunga_saves_total", state="sil"), 1)
     member.kill()
 
 
@@ -791,7 +971,7 @@ def completed(*words):
 def test_completions(_folder):
     compare("commands", completed(""), ["replay", "fold", "show", "diff", "pull", "push", "mend", "instance", "help"])
     compare("a command", completed("ins"), ["instance"])
-    compare("options of show", completed("show", "--"), ["--state", "--now", "--json", "--log", "--help"])
+    compare("options of show", completed("show", "--"), ["--state", "--now", "--json", "--log", "--keep-unknown", "--help"])
     for command in ("replay", "fold", "show", "diff", "pull", "push", "instance"):
         text = run([command, "--help"])[1].decode()
         wanted = re.findall(r"^ +(?:-\w, )?(--[a-z-]+)", text, re.M)
@@ -800,7 +980,8 @@ def test_completions(_folder):
 
 
 TESTS = [
-    test_calls, test_status, test_first_pull, test_stop, test_text, test_counts, test_driven, test_saves, test_log, test_many, test_rules,
+    test_calls, test_status, test_first_pull, test_stop, test_text, test_counts, test_links,
+    test_lost, test_unsent, test_broken, test_driven, test_saves, test_log, test_many, test_rules,
     test_unit, test_install, test_lacking_file, test_ready, test_upgrade, test_scrape, test_backup, test_completions,
     test_package, test_package_lacks_file, test_scripts,
 ]  # fmt: skip

@@ -22,6 +22,7 @@ import tempfile
 import threading
 import time
 
+from lib.answering import Answering
 from lib.members import PATIENCE, TOP, eventually, free_ports, outcome, sent
 from lib.tally import check, compare, finish, try_each
 from operations import Figures
@@ -43,29 +44,18 @@ ANSWER = {
 SKIP = {**ANSWER, "notify": False, "reason": "Skip"}
 
 
-class Answering(http.server.BaseHTTPRequestHandler):
+class Noting(Answering):
     """Writes down what comes, and answers what its server says."""
 
-    def do_POST(self):
-        body = self.rfile.read(int(self.headers["Content-Length"] or 0))
+    def found(self, body):
         self.server.came.append((time.monotonic(), self.path, body, dict(self.headers)))
         status, answer = self.server.answer(self.path, body)
-        data = answer if isinstance(answer, bytes) else json.dumps(answer).encode()
-        with contextlib.suppress(OSError):
-            self.send_response(status)
-            self.send_header("Content-Length", str(len(data)))
-            self.end_headers()
-            self.wfile.write(data)
-
-    do_GET = do_POST
-
-    def log_message(self, *_):
-        pass
+        return status, answer if isinstance(answer, bytes) else json.dumps(answer).encode()
 
 
 def serving(answer, port=0):
     """A server, which answers as a function of a path and a body says."""
-    server = http.server.ThreadingHTTPServer(("127.0.0.1", port), Answering)
+    server = http.server.ThreadingHTTPServer(("127.0.0.1", port), Noting)
     server.came, server.answer, server.port = [], answer, server.server_address[1]
     threading.Thread(target=server.serve_forever, daemon=True).start()
     return server

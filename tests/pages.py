@@ -42,6 +42,7 @@ import threading
 import time
 
 from lib import members
+from lib.answering import Answering
 from lib.api import request
 from lib.incidents import ALL_TURNS, GROUP_WAIT, INTERVAL, LATE, LATE_CALLER, NAMES, NEED, NO_CAUSE, PAIRS, SLOW, SLOW_MACHINE
 from lib.incidents import APART, TURN, TURNS
@@ -103,26 +104,13 @@ class Member(members.Member):
             return None, b""
 
 
-class Between(http.server.BaseHTTPRequestHandler):
+class Between(Answering):
     """Whom an am_pager meets: its member, behind this script, and whoever receives its pages."""
 
-    def do_POST(self):
-        body = self.rfile.read(int(self.headers["Content-Length"] or 0))
-        found = self.server.notifier.page(body) if self.path == "/page" else self.server.notifier.pass_on(self.command, self.path, body)
-        if found is None:
-            # (as of a member that isn't there)
-            return
-        status, data = found
-        with contextlib.suppress(OSError):
-            self.send_response(status)
-            self.send_header("Content-Length", str(len(data)))
-            self.end_headers()
-            self.wfile.write(data)
-
-    do_GET = do_POST
-
-    def log_message(self, *_):
-        pass
+    def found(self, body):
+        if self.path == "/page":
+            return self.server.notifier.page(body)
+        return self.server.notifier.pass_on(self.command, self.path, body)
 
 
 class Port(http.server.ThreadingHTTPServer):

@@ -17,7 +17,7 @@ import tempfile
 import xml.etree.ElementTree as ElementTree
 
 from lib.members import TOP, choose, run
-from lib.tally import check, compare, finish
+from lib.tally import check, compare, finish, try_each
 
 PICTURES = f"{TOP}/docs/pictures"
 SCHEDULES = f"{TOP}/cases/replay"
@@ -68,14 +68,19 @@ def steps_of(schedule):
     return [(number, line) for number, line in lines if re.match("(at|stop|save|lose|timely|frames)( |$)", line)]
 
 
-def test_documents(folder, writes):
+def write_documents():
+    """Writes the pictures of the documents."""
+    with tempfile.TemporaryDirectory() as folder:
+        for path in named(PICTURES, "schedule"):
+            with open(path.replace(".schedule", ".svg"), "wb") as file:
+                file.write(drawn(bytes_of(path), folder)[1])
+
+
+def test_documents(folder):
     """The pictures of the documents are what is drawn, each time."""
     for path in named(PICTURES, "schedule"):
         schedule, wanted = bytes_of(path), path.replace(".schedule", ".svg")
         ran, picture = drawn(schedule, folder)
-        if writes:
-            with open(wanted, "wb") as file:
-                file.write(picture)
         compare(f"{path} is played as without a picture", ran, run(["replay"], input=schedule))
         check(f"{path} is drawn as {wanted}", picture == bytes_of(wanted), "see tests/pictures.py --write")
         compare(f"{path} is drawn alike once more", drawn(schedule, folder)[1] == picture, True)
@@ -245,15 +250,11 @@ def test_limits(folder):
 def main():
     writes = "--write" in sys.argv[1:]
     choose("pictures", [word for word in sys.argv[1:] if word != "--write"])
+    if writes:
+        write_documents()
     with tempfile.TemporaryDirectory() as folder:
-        test_documents(folder, writes)
-        test_counts(folder)
-        test_frames(folder)
-        test_gaps(folder)
-        test_once_more(folder)
-        test_moments(folder)
-        test_texts(folder)
-        test_limits(folder)
+        tests = [test_documents, test_counts, test_frames, test_gaps, test_once_more, test_moments, test_texts, test_limits]
+        try_each(tests, folder)
     finish("pictures")
 
 

@@ -6,7 +6,8 @@
 PROGRAM is crates/am_tool/out/am_tool if it isn't given; ./am_tool and rt ci build it. The Alertmanager is Debian's
 prometheus-alertmanager on loopback; where it isn't installed nothing is tried. What it has paged a moment ago, the member doesn't
 page again, long before their next exchange. A silence with a pattern that RE2 doesn't read is refused where it is posted, or, with
-`--patterns regex`, is taken and never sent, is told in a line and counted; the Alertmanager goes on muting by its other silences. It
+`--patterns regex`, is taken and never sent, is told in a line and counted; the Alertmanager goes on muting by its other silences.
+Fields of a later release go from one Alertmanager through a member, its log, its file and a restart to another, byte for byte. It
 takes half a minute or so. Prints each case that fails, and at the end how many passed.
 """
 
@@ -16,11 +17,12 @@ import sys
 import tempfile
 import time
 
-from lib import members
+from lib import members, versions
 from lib.alertmanagers import Replica, must_be_installed, receiver, start
 from lib.api import silence
-from lib.members import Member, eventually, free_ports
+from lib.members import Member, Stoppable, eventually, free_ports
 from lib.tally import attempt, check, compare, finish
+from lib.wire import delimited, field, fields_of
 
 TITLE = "real beside"
 
@@ -114,6 +116,44 @@ def test_withheld(one, member):
     check("its silences are read", "Querying silences failed" not in one.log(), one.log()[-2000:])
 
 
+def later():
+    """A row of a silence with fields of a later release: 10 and 11 in it, and 8 beside it."""
+    now = int(time.time())
+    text = f"6f1d2a34-0000-4000-8000-000000000001 job=x {now - 10}..{now + 3600} updated {now - 5} expires {now + 400_000} by me saying later"
+    (_, inner), (_, expires) = fields_of(versions.silence(text))
+    return delimited(field(1, inner + bytes.fromhex("520170 588100")) + field(2, expires) + bytes.fromhex("420171"))
+
+
+def test_later_fields(folder):
+    """The fields of a later release pass through an Alertmanager and a member, its log, its file and a restart, to another one."""
+    row = later()
+    first, second = replicas = [One(it, folder) for it in ("first", "second")]
+    try:
+        start([first], [second])
+        source = lambda it: f"gossip://127.0.0.1:{it.gossip}"
+        pull = lambda it: members.run(["pull", "--state", "sil", source(it)])
+        status, _, error = members.run(["push", "--state", "sil", source(first)], input=row)
+        compare("a push", (status, error), (0, ""))
+        compare("the Alertmanager keeps them", pull(first), (0, row, ""))
+        os.mkdir(f"{folder}/later")
+        beside = ["--gossip", f"first={first.gossip}", "--log"]
+        member = members.begun(Stoppable("later", *free_ports(1), [], f"{folder}/later", beside))
+        check("the member has it", eventually(lambda: member.comments() == ["later"]), member.lines)
+        compare("a stop", member.stop(), 0)
+        with open(member.sil, "rb") as file:
+            compare("the member keeps them", file.read(), row)
+        member.words[member.words.index(f"first={first.gossip}")] = f"second={second.gossip}"
+        check("a start", member.start(), member.lines)
+        check("the other has it", eventually(lambda: len(second.listed()) == 1), member.lines)
+        compare("as the first", pull(second), (0, row, ""))
+        compare("a stop", member.stop(), 0)
+    finally:
+        for it in replicas:
+            if it.process is not None:
+                it.process.kill()
+                it.process.wait()
+
+
 def main():
     must_be_installed(TITLE)
     members.choose(TITLE, sys.argv[1:])
@@ -131,6 +171,8 @@ def main():
         if one.process is not None:
             one.process.kill()
             one.process.wait()
+        with attempt("fields of a later release"):
+            test_later_fields(folder)
     finish(TITLE)
 
 

@@ -15,6 +15,7 @@ import os
 import random
 import re
 import resource
+import select
 import shutil
 import signal
 import socket
@@ -25,7 +26,7 @@ import threading
 import time
 
 from lib import members
-from lib.api import silence
+from lib.api import moment, silence
 from lib.members import PATIENCE, eventually, free_ports, outcome, parted, received, run
 from lib.samples import FIRST
 from lib.tally import check, compare, finish, skip, try_each
@@ -119,6 +120,8 @@ def test_three_members(folder):
         compare(f"{member.name} saved three silences", member.saved("sil")[1].count("\n"), 3)
 
     # what came behind the last save is lost with the process, and comes back from a peer
+    # (a Tick that comes within a second of another one is made later)
+    time.sleep(1.5)
     status, _ = b.post(silence("late"))
     compare("a post before the end", status, 200)
     late = lambda m: ("late", "active") in values(m.listed())
@@ -143,6 +146,41 @@ def test_three_members(folder):
     for member in three:
         compare(f"{member.name} runs", member.process.poll(), None)
         member.kill()
+
+
+def test_same_silence(folder):
+    """A silence is listed as it was posted, to the millisecond and the letter, by the member that took it and by the others, also
+    once it was updated and ended."""
+    three, now = trio(folder), int(time.time())
+    matchers = [{"name": it, "value": f"{it}.*", "isRegex": it != "job", "isEqual": it != "zone"} for it in ("job", "instance", "zone")]
+    posted = {"createdBy": "ann", "comment": "a change of disks, rack 7", "matchers": matchers}
+    posted.update(startsAt=moment(1000 * now + 600_123), endsAt=moment(1000 * now + 7_200_456))
+    key = json.loads(three[0].post(posted)[1])["silenceID"]
+    listed_alike(three, {**posted, "id": key, "status": {"state": "pending"}}, now)
+    longer = {**posted, "id": key, "comment": "it takes longer", "endsAt": moment(1000 * now + 9_000_789)}
+    compare("an update at another one", json.loads(three[1].post(longer)[1]), {"silenceID": key})
+    listed_alike(three, {**longer, "status": {"state": "pending"}}, now)
+    compare("its end at the third", three[2].ask("DELETE", f"/api/v2/silence/{key}"), (200, b""))
+    ended = json.loads(three[2].ask("GET", f"/api/v2/silence/{key}")[1])
+    compare("the moments of its end", (ended["startsAt"], ended["endsAt"]), (ended["updatedAt"],) * 2)
+    listed_alike(three, {**longer, "startsAt": ended["startsAt"], "endsAt": ended["endsAt"], "status": {"state": "expired"}}, now)
+    for member in three:
+        member.kill()
+
+
+def listed_alike(three, wanted, now):
+    """Compares what members list, and what each says of the one silence, with what is wanted; it was updated just now, at one moment."""
+    updates = lambda: {(it.listed() or [{}])[0].get("updatedAt") for it in three}
+    check("all name one moment of the update", eventually(lambda: len(updates()) == 1), updates())
+    check("which is now", all(now <= seconds_of(it[:19] + "Z") <= time.time() for it in updates()), updates())
+    by_name = lambda matchers: sorted(matchers, key=lambda it: it["name"])
+    for member in three:
+        (found,) = member.listed()
+        text = json.dumps(found, separators=(",", ":")).encode()
+        compare(f"{member.name} says the same of it alone", member.ask("GET", f"/api/v2/silence/{wanted['id']}")[1], text)
+        del found["updatedAt"]
+        found["matchers"] = by_name(found["matchers"])
+        compare(f"what {member.name} lists", found, {**wanted, "matchers": by_name(wanted["matchers"])})
 
 
 def seconds_of(text):
@@ -210,14 +248,17 @@ def spam(member):
 
 def test_clients(folder):
     """No client stops a member: each loses its connection when its time is over, and the next one is served."""
-    (port,) = free_ports(1)
-    member = Member("m", port, [("p", 1)], folder, ["--time-limit", "1"])
+    port, other = free_ports(2)
+    member, patient = Member("m", port, [("p", 1)], folder, ["--time-limit", "1"]), Member("n", other, [], folder, ["--time-limit", "600"])
     well = lambda: member.ask("GET", "/api/v2/silences")[0] == 200
-    begun = time.monotonic()
-    with socket.create_connection(("127.0.0.1", port), timeout=PATIENCE) as silent:
-        check("a client waits behind a silent one", well())
-        check("the silent one is let go", received(silent) == b"")
-    check("not before its time", time.monotonic() - begun > 0.9)
+    with socket.create_connection(("127.0.0.1", other), timeout=PATIENCE) as longer:
+        begun = time.monotonic()
+        with socket.create_connection(("127.0.0.1", port), timeout=PATIENCE) as silent:
+            check("a client waits behind a silent one", well())
+            check("the silent one is let go", received(silent) == b"")
+        check("not before its time", time.monotonic() - begun > 0.9)
+        check("nor another one behind it, at a member that gives more", not select.select([longer], [], [], 0.2)[0])
+    patient.kill()
     check("and it is told", eventually(lambda: member.lines[1:]), member.lines)
     compare("as a read that failed", member.lines[1:], ["am_tool: Read 0"])
 
@@ -505,6 +546,7 @@ def main():
 
 TESTS = [
     test_three_members,
+    test_same_silence,
     test_connections,
     test_killed_while_saving,
     test_clients,

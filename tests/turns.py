@@ -9,9 +9,11 @@ decided cases/ have, and tests/pages.py programs that send pages.
 
 import contextlib
 import json
+import re
 import select
 import signal
 import socket
+import struct
 import sys
 import tempfile
 import time
@@ -23,6 +25,9 @@ from lib.tally import check, compare, finish, try_each
 
 # The time for which members wait for one another, in seconds.
 TURN = 2
+
+# How many may wait where clients go.
+CROWD = 20
 
 # The smallest limits of bytes and the largest body.
 MOST_BODY = 1_048_576
@@ -118,12 +123,50 @@ def test_limit(folder):
 
 
 def test_gone(folder):
-    """One that goes before its turn leaves its place, once its turn has come."""
+    """One that goes before its turn leaves its place, and others have theirs."""
     of = member("b", folder, ["--at-once", "4", "--waiting", "1"])
     asked(of, "/v1/decide", message("g")).close()
     again = lambda: answered(asked(of, "/v1/decide", message("h")))
     found = eventually(lambda: (reply := again())[0] == 200 and decided(reply), 3 * TURN)
     compare("its place is free", found, (200, True, "First"))
+    of.kill()
+
+
+def waiting_at(of):
+    """How many decisions wait."""
+    _, text = of.ask("GET", "/metrics")
+    return int(re.search(r"^maityrunga_requests_waiting (\d+)$", text.decode(), re.M)[1])
+
+
+def test_gone_at_once(folder):
+    """Those whose clients go give their places back long before their turn, each once."""
+    turns = 12
+    of = member("b", folder, ["--at-once", "64", "--waiting", str(CROWD)], [f"a{number:02}" for number in range(turns)])
+    start = time.monotonic()
+    ask = lambda key: asked(of, "/v1/decide", message(key))
+    stays = ask("stays")
+    gone = [ask(f"g{number}") for number in range(CROWD - 1)]
+    check("all wait", eventually(lambda: waiting_at(of) == CROWD, TURN * turns), waiting_at(of))
+    compare("one more", answered(ask("more"))[:2], (503, "too many wait"))
+    for number, stream in enumerate(gone):
+        if number % 3 == 0:
+            # (it ends its own side alone, as one does that is closed)
+            stream.shutdown(socket.SHUT_WR)
+        elif number % 3 == 1:
+            # (a stream that is closed so is reset)
+            stream.setsockopt(socket.SOL_SOCKET, socket.SO_LINGER, struct.pack("ii", 1, 0))
+        if number % 3:
+            stream.close()
+    check("all places are free but one", eventually(lambda: waiting_at(of) == 1, TURN * turns), waiting_at(of))
+    compare("one whose own side alone has ended is let go", [received(it) for it in gone[::3]], [b""] * len(gone[::3]))
+    more = [ask(f"h{number}") for number in range(CROWD - 1)]
+    check("as many may wait again", eventually(lambda: waiting_at(of) == CROWD, TURN * turns), waiting_at(of))
+    compare("and no more", answered(ask("more"))[:2], (503, "too many wait"))
+    check("no turn has come meanwhile", time.monotonic() - start < turns * TURN, time.monotonic() - start)
+    compare("one that waited is answered", decided(answered(stays)), (200, True, "First"))
+    compare("and so are the others", [decided(answered(it)) for it in more], [(200, True, "First")] * len(more))
+    compare("none waits any more", waiting_at(of), 0)
+    compare("no line is printed", [it for it in of.lines[1:] if " Connect " not in it], [])
     of.kill()
 
 
@@ -162,38 +205,86 @@ def test_faults(folder):
 
 def test_large(folder):
     """The largest messages wait for one another, and nobody else does."""
-    of = member("b", folder)
+    of = member("b", folder, ["--decide-limit", "600"])
     for number in range(50):
         post(of, f"s{number}")
     alerts = [f"n{number:05}" for number in range(17_000)]
     body = message("large", *alerts)
     check("it is nearly as large as may be", MOST_BODY * 0.8 < len(body) <= MOST_BODY, len(body))
-    streams = [asked(of, f"/v1/decide?wait={wait}", body) for wait in ("false", "true") * 4]
-    slowest, end = 0, time.monotonic() + TURN + 1
-    while time.monotonic() < end:
-        start = time.monotonic()
-        compare("beside them", of.ask("GET", "/api/v2/silence/x")[0], 404)
-        slowest = max(slowest, time.monotonic() - start)
-        time.sleep(0.05)
-    replies = [answered(stream) for stream in streams]
-    compare("each is answered", [(it[0], it[1]["reason"], len(it[1]["firing"])) for it in replies], [(200, "First", 17_000)] * 8)
-    check("nobody waits for long", slowest < 0.5, slowest)
+    whole, of_one = waits_beside(of, body, ["false"])
+    check("nobody waits for a whole message", of_one < 0.75 * whole, (of_one, whole))
+    _, of_eight = waits_beside(of, body, ("false", "true") * 4)
+    check("and eight make nobody wait for much longer than one", of_eight < 4 * of_one, (of_eight, of_one))
     of.kill()
+
+
+def waits_beside(of, body, waits):
+    """How long it takes until large messages are answered, some of which wait for their turn, and for how long somebody waits beside
+    them at most."""
+    start, beside, slowest = time.monotonic(), set(), 0
+    streams = [asked(of, f"/v1/decide?wait={it}", body) for it in waits]
+    while len(select.select(streams, [], [], 0)[0]) < len(streams):
+        begun = time.monotonic()
+        beside.add(of.ask("GET", "/api/v2/silence/x")[0])
+        slowest = max(slowest, time.monotonic() - begun)
+        time.sleep(0.02)
+    whole = time.monotonic() - start
+    compare("what is asked beside them", beside, {404})
+    replies = [answered(stream) for stream in streams]
+    compare("each is answered", [(it[0], it[1]["reason"], len(it[1]["firing"])) for it in replies], [(200, "First", 17_000)] * len(waits))
+    return whole, slowest
+
+
+def many_alerts(key, *names):
+    """A message of nearly a megabyte: alerts of these names, and 900 more with long ones."""
+    return message(key, *names, *(f"{number:03}" + "n" * 1000 for number in range(900)))
+
+
+def test_unjudged(folder):
+    """A decision that takes long isn't cut off, and once its limit is over it pages for what isn't judged."""
+    limit = 1
+    of = member("b", folder, ["--time-limit", "1", "--decide-limit", str(limit)])
+    compare("a silence", post(of, "Muted"), 200)
+    for number in range(3000):
+        post(of, f".*x{number}y.*", True)
+    compare("one alert is judged, and the patterns compiled", decided(answered(asked(of, "/v1/decide?wait=false", message("f")))), (200, True, "First"))
+    start = time.monotonic()
+    first, second = (asked(of, "/v1/decide?wait=false", many_alerts(key, "Muted")) for key in ("g", "h"))
+    for stream in first, second:
+        reply = answered(stream)
+        compare("it is answered", decided(reply), (200, True, "Unjudged"))
+        took = reply[2] - start
+        check("not before its limit, and soon behind it", limit <= took < limit + 10, took)
+        compare("what isn't judged fires", len(reply[1]["firing"]) + len(reply[1]["muted"]), 901)
+    compare("what is judged counts", decided(answered(asked(of, "/v1/decide?wait=false", message("i", "Muted")))), (200, False, "Muted"))
+    judged = answered(asked(of, "/v1/decide?wait=false", many_alerts("j", "Muted")))[1]
+    compare("the first alert is judged first", [it["labels"]["alertname"] for it in judged["muted"]], ["Muted"])
+    compare("it is logged", told(of, judged), (200, b'{"logged":true}'))
+    again = answered(asked(of, "/v1/decide?wait=false", many_alerts("j", "Muted")))
+    compare("what was told isn't told again", decided(again), (200, False, "Skip"))
+    value = 'maityrunga_decisions_total{reason="Unjudged"} 3'
+    check("such decisions are counted", value in of.ask("GET", "/metrics")[1].decode())
+    stream = asked(of, "/v1/decide?wait=false", many_alerts("k"))
+    time.sleep(0.3)
+    of.process.send_signal(signal.SIGTERM)
+    compare("a decision at a stop", answered(stream)[:2], (503, "member stops"))
+    compare("the stop", of.end(), 0)
 
 
 def test_dear(folder):
     """Alerts that take long to be held against silences make nobody wait for many of them."""
-    of = member("b", folder, ["--time-limit", "60"])
+    of = member("b", folder, ["--decide-limit", "600"])
     for number in range(300):
         post(of, f".*x{number}y.*", True)
-    body = message("dear", *(f"{number:03}" + "n" * 1000 for number in range(900)))
-    first, waited = time.monotonic(), []
+    body = many_alerts("dear")
+    first, waited, beside = time.monotonic(), [], set()
     stream = asked(of, "/v1/decide?wait=false", body)
     while not select.select([stream], [], [], 0)[0]:
         start = time.monotonic()
-        compare("beside it", of.ask("GET", "/api/v2/silence/x")[0], 404)
+        beside.add(of.ask("GET", "/api/v2/silence/x")[0])
         waited.append(time.monotonic() - start)
     whole = time.monotonic() - first
+    compare("what is asked beside it", beside, {404})
     compare("it is answered", decided(answered(stream)), (200, True, "First"))
     waited.sort()
     check("nobody waits for a tenth of it", len(waited) > 20 and 10 * waited[-3] < whole, (whole, waited[-5:]))
@@ -286,11 +377,17 @@ def test_log(folder):
     of.kill()
 
 
+TESTS = [
+    test_turn, test_limit, test_gone, test_stop, test_faults, test_large, test_unjudged, test_dear, test_late, test_alerts, test_log,
+    test_gone_at_once,
+]  # fmt: skip
+
+
 def main():
     members.choose("turns", sys.argv[1:])
     with tempfile.TemporaryDirectory(prefix="am_turns_") as folder:
         with contextlib.suppress(KeyboardInterrupt):
-            try_each([test_turn, test_limit, test_gone, test_stop, test_faults, test_large, test_dear, test_late, test_alerts, test_log], folder)
+            try_each(TESTS, folder)
     finish("turns")
 
 

@@ -158,7 +158,7 @@ def test_pulls(folder):
 
     alone = begun(Member("b", ports[1], [("a", ports[0])], folder, ["--pull-first", "--pull-first-limit", "2", "--time-limit", "20"]))
     start = time.monotonic()
-    compare("an answer where no peer is there", alone.comments(), [])
+    compare("an answer where no peer is there", alone.listed(), [])
     check("it waited for the limit", 1 < time.monotonic() - start < PATIENCE)
     check("which is told", eventually(lambda: "am_tool: NoPull" in alone.lines), alone.lines)
     alone.kill()
@@ -191,7 +191,7 @@ def test_unanswered_push(folder):
         start = time.monotonic()
         member.send(greeting("p") + EMPTY_PUSH)
         compare("it asks, and answers no Push", asked_of(peer, 3), [2, 2, 2])
-        compare("a request is answered when it waits no more", member.comments(), [])
+        compare("a request is answered when it waits no more", member.listed(), [])
         check("which is at the limit", time.monotonic() - start > 2)
         check("and is told", eventually(lambda: "am_tool: NoPull" in member.lines), member.lines)
         member.send(greeting("p") + EMPTY_PUSH)

@@ -20,7 +20,7 @@ from lib.wire import greeting
 TOP = os.path.dirname(os.path.dirname(os.path.dirname(os.path.abspath(__file__))))
 
 # How long anything is waited for that has to come, in seconds: long, for a machine that has much else to do.
-PATIENCE = 60
+PATIENCE = int(os.environ.get("PATIENCE", "60"))
 
 # How many processes are run at once.
 LANES = 4

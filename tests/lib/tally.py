@@ -1,10 +1,18 @@
 """What a script passed, failed and skipped, and its last lines, which .ci/run reads. The words `-k WORD` of a script's command have it
-run only the tests whose names have that word in them."""
+run only the tests whose names have that word in them.
 
+A test that doesn't end within TEST_LIMIT seconds has failed, and the next one is tried. With SCRIPT_LIMIT, as .ci/run has it, so has a
+script. A test that can't go on and a script that ends leave no process behind that they have started."""
+
+import atexit
 import contextlib
 import os
+import signal
 import sys
+import threading
 import time
+
+from lib import processes
 
 passed, failed, skipped = 0, 0, []
 
@@ -47,13 +55,34 @@ def skip(why, number=1):
     skipped.extend([why] * number)
 
 
+class NoEnd(Exception):
+    """A test doesn't end in time."""
+
+
+def interrupt(*_):
+    raise NoEnd(f"no end in {TEST_LIMIT} s")
+
+
 @contextlib.contextmanager
 def attempt(name, said=None):
-    """What can't go on is a case that fails, and what was said until then is told."""
+    """What can't go on is a case that fails, and what was said until then is told. The processes end then that it has started."""
+    before = processes.started()
     try:
         yield
     except Exception as fault:
+        processes.end(processes.started() - before)
         check(f"{name} runs", False, f"{fault!r} {said or ''}")
+
+
+@contextlib.contextmanager
+def in_time():
+    """Has something that doesn't end within TEST_LIMIT fail."""
+    signal.signal(signal.SIGALRM, interrupt)
+    signal.alarm(TEST_LIMIT)
+    try:
+        yield
+    finally:
+        signal.alarm(0)
 
 
 def try_each(tests, folder):
@@ -64,7 +93,7 @@ def try_each(tests, folder):
         place = f"{folder}/{test.__name__}"
         os.mkdir(place)
         begun = time.monotonic()
-        with attempt(test.__name__):
+        with attempt(test.__name__), in_time():
             test(place)
         if os.environ.get("TIMES"):
             print(f"{test.__name__}: {time.monotonic() - begun:.1f} s", flush=True)
@@ -85,3 +114,28 @@ def give_up(title, why):
     print(why)
     count(False)
     finish(title)
+
+
+def leave(script):
+    """Ends what the script has started when it ends; a process that it forked leaves that to it."""
+    if os.getpid() == script:
+        processes.end(processes.started())
+
+
+def end_script():
+    """Ends a script that takes too long, which is a failure."""
+    print(f"no end in {SCRIPT_LIMIT} s")
+    processes.end(processes.started())
+    print(f"{os.path.basename(sys.argv[0])}: {passed} passed, {failed + 1} failed", flush=True)
+    os._exit(1)
+
+
+# In seconds. A script whose time limit isn't given has none, as one that draws faults for hours.
+TEST_LIMIT = int(os.environ.get("TEST_LIMIT", "1800"))
+SCRIPT_LIMIT = int(os.environ.get("SCRIPT_LIMIT", "0"))
+
+atexit.register(leave, os.getpid())
+if SCRIPT_LIMIT:
+    limit = threading.Timer(SCRIPT_LIMIT, end_script)
+    limit.daemon = True
+    limit.start()

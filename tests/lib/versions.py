@@ -2,7 +2,7 @@
 
 import re
 
-from lib.wire import delimited, field, timestamp, varint
+from lib.wire import delimited, field, fields_of, timestamp, varint
 
 # Moments that have names, as seconds and nanoseconds.
 NAMED = {"least": (-62_135_596_800, 0), "greatest": (253_402_300_799, 999_999_999)}
@@ -66,6 +66,12 @@ def entry(text):
         hashes = behind(words, name, "-")
         inner += if_any(place, b"" if hashes == "-" else b"".join(varint(int(it)) for it in hashes.split(",")))
     return field(1, inner) + field(2, moment(behind(words, "expires", "200")))
+
+
+def of_later(version, inner=b"", outer=b""):
+    """The same version with fields of a later release behind those of its message, and behind its own."""
+    whole = dict(fields_of(version))
+    return field(1, whole[1] + inner) + field(2, whole[2]) + outer
 
 
 def row(kind, text):

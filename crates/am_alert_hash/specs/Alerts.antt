@@ -7,17 +7,17 @@ use Rattle.std.specs.BTreeMap.{insert_entry}
 use Rattle.am_matcher.specs.declared.labels.Label.{Label}
 use Rattle.am_alert_hash.specs.Xxh64.{xxh64}
 
--- Names and their values, with those of labels put in one after the other: a name goes to its place in the byte order, and
--- of labels with one name the last one counts.
+-- Names with their values, after those of labels are inserted one by one: a name goes to its place in the byte order, and if
+-- labels have the same name, the last one counts.
 abbrev pub by_name : List (List ℕ × List ℕ) → List Label → List (List ℕ × List ℕ)
 by_name values [] = values
 by_name values (label ∷ labels) = by_name (insert_entry (slice_cmp nat_cmp) values label.name label.value) labels
 
--- a text and the byte FF, which stands in no text
+-- a text and the byte FF, which occurs in no text
 abbrev pub ended : List ℕ → List ℕ
 ended text = text ++ 0xFF ∷ []
 
--- a name and its value
+-- a name and its value, each ended
 abbrev pub ended_pair : List ℕ × List ℕ → List ℕ
 ended_pair pair = ended pair.0 ++ ended pair.1
 

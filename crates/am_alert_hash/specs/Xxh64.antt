@@ -38,11 +38,11 @@ lane_at bytes place = from_le_bytes w64
 abbrev pub first_accumulators : List ℕ
 first_accumulators = plus prime_1 prime_2 ∷ prime_2 ∷ 0 ∷ (2 ^ 64 - prime_1) ∷ []
 
--- an accumulator takes in a lane
+-- an accumulator that has taken in a lane
 unfoldable pub round : ℕ → ℕ → ℕ
 round accumulator lane = times (rotate_left w64 (plus accumulator (times lane prime_2)) 31) prime_1
 
--- each accumulator takes in its lane of the stripe at a place
+-- the accumulators, each of which has taken in its lane of the stripe at a place
 unfoldable pub add_stripe : List ℕ → List ℕ → ℕ → List ℕ
 add_stripe accumulators bytes place =
     round (slice_index accumulators 0) (lane_at bytes place)
@@ -50,7 +50,7 @@ add_stripe accumulators bytes place =
     ∷ round (slice_index accumulators 2) (lane_at bytes (place + 16))
     ∷ round (slice_index accumulators 3) (lane_at bytes (place + 24)) ∷ []
 
--- the accumulators behind the first n stripes
+-- the accumulators after the first n stripes
 unfoldable pub stripes : List ℕ → ℕ → List ℕ
 stripes bytes zero = first_accumulators
 stripes bytes (suc n) = add_stripe (stripes bytes n) bytes (32 * n)
@@ -69,7 +69,7 @@ converged_of a b c d = merge (merge (merge (merge (rotated_sum a b c d) a) b) c)
 unfoldable pub converged : List ℕ → ℕ
 converged v = converged_of (slice_index v 0) (slice_index v 1) (slice_index v 2) (slice_index v 3)
 
--- a message that is shorter than a stripe begins with a prime
+-- a message shorter than a stripe begins with a prime
 unfoldable pub begun : List ℕ → ℕ
 begun bytes = if nat_lt (length bytes) 32 then prime_5 else converged (stripes bytes (length bytes / 32))
 
@@ -78,7 +78,7 @@ begun bytes = if nat_lt (length bytes) 32 then prime_5 else converged (stripes b
 unfoldable pub add_lane : ℕ → ℕ → ℕ
 add_lane hash lane = plus (times (rotate_left w64 (bit_xor hash (round 0 lane)) 27) prime_1) prime_4
 
--- the first n lanes
+-- the hash that has taken in the first n lanes
 unfoldable pub add_lanes : ℕ → List ℕ → ℕ → ℕ
 add_lanes hash bytes zero = hash
 add_lanes hash bytes (suc n) = add_lane (add_lanes hash bytes n) (lane_at bytes (8 * n))
@@ -95,7 +95,7 @@ add_half hash bytes =
 unfoldable pub add_byte : ℕ → ℕ → ℕ
 add_byte hash byte = times (rotate_left w64 (bit_xor hash (times byte prime_5)) 11) prime_1
 
--- the bytes behind as many whole pieces of a size as there are
+-- the bytes behind all whole pieces of a size
 abbrev pub behind_whole : ℕ → List ℕ → List ℕ
 behind_whole size bytes = drop (length bytes / size * size) bytes
 

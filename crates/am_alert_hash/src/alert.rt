@@ -10,10 +10,10 @@ use am_matcher::{Label, Labels};
 use std::alloc::{AllocError, Global};
 use std::collections::BTreeMap;
 
-/// The byte behind each text, which stands in none.
+/// The byte after each text, which occurs in none.
 const END: u8 = 0xFF;
 
-/// The values by their names.
+/// Returns the values by their names.
 fn values_by_name<'a>(
     alloc: Global,
     labels: &'a [Label],
@@ -36,7 +36,7 @@ fn append_ended(bytes: &mut Vec<u8>, text: &str) -> Result<(), AllocError>
     Ok(())
 }
 
-/// The names and their values, each ended, in the order of the names.
+/// Returns the names and their values, each ended, in the order of the names.
 fn ended_pairs(alloc: Global, values: &BTreeMap<&str, &str>) -> Result<Vec<u8>, AllocError>
     ensures { IfOk result (λ bytes. bytes.items ≡ flat_map ended_pair (map deref_pair values.now.entries)) }
 {
@@ -48,12 +48,12 @@ fn ended_pairs(alloc: Global, values: &BTreeMap<&str, &str>) -> Result<Vec<u8>, 
     Ok(bytes)
 }
 
-/// The hash by which Alertmanager's log knows an alert: XXH64 over its labels in the byte order of their names, for each the
-/// name, a byte FF, the value and a byte FF. Of labels with one name the last one counts.
+/// Returns the hash by which Alertmanager's log knows an alert: XXH64 of its labels in the byte order of their names, with the
+/// name, a byte FF, the value and a byte FF for each. If labels have the same name, the last one counts.
 ///
 /// # Errors
 ///
-/// [`AllocError`] where memory runs out. It takes as much as the labels' texts.
+/// [`AllocError`] if memory runs out. It takes as much as the labels' texts.
 #[tactic(auto, unfolding(crate::specs::Alerts::alert_hash))]
 pub fn alert_hash(alloc: Global, labels: &Labels) -> Result<u64, AllocError>
     // PROMISE: An alert's hash is XXH64 of its labels in the order of their names.

@@ -1,4 +1,4 @@
-//! The hash of an alert as the notification log has it: XXH64 of its labels.
+//! The hash of an alert in the notification log: XXH64 of its labels.
 #![tactic(auto)]
 
 mod alert;

@@ -1,4 +1,4 @@
-//! XXH64 with seed 0, step by step as the xxHash specification has it ("XXH64 algorithm description").
+//! XXH64 with seed 0, step by step as in the xxHash specification ("XXH64 algorithm description").
 
 ghost use Rattle.std.specs.Prelude.{◌≡◌, ◌+◌, ◌/◌, ◌<◌, ◌≤◌, length};
 ghost use Rattle.am_alert_hash.specs.Xxh64.{add_byte, add_half, add_lane, add_lanes, add_stripe, avalanche, begun, behind_whole, consumed};
@@ -21,7 +21,7 @@ const FIRST_ACCUMULATORS: [u64; 4] = [
     u64::wrapping_sub(0, PRIME_1),
 ];
 
-/// The eight bytes at a place as a number, low byte first.
+/// Returns the eight bytes at a place as a number, low byte first.
 #[tactic(auto, unfolding(crate::specs::Xxh64::lane_at))]
 fn lane_at(bytes: &[u8], place: usize) -> u64
     requires { place + 8 ≤ length bytes.now }
@@ -39,7 +39,7 @@ fn lane_at(bytes: &[u8], place: usize) -> u64
     ])
 }
 
-/// An accumulator with a lane taken in.
+/// Returns an accumulator that has taken in a lane.
 #[tactic(auto, unfolding(crate::specs::Xxh64::round))]
 fn round(accumulator: u64, lane: u64) -> u64
     ensures { result ≡ round accumulator lane }
@@ -65,7 +65,7 @@ fn add_stripe(accumulators: &mut [u64; 4], bytes: &[u8], place: usize)
     ];
 }
 
-/// The accumulators behind all whole stripes.
+/// Returns the accumulators after all whole stripes.
 fn stripes(bytes: &[u8]) -> [u64; 4]
     ensures { result ≡ stripes bytes.now (length bytes.now / 32) }
 {
@@ -76,7 +76,7 @@ fn stripes(bytes: &[u8]) -> [u64; 4]
     accumulators
 }
 
-/// A hash with an accumulator taken in.
+/// Returns a hash that has taken in an accumulator.
 #[tactic(auto, unfolding(crate::specs::Xxh64::merge))]
 fn merge(hash: u64, accumulator: u64) -> u64
     ensures { result ≡ merge hash accumulator }
@@ -86,7 +86,7 @@ fn merge(hash: u64, accumulator: u64) -> u64
         .wrapping_add(PRIME_4)
 }
 
-/// The hash that the accumulators make.
+/// Returns the hash that the accumulators make.
 #[tactic(auto, unfolding(crate::specs::Xxh64::converged))]
 fn converged(accumulators: [u64; 4]) -> u64
     ensures { result ≡ converged accumulators }
@@ -100,7 +100,7 @@ fn converged(accumulators: [u64; 4]) -> u64
     merge(merge(merge(merge(sum, first), second), third), fourth)
 }
 
-/// The hash behind the stripes, if there are any.
+/// Returns the hash after the stripes, if there are any.
 #[tactic(auto, unfolding(crate::specs::Xxh64::begun))]
 fn begun(bytes: &[u8]) -> u64
     ensures { result ≡ begun bytes.now }
@@ -111,7 +111,7 @@ fn begun(bytes: &[u8]) -> u64
     converged(stripes(bytes))
 }
 
-/// The bytes behind as many whole pieces of a size as there are.
+/// Returns the bytes behind all whole pieces of a size.
 fn behind_whole(bytes: &[u8], size: usize) -> &[u8]
     requires { 0 < size }
     ensures { result.now ≡ behind_whole size bytes.now }
@@ -120,7 +120,7 @@ fn behind_whole(bytes: &[u8], size: usize) -> &[u8]
     rest
 }
 
-/// A hash with a lane taken in.
+/// Returns a hash that has taken in a lane.
 #[tactic(auto, unfolding(crate::specs::Xxh64::add_lane))]
 fn add_lane(hash: u64, lane: u64) -> u64
     ensures { result ≡ add_lane hash lane }
@@ -131,7 +131,7 @@ fn add_lane(hash: u64, lane: u64) -> u64
         .wrapping_add(PRIME_4)
 }
 
-/// A hash with all whole lanes taken in.
+/// Returns a hash that has taken in all whole lanes.
 fn add_lanes(start: u64, bytes: &[u8]) -> u64
     ensures { result ≡ add_lanes start bytes.now (length bytes.now / 8) }
 {
@@ -142,7 +142,7 @@ fn add_lanes(start: u64, bytes: &[u8]) -> u64
     hash
 }
 
-/// A hash with the first four bytes taken in, if there are so many.
+/// Returns a hash that has taken in the first four bytes, if there are four.
 #[tactic(auto, unfolding(crate::specs::Xxh64::add_half))]
 fn add_half(hash: u64, bytes: &[u8]) -> u64
     ensures { result ≡ add_half hash bytes.now }
@@ -157,7 +157,7 @@ fn add_half(hash: u64, bytes: &[u8]) -> u64
         .wrapping_add(PRIME_3)
 }
 
-/// A hash with a byte taken in.
+/// Returns a hash that has taken in a byte.
 #[tactic(auto, unfolding(crate::specs::Xxh64::add_byte))]
 fn add_byte(hash: u64, byte: u8) -> u64
     ensures { result ≡ add_byte hash byte }
@@ -167,7 +167,7 @@ fn add_byte(hash: u64, byte: u8) -> u64
         .wrapping_mul(PRIME_1)
 }
 
-/// A hash with fewer than 32 bytes taken in: lanes, then half a lane, then bytes.
+/// Returns a hash that has taken in fewer than 32 bytes: lanes, then half a lane, then bytes.
 #[tactic(auto, unfolding(crate::specs::Xxh64::consumed))]
 fn consumed(hash: u64, rest: &[u8]) -> u64
     ensures { result ≡ consumed hash rest.now }
@@ -179,7 +179,7 @@ fn consumed(hash: u64, rest: &[u8]) -> u64
         .fold(hash, |hash, byte| add_byte(hash, *byte))
 }
 
-/// A hash with its higher bits brought down upon the lower ones.
+/// Returns a hash whose higher bits are combined into the lower ones.
 fn xor_shift(hash: u64, by: u32) -> u64
     requires { by < 64 }
     ensures { result ≡ xor_shift hash by }
@@ -187,7 +187,7 @@ fn xor_shift(hash: u64, by: u32) -> u64
     hash ^ (hash >> by)
 }
 
-/// A hash with its bits mixed.
+/// Returns a hash with its bits mixed.
 #[tactic(auto, unfolding(crate::specs::Xxh64::avalanche))]
 fn avalanche(hash: u64) -> u64
     ensures { result ≡ avalanche hash }
@@ -197,7 +197,7 @@ fn avalanche(hash: u64) -> u64
     xor_shift(hash, 32)
 }
 
-/// XXH64 of bytes, with seed 0. It takes time in their number, and no memory.
+/// Returns the XXH64 of bytes, with seed 0. It takes time linear in their number, and no memory.
 #[tactic(auto, unfolding(crate::specs::Xxh64::xxh64))]
 pub fn xxh64(bytes: &[u8]) -> u64
     ensures { result ≡ xxh64 bytes.now }

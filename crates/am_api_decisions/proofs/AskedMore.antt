@@ -34,10 +34,14 @@ same_counts {a} {b} {c} {d} {e} {f} first second third =
     ap (λ (l : List ℕ). count_of l c e) first ∙ ap (λ (l : List ℕ). count_of b l e) second ∙ ap (λ (l : List Silenced). count_of b d l) third
 
 -- what is counted of some and of others is counted of all
-counted_more : (before : Counted) (asked others : List AskedAlert) → counted_with (counted_with before asked) others ≡ counted_with before (asked ++ others)
+pub counted_more : (before : Counted) (asked others : List AskedAlert) → counted_with (counted_with before asked) others ≡ counted_with before (asked ++ others)
 counted_more before asked others =
     same_counts (kept_more hash_of is_open_firing before.firing asked others) (kept_more hash_of is_open_resolved before.resolved asked others)
     (kept_more silenced (λ (a : AskedAlert). not (is_unmuted a)) before.muted asked others)
+
+-- with none it stays
+pub counted_none : (counted : Counted) → counted ≡ counted_with counted []
+counted_none counted = sym (same_counts (append-nil counted.firing) (append-nil counted.resolved) (append-nil counted.muted))
 
 -- the next alert
 pub next_asked : (now : ℕ) (left rest : List Alert) (before mid after : Counted) (old stand new : InstanceState) (asked : List AskedAlert) (one : AskedAlert)
@@ -52,7 +56,7 @@ next_asked now left rest before mid after old stand new asked one others first o
 
 -- none is asked
 pub none_asked : (now : ℕ) (left : List Alert) (before : Counted) (stand : InstanceState) → IsAskedOn now left before stand [] left before stand
-none_asked now left before stand = record { parts = refl; steps = refl; counted = sym (same_counts (append-nil before.firing) (append-nil before.resolved) (append-nil before.muted)) }
+none_asked now left before stand = record { parts = refl; steps = refl; counted = counted_none before }
 
 -- so many are asked as were left: none is left
 pub all_asked : (asked : List AskedAlert) (left others : List Alert) → left ≡ alerts_of asked ++ others → length asked ≡ length left → others ≡ []

@@ -1,5 +1,5 @@
 -- Which alerts are kept in mind.
-use Rattle.std.proofs.Common.{◌≡◌, ℕ, ◌+◌, ◌-◌, ◌<◌, ◌≤◌, true, false, List, [], ◌∷◌, ◌++◌, length, map, filter, take, drop, get_or, refl, sym, ap, ◌∙◌, append-nil, arith}
+use Rattle.std.proofs.Common.{◌≡◌, ℕ, ◌+◌, ◌-◌, ◌<◌, ◌≤◌, true, false, List, [], ◌∷◌, ◌++◌, length, map, filter, take, drop, get_or, sym, ap, ◌∙◌, arith}
 use Rattle.std.specs.Prelude.{nat_le}
 use Rattle.std.specs.List.{sum_by}
 use Rattle.std.proofs.lemmas.Bool.{le-leb, lt-leb}
@@ -49,21 +49,3 @@ with_next key alerts i alert inside is =
     ap (kept_of key) (take_more alerts i alert inside ∙ ap (λ (a : Alert). take i alerts ++ a ∷ []) (sym is))
     ∙ ap (map (kept_as key)) (filter-append (is_kept key) (take i alerts) (alert ∷ []))
     ∙ map-append (kept_as key) (filter (is_kept key) (take i alerts)) (filter (is_kept key) (alert ∷ []))
-
-pub is_alone : (key : List ℕ) (alert : Alert) → is_kept key alert ≡ true → kept_of key (alert ∷ []) ≡ kept_as key alert ∷ []
-is_alone key alert h = rw h refl
-
-pub is_left_out : (key : List ℕ) (alert : Alert) → is_kept key alert ≡ false → kept_of key (alert ∷ []) ≡ []
-is_left_out key alert h = rw h refl
-
--- the next one is kept
-pub one_kept : (key : List ℕ) (alerts : List Alert) (i : ℕ) (alert : Alert) → i < length alerts → alert ≡ get_or alerts i alert → is_kept key alert ≡ true
-    → kept_of key (take (i + 1) alerts) ≡ kept_of key (take i alerts) ++ kept_as key alert ∷ []
-one_kept key alerts i alert inside is h =
-    with_next key alerts i alert inside is ∙ ap (λ more. kept_of key (take i alerts) ++ more) (is_alone key alert h)
-
--- or it is left out
-pub one_left_out : (key : List ℕ) (alerts : List Alert) (i : ℕ) (alert : Alert) → i < length alerts → alert ≡ get_or alerts i alert → is_kept key alert ≡ false
-    → kept_of key (take (i + 1) alerts) ≡ kept_of key (take i alerts)
-one_left_out key alerts i alert inside is h =
-    with_next key alerts i alert inside is ∙ ap (λ more. kept_of key (take i alerts) ++ more) (is_left_out key alert h) ∙ append-nil (kept_of key (take i alerts))

@@ -19,6 +19,7 @@ use Rattle.am_api_silences.specs.declared.replies.ReplyBytes.{ReplyBytes}
 use Rattle.am_api_decisions.specs.Asking.{AreAsked, AskedAlert, Counted, HoldsSame, IsStopped, StopsAt}
 use Rattle.am_api_decisions.specs.Settling.{IsSettled, IsSettledBy, decide_event, has_none}
 use Rattle.am_api_decisions.specs.declared.group.Group.{Group}
+use Rattle.am_api_decisions.specs.declared.settling.Judgement.{Judgement}
 use Rattle.am_api_decisions.specs.declared.timing.Timing.{Timing}
 
 -- one is as itself
@@ -85,10 +86,10 @@ stop_same now labels old new line (inl none) = same_is old new none.1
 stop_same now labels old new line (inr made) = mutes_same now labels old new made.0 made.1
 
 -- to answer a group
-pub settled_same : (timing : Timing) (group : Group) (counted : Counted) (old new : InstanceState) (reply : ReplyBytes) → IsSettled timing group counted old reply new
+pub settled_same : (judgement : Judgement) (timing : Timing) (group : Group) (counted : Counted) (old new : InstanceState) (reply : ReplyBytes) → IsSettled judgement timing group counted old reply new
     → HoldsSame old new
-settled_same timing group counted old new reply = settled_by (has_none counted) where
-  settled_by : (none : Bool) → IsSettledBy none timing group counted old reply new → HoldsSame old new
+settled_same judgement timing group counted old new reply = settled_by (has_none counted) where
+  settled_by : (none : Bool) → IsSettledBy none judgement timing group counted old reply new → HoldsSame old new
   settled_by true is = same_is old new is.same
   settled_by false (inl none) = same_is old new none.1
   settled_by false (inr made) = decide_same timing.now group counted old new made.0 made.1

@@ -9,12 +9,13 @@ use Rattle.am_api_decisions.specs.Asking.{AskedAlert, Counted, IsAskedOn, IsStop
 use Rattle.am_api_decisions.specs.Deciding.{GoesOn, Underway}
 use Rattle.am_api_decisions.specs.Settling.{IsDecided, IsSettled}
 use Rattle.am_api_decisions.specs.declared.group.Group.{Group}
+use Rattle.am_api_decisions.specs.declared.settling.Judgement.TheVariants.{Whole}
 use Rattle.am_api_decisions.specs.declared.timing.Timing.{Timing}
 use Rattle.am_api_decisions.proofs.AskedMore.{alerts_of, all_asked}
 
 -- as many were asked as were left, and then the group was answered
 pub decided_over : (timing : Timing) (count : ℕ) (before after : Underway) (old mid new : InstanceState) (reply : ReplyBytes) → count ≡ length before.left
-    → GoesOn timing.now count before old after mid → IsSettled timing after.group after.counted mid reply new → IsDecided timing before old reply new
+    → GoesOn timing.now count before old after mid → IsSettled Whole timing after.group after.counted mid reply new → IsDecided timing before old reply new
 decided_over timing count before after old mid new reply whole on settled =
     let none : after.left ≡ [] = elim on.all [ inl many ↦ all_asked on.asked before.left after.left on.on.parts (many ∙ whole) | inr none ↦ none ] in
     inl (record {
@@ -22,7 +23,7 @@ decided_over timing count before after old mid new reply whole on settled =
       counted = after.counted;
       mid = mid;
       all = subst (λ (others : List Alert). IsAskedOn timing.now before.left before.counted old on.asked others after.counted mid) none on.on;
-      settled = subst (λ (group : Group). IsSettled timing group after.counted mid reply new) on.group settled;
+      settled = subst (λ (group : Group). IsSettled Whole timing group after.counted mid reply new) on.group settled;
     })
 
 -- asking stopped, and why was told

@@ -1,4 +1,4 @@
--- Alerts that are asked for their mutes, each by one step, and what came of them.
+-- Alerts that are asked for the silences that mute them, each by one step, and their tally.
 use Rattle.std.specs.Prelude.{◌≡◌, ◌⊎◌, ◌&&◌, ◌==◌, ◌-◌, take, ℕ, Bool, not, List, [], ◌∷◌, ◌++◌, length, map, filter, Result, Ok, Err}
 use Rattle.am_alert_hash.specs.Alerts.{alert_hash}
 use Rattle.am_decision_json.specs.declared.answer.Muted.{Muted}
@@ -21,42 +21,43 @@ pub record AskedAlert : Type 0 where
   pub alert : Alert
   pub ids : List (List ℕ)
 
--- Of each id and of each key of the log both hold the same, and they are configured alike: nothing but the moment is another.
+-- Both instances hold the same silence under each id and the same entry under each key of the log, and are configured alike:
+-- nothing but the moment differs.
 pub record HoldsSame (old new : InstanceState) : Type 0 where
   pub silences : (id : List ℕ) → silence_at new.silences id ≡ silence_at old.silences id
   pub log : (key : LogKey) → entry_at new.log key ≡ entry_at old.log key
   pub config : new.config ≡ old.config
 
--- the reply tells these ids
+-- The reply gives these ids.
 abbrev pub TellsIds : Reply → List (List ℕ) → Type 0
 TellsIds (replies.Muted mutes) ids = ids ≡ mutes.ids
 TellsIds _ ids = ⊥
 
--- an alert with these labels is asked by one step at the moment, whose reply tells the ids
+-- One step at the moment asks for the silences that mute an alert with these labels, and its reply gives the ids.
 abbrev pub IsMutesStep : ℕ → List Label → List (List ℕ) → InstanceState → InstanceState → Type 0
 IsMutesStep now labels ids old new =
     (outcome : Outcome) × IsStep old (events.Mutes labels) now (Ok outcome) new × TellsIds outcome.reply ids
 
--- The alerts are asked one after the other, each by one step at the moment.
+-- The alerts are asked one after another, each by one step at the moment.
 abbrev pub AreAsked : ℕ → List AskedAlert → InstanceState → InstanceState → Type 0
 AreAsked now [] old new = new ≡ old
 AreAsked now (asked ∷ others) old new =
     (mid : InstanceState) × IsMutesStep now asked.alert.labels asked.ids old mid × AreAsked now others mid new
 
--- ---- what came of them
+-- ---- the tally
 
--- no silence mutes it
+-- No silence mutes the alert.
 abbrev pub is_unmuted : AskedAlert → Bool
 is_unmuted asked = length asked.ids == 0
 
--- it fires, or it is resolved, and no silence mutes it
+-- No silence mutes the alert, and it fires; or it is resolved.
 abbrev pub is_open_firing : AskedAlert → Bool
 is_open_firing asked = is_unmuted asked && asked.alert.is_firing
 
 abbrev pub is_open_resolved : AskedAlert → Bool
 is_open_resolved asked = is_unmuted asked && not asked.alert.is_firing
 
--- the hash by which the log knows it
+-- the hash by which the log knows the alert
 abbrev pub hash_of : AskedAlert → ℕ
 hash_of asked = alert_hash asked.alert.labels
 
@@ -66,25 +67,29 @@ pub record Silenced : Type 0 where
   pub ids : List (List ℕ)
   pub more : ℕ
 
--- an alert as it is muted, where the first 16 silences are named
+-- an alert as it is muted, with the first 16 silences named
 abbrev pub silenced : AskedAlert → Silenced
 silenced asked = record { labels = asked.alert.labels; ids = take 16 asked.ids; more = length asked.ids - 16 }
 
--- what is told of it in an answer
+-- a muted alert, as an answer gives it
 abbrev pub silenced_in : Muted → Silenced
 silenced_in muted = record { labels = muted.labels; ids = muted.silenced_by.items; more = muted.more }
 
--- the hashes of what fires and of what is resolved, of the alerts that no silence mutes; and those that are muted
+-- the hashes of the firing and of the resolved alerts that no silence mutes, and the alerts that are muted
 pub record Counted : Type 0 where
   pub firing : List ℕ
   pub resolved : List ℕ
   pub muted : List Silenced
 
--- nothing so far
+-- an alert that wasn't asked, as if no silence muted it
+abbrev pub unasked : Alert → AskedAlert
+unasked alert = record { alert = alert; ids = [] }
+
+-- the empty tally
 abbrev pub nothing_counted : Counted
 nothing_counted = record { firing = []; resolved = []; muted = [] }
 
--- with these alerts too, in their order
+-- the tally with these alerts added, in order
 abbrev pub counted_with : Counted → List AskedAlert → Counted
 counted_with before asked = record {
   firing = before.firing ++ map hash_of (filter is_open_firing asked);
@@ -92,26 +97,28 @@ counted_with before asked = record {
   muted = before.muted ++ map silenced (filter (λ a. not (is_unmuted a)) asked);
 }
 
--- ---- a stretch of them
+-- ---- a stretch of alerts
 
--- Of the alerts that were left these were asked, in their order, and counted, and others are left.
+-- These of the alerts that were left were asked, in order, and counted, and the others are left.
 pub record IsAskedOn (now : ℕ) (left : List Alert) (before : Counted) (old : InstanceState) (asked : List AskedAlert) (others : List Alert)
     (after : Counted) (new : InstanceState) : Type 0 where
   pub parts : left ≡ map (λ a. a.alert) asked ++ others
   pub steps : AreAsked now asked old new
   pub counted : after ≡ counted_with before asked
 
--- the line with which asking stops at a step: the moment is before the last one, or there was no memory, be it for what it answered
+-- the line with which asking stops at a step: the moment is before the last one, or there was no memory for the step or for its
+-- answer
 abbrev pub stop_line : Result Outcome StepError → RefusalLine
 stop_line (Ok outcome) = memory_line
 stop_line (Err error) = error_line error
 
--- Asking an alert stops with this line: there was no memory for its step, or that was made, and is why.
+-- Asking for the silences of an alert stops with this line: there was no memory for its step, or the step was made and is the
+-- reason.
 abbrev pub StopsAt : ℕ → List Label → InstanceState → RefusalLine → InstanceState → Type 0
 StopsAt now labels old line new = ((line ≡ memory_line) × (new ≡ old))
     ⊎ ((step : Result Outcome StepError) × IsStep old (events.Mutes labels) now step new × (line ≡ stop_line step))
 
--- Of the alerts that were left some were asked, and asking the next stops with this line.
+-- Some of the alerts that were left were asked, and asking the next one stops with this line.
 pub record IsStopped (now : ℕ) (left : List Alert) (old : InstanceState) (line : RefusalLine) (new : InstanceState) : Type 0 where
   pub asked : List AskedAlert
   pub alert : Alert

@@ -1,4 +1,4 @@
--- What the bodies of requests say, or what is at fault with them. Memory may run out in any of them.
+-- The bodies of requests, and their faults. Memory may run out while any of them is read.
 use Rattle.std.specs.Prelude.{ℕ, List, ⊤}
 use Rattle.serde_json.specs.Data.{Data}
 use Rattle.am_silence_json.specs.Posts.{IsObjectText}
@@ -9,11 +9,12 @@ use Rattle.am_decision_json.specs.declared.notice.Notice.{Notice}
 use Rattle.am_api_decisions.specs.declared.cause.Cause.{Cause}
 use Rattle.am_api_decisions.specs.declared.cause.Cause.TheVariants.{BadJson, BadMessage, Memory, Truncated}
 
--- the body is the text of a JSON object that is this message
+-- The body is the text of a JSON object that is this message.
 abbrev pub IsMessageIn : List ℕ → Message → Type 0
 IsMessageIn body message = (d : Data) × IsObjectText body d × messages.IsMessage d message
 
--- the body is that of no object, or this is the first key of the object that is at fault, or else alerts were left out of the message
+-- The body is the text of no object, or this is the first key of the object that is at fault, or else alerts were left out of the
+-- message.
 abbrev pub IsMessageFault : List ℕ → Cause → Type 0
 IsMessageFault body BadJson = (d : Data) → ¬ IsObjectText body d
 IsMessageFault body (BadMessage key) = (d : Data) × IsObjectText body d × messages.IsFirstFault d key
@@ -21,11 +22,11 @@ IsMessageFault body Truncated = (d : Data) × IsObjectText body d × messages.Is
 IsMessageFault body Memory = ⊤
 IsMessageFault body _ = ⊥
 
--- the body is the text of a JSON object that is this notice
+-- The body is the text of a JSON object that is this notice.
 abbrev pub IsNoticeIn : List ℕ → Notice → Type 0
 IsNoticeIn body notice = (d : Data) × IsObjectText body d × notices.IsNotice d notice
 
--- the body is that of no object, or this is the first key of the object that is at fault
+-- The body is the text of no object, or this is the first key of the object that is at fault.
 abbrev pub IsNoticeFault : List ℕ → Cause → Type 0
 IsNoticeFault body BadJson = (d : Data) → ¬ IsObjectText body d
 IsNoticeFault body (BadMessage key) = (d : Data) × IsObjectText body d × notices.IsFirstFault d key

@@ -1,4 +1,4 @@
--- Which calls on decisions there are, and which of them a request asks for.
+-- The calls on decisions, and the one that a request makes.
 use Rattle.std.specs.Prelude.{◌≡◌, ◌≢◌, ℕ, Bool, List, codes, nat_eq, Result, Ok, Err}
 use Rattle.std.specs.List.{starts_with}
 use Rattle.am_http.specs.Paths.{path_of, query_of}
@@ -8,7 +8,7 @@ use Rattle.am_api_decisions.specs.declared.cause.Resource.TheVariants.{Decisions
 use Rattle.am_api_decisions.specs.declared.routes.Call.{Call}
 use Rattle.am_api_decisions.specs.declared.routes.Call.TheVariants as calls
 
--- the target lies below /v1/, where all these calls are
+-- The target lies below /v1/, where all these calls are.
 abbrev pub is_below : List ℕ → Bool
 is_below target = starts_with nat_eq target (codes "/v1/")
 
@@ -25,14 +25,14 @@ log_path = codes "/v1/log"
 abbrev pub alerts_path : List ℕ
 alerts_path = codes "/v1/alerts"
 
--- the path is that of no call
+-- The path is that of no call.
 pub record IsNoPath (path : List ℕ) : Type 0 where
   pub no_decision : path ≢ decide_path
   pub no_notice : path ≢ notified_path
   pub no_log : path ≢ log_path
   pub no_alerts : path ≢ alerts_path
 
--- the call that a request with this method and target asks for; or its path names nothing, or has no such method
+-- A request with this method and target makes the call; or its path names nothing, or has no such method.
 abbrev pub IsCallOf : List ℕ → List ℕ → Result Call Cause → Type 0
 IsCallOf method target (Ok (calls.Decide query)) = (path_of target ≡ decide_path) × (method ≡ codes "POST") × (query.now ≡ query_of target)
 IsCallOf method target (Ok calls.Notified) = (path_of target ≡ notified_path) × (method ≡ codes "POST")

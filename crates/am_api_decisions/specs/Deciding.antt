@@ -1,4 +1,4 @@
--- A decision that is being made: which alerts are left to be asked, and what came of the others.
+-- A decision that is being made: the alerts that are still to be asked, and the tally of the others.
 use Rattle.std.specs.Prelude.{◌≡◌, ◌⊎◌, ℕ, ◌≤◌, List, [], length, Result, Ok, Err}
 use Rattle.am_decision_json.specs.declared.message.Alert.{Alert}
 use Rattle.am_http.specs.Lines.{line_seen}
@@ -8,7 +8,7 @@ use Rattle.am_api_decisions.specs.Asking.{AskedAlert, Counted, IsAskedOn, IsStop
 use Rattle.am_api_decisions.specs.declared.asked.Question.{Question}
 use Rattle.am_api_decisions.specs.declared.group.Group.{Group}
 
--- the group, its alerts that are left to be asked, and what came of the others
+-- the group, the alerts that are still to be asked, and the tally of the others
 pub record Underway : Type 0 where
   pub group : Group
   pub left : List Alert
@@ -18,11 +18,11 @@ pub record Underway : Type 0 where
 abbrev pub group_of : Question → Group
 group_of question = record { group_key = question.message.group_key; receiver = question.message.receiver; terms = question.terms }
 
--- all alerts of a question are left
+-- a question none of whose alerts has been asked
 abbrev pub underway_of : Question → Underway
 underway_of question = record { group = group_of question; left = question.message.alerts.items; counted = nothing_counted }
 
--- So many more alerts were asked, or all that were left, each by one step at the moment.
+-- The next `most` alerts were asked, or all that were left, each by one step at the moment.
 pub record GoesOn (now most : ℕ) (before : Underway) (old : InstanceState) (after : Underway) (new : InstanceState) : Type 0 where
   pub asked : List AskedAlert
   pub on : IsAskedOn now before.left before.counted old asked after.left after.counted new
@@ -30,7 +30,7 @@ pub record GoesOn (now most : ℕ) (before : Underway) (old : InstanceState) (af
   pub all : (length asked ≡ most) ⊎ (after.left ≡ [])
   pub group : after.group ≡ before.group
 
--- more alerts were asked, or asking stopped at one of those that were left
+-- More alerts were asked, or asking stopped at one of those that were left.
 abbrev pub IsGoingOn : ℕ → ℕ → Underway → InstanceState → Result Underway Refusal → InstanceState → Type 0
 IsGoingOn now most before old (Ok after) new = GoesOn now most before old after new
 IsGoingOn now most before old (Err refusal) new = IsStopped now before.left old (line_seen refusal) new

@@ -1,4 +1,4 @@
--- The live entries of the log, as they are told.
+-- The live entries of the log, as a reply lists them.
 use Rattle.std.specs.Prelude.{◌≡◌, ℕ, List, ◌∷◌, map}
 use Rattle.json.specs.Token.{Token, begin_array}
 use Rattle.am_nflog.specs.Mesh.{Mesh}
@@ -7,12 +7,12 @@ use Rattle.am_report.specs.Json.Values.{entry_data}
 use Rattle.am_report.specs.Json.Views.{list_line}
 use Rattle.am_api_silences.specs.Replies.{good_bytes}
 
--- entries that are being told, and how many of them are left to be written
+-- entries that are being written, and how many of them are left
 pub record Telling : Type 0 where
   pub rows : List Mesh
   pub left : ℕ
 
--- the opening bracket and these entries are written, and nothing else
+-- The opening bracket and these entries are written, and nothing else.
 abbrev pub AreWritten : List Mesh → List Token → Type 0
 AreWritten rows tokens = tokens ≡ begin_array ∷ row_tokens (map entry_data rows)
 

@@ -1,4 +1,4 @@
--- The table of statuses of the calls on decisions: the line that each cause of a refusal has.
+-- The table of statuses of the calls on decisions: the line for each cause of a refusal.
 use Rattle.std.specs.Prelude.{ℕ, List, ◌++◌, false, Some, codes}
 use Rattle.am_decision_json.specs.declared.key.MessageKey.{MessageKey}
 use Rattle.am_decision_json.specs.Keys.{key_text}
@@ -13,21 +13,21 @@ use Rattle.am_api_decisions.specs.declared.cause.Resource.TheVariants.{Decisions
 use Rattle.am_api_decisions.specs.declared.cause.Word.{Word}
 use Rattle.am_api_decisions.specs.declared.cause.Word.TheVariants.{Repeat, Resolved, Wait, Index}
 
--- the method of what a path names
+-- the method of a resource
 abbrev pub allowed_at : Resource → List ℕ
 allowed_at Decisions = codes "POST"
 allowed_at Notices = codes "POST"
 allowed_at Entries = codes "GET"
 allowed_at Alerts = codes "GET"
 
--- what is said of a word of the query
+-- the text for a word of the query
 abbrev pub bad_word : Word → List ℕ
 bad_word Repeat = codes "bad query: repeat"
 bad_word Resolved = codes "bad query: resolved"
 bad_word Wait = codes "bad query: wait"
 bad_word Index = codes "bad query: index"
 
--- what is said of a key of a message
+-- the text for a key of a message
 abbrev pub bad_key : MessageKey → List ℕ
 bad_key key = codes "bad message: " ++ key_text key
 
@@ -42,7 +42,8 @@ line_of (BadMessage key) = line 400 (bad_key key)
 line_of Truncated = line 400 (codes "truncated alerts")
 line_of Memory = line 500 (codes "out of memory")
 
--- the line of a step that is refused: the moment is before the last one, an entry is over the limit of its text, or there is no memory
+-- the line for a step that is refused: the moment is before the last one, an entry's text is over its limit, or there is no
+-- memory
 abbrev pub error_line : StepError → RefusalLine
 error_line (MomentBack last) = clock_line
 error_line (Frame fault) = line 400 (codes "entry too large")

@@ -1,4 +1,4 @@
--- The alerts of the last messages that were asked about, as they are kept in mind and told.
+-- The alerts of the last messages that were asked about, as they are kept in mind and listed.
 use Rattle.std.specs.Prelude.{ℕ, ◌+◌, ◌&&◌, nat_le, not, Bool, List, ◌++◌, length, map, filter, take}
 use Rattle.std.specs.List.{sum_by}
 use Rattle.std.specs.Str.{bytes_eq}
@@ -13,29 +13,29 @@ use Rattle.am_api_decisions.specs.declared.recent.RecentAlert.{RecentAlert}
 
 -- ---- what is kept of a message
 
--- how many bytes a label counts as: those of its name and its value, and 64 for what holds them
+-- the number of bytes that a label counts as: those of its name and its value, and 64 for what holds them
 abbrev pub label_size : Label → ℕ
 label_size label = length label.name + length label.value + 64
 
--- how many an alert of a group counts as
+-- the number of bytes that an alert of a group counts as
 abbrev pub alert_size : List ℕ → List Label → ℕ
 alert_size group_key labels = length group_key + sum_by label_size labels
 
--- an alert of a group is kept: it fires, and counts as 2,048 bytes at most
+-- An alert of a group is kept if it fires, and counts as at most 2,048 bytes.
 abbrev pub is_kept : List ℕ → Alert → Bool
 is_kept group_key alert = alert.is_firing && nat_le (alert_size group_key alert.labels) 2_048
 
--- what is kept of it
+-- an alert as it is kept
 abbrev pub kept_as : List ℕ → Alert → RecentAlert
 kept_as group_key alert = record { group_key = group_key; labels = alert.labels }
 
--- what is kept of the alerts of a group, in their order
+-- the alerts of a group that are kept, in order
 abbrev pub kept_of : List ℕ → List Alert → List RecentAlert
 kept_of group_key alerts = map (kept_as group_key) (filter (is_kept group_key) alerts)
 
--- ---- what is kept behind it
+-- ---- what is kept of older messages
 
--- it was in another group
+-- The alert was in another group.
 abbrev pub is_of_another : List ℕ → RecentAlert → Bool
 is_of_another group_key alert = not (bytes_eq alert.group_key group_key)
 
@@ -43,13 +43,14 @@ is_of_another group_key alert = not (bytes_eq alert.group_key group_key)
 abbrev pub of_others : List ℕ → List RecentAlert → List RecentAlert
 of_others group_key alerts = filter (is_of_another group_key) alerts
 
--- What is kept once a message is asked about: of its first 512 alerts, and behind them those of other groups; 512 in all, the newest.
+-- the alerts that are kept once a message is asked about: those of its first 512, then those of other groups; 512 in all, the
+-- newest
 abbrev pub noted : List RecentAlert → Message → List RecentAlert
 noted alerts m = take 512 (kept_of m.group_key (take 512 m.alerts.items) ++ of_others m.group_key alerts)
 
--- ---- told
+-- ---- the list
 
--- what is told of an alert: its labels
+-- an alert as it is listed: its labels
 abbrev pub alert_data : RecentAlert → Data
 alert_data alert = labels_data alert.labels
 

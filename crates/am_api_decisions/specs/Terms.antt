@@ -1,4 +1,4 @@
--- On which terms a decision is asked for, by the words of the query.
+-- The terms on which a decision is asked for, by the words of the query.
 use Rattle.std.specs.Prelude.{◌≡◌, ◌≢◌, ℕ, Bool, List, codes, Option, Some, None, ⊤}
 use Rattle.am_api_decisions.specs.Words.{word_in, number_or, truth_or, text_or}
 use Rattle.am_api_decisions.specs.declared.cause.Cause.{Cause}
@@ -7,12 +7,12 @@ use Rattle.am_api_decisions.specs.declared.cause.Word.{Word}
 use Rattle.am_api_decisions.specs.declared.cause.Word.TheVariants.{Repeat, Resolved, Wait, Index}
 use Rattle.am_api_decisions.specs.declared.terms.Terms.{Terms}
 
--- after how many seconds a notification is repeated: four hours where it is left out, and at least one second, and fewer than
--- 2 ^ 63 nanoseconds
+-- the number of seconds after which a notification is repeated: four hours if it is left out, and at least one second, and fewer
+-- than 2 ^ 63 nanoseconds
 abbrev pub repeat_in : List ℕ → Option ℕ
 repeat_in query = number_or 14400 1 9223372036 (word_in (codes "repeat") query)
 
--- whether it is told that alerts are resolved
+-- whether the receiver is told of resolved alerts
 abbrev pub resolved_in : List ℕ → Option Bool
 resolved_in query = truth_or (word_in (codes "resolved") query)
 
@@ -28,7 +28,7 @@ integration_in query = text_or (codes "webhook") (word_in (codes "integration") 
 abbrev pub index_in : List ℕ → Option ℕ
 index_in query = number_or 0 0 4294967295 (word_in (codes "index") query)
 
--- the terms are those of the query
+-- The terms are those of the query.
 pub record IsTerms (query : List ℕ) (terms : Terms) : Type 0 where
   pub repeat : repeat_in query ≡ Some terms.repeat.seconds
   pub resolved : resolved_in query ≡ Some terms.send_resolved
@@ -36,24 +36,24 @@ pub record IsTerms (query : List ℕ) (terms : Terms) : Type 0 where
   pub integration : terms.integration ≡ integration_in query
   pub index : index_in query ≡ Some terms.index
 
--- the query has terms: none of its words is at fault
+-- The query has terms: none of its words is at fault.
 abbrev pub HasTerms : List ℕ → Type 0
 HasTerms query = (terms : Terms) × IsTerms query terms
 
--- the word is the first one that is at fault
+-- The word is the first one that is at fault.
 abbrev pub IsFirstBad : List ℕ → Word → Type 0
 IsFirstBad query Repeat = repeat_in query ≡ None
 IsFirstBad query Resolved = (repeat_in query ≢ None) × (resolved_in query ≡ None)
 IsFirstBad query Wait = (repeat_in query ≢ None) × (resolved_in query ≢ None) × (wait_in query ≡ None)
 IsFirstBad query Index = (repeat_in query ≢ None) × (resolved_in query ≢ None) × (wait_in query ≢ None) × (index_in query ≡ None)
 
--- why a word is refused: its value is none, or memory ran out
+-- A word is refused for this cause: its value isn't valid, or memory ran out.
 abbrev pub IsWordFault : Type 0 → Word → Cause → Type 0
 IsWordFault IsBad word (BadQuery named) = (named ≡ word) × IsBad
 IsWordFault IsBad word Memory = ⊤
 IsWordFault IsBad word _ = ⊥
 
--- why a query is refused: by the first word that is at fault, or memory ran out
+-- A query is refused for this cause: its first word that is at fault, or that memory ran out.
 abbrev pub IsTermsFault : List ℕ → Cause → Type 0
 IsTermsFault query (BadQuery word) = IsFirstBad query word
 IsTermsFault query Memory = ⊤

@@ -1,4 +1,4 @@
-//! An alert, asked for the silences that mute it.
+//! Asking for the silences that mute an alert.
 
 ghost use Rattle.std.specs.Prelude.{◌≡◌, IfOk, IfErr, IfSome};
 ghost use Rattle.am_http.specs.Lines.{line_seen};
@@ -11,7 +11,7 @@ use am_matcher::{Ids, Label, Labels};
 use am_version_order::Moment;
 use std::alloc::{AllocError, Global};
 
-/// A copy of a label.
+/// Returns a copy of a label.
 fn copied_label(alloc: Global, label: &Label) -> Result<Label, AllocError>
     ensures { IfOk result (λ copy. copy ≡ label.now) }
 {
@@ -21,11 +21,11 @@ fn copied_label(alloc: Global, label: &Label) -> Result<Label, AllocError>
     })
 }
 
-/// A copy of labels.
+/// Returns a copy of labels.
 ///
 /// # Errors
 ///
-/// [`AllocError`] where memory ran out.
+/// [`AllocError`] if memory runs out.
 pub fn copied_labels(alloc: Global, labels: &Labels) -> Result<Labels, AllocError>
     ensures { IfOk result (λ copy. copy ≡ labels.now) }
 {
@@ -37,7 +37,7 @@ pub fn copied_labels(alloc: Global, labels: &Labels) -> Result<Labels, AllocErro
     Ok(Labels::new(copies))
 }
 
-/// The silences that a reply names.
+/// Returns the silences that a reply names.
 fn ids_in(reply: Reply) -> Option<Ids>
     ensures { IfSome result (λ ids. TellsIds reply ids) }
 {
@@ -47,7 +47,7 @@ fn ids_in(reply: Reply) -> Option<Ids>
     }
 }
 
-/// The silences that mute an alert with these labels, by one step.
+/// Returns the silences that mute an alert with these labels, by one step.
 fn ask_by_step(instance: &mut Instance, labels: Labels, now: Moment) -> Result<Ids, Refusal>
     ensures asked { IfOk result (λ ids. IsMutesStep now labels ids instance.old instance.new) }
     ensures stopped { IfErr result (λ refusal. StopsAt now labels instance.old (line_seen refusal) instance.new) }
@@ -61,11 +61,11 @@ fn ask_by_step(instance: &mut Instance, labels: Labels, now: Moment) -> Result<I
     }
 }
 
-/// The silences that mute an alert with these labels, by one step.
+/// Returns the silences that mute an alert with these labels, by one step.
 ///
 /// # Errors
 ///
-/// The line that says why there is no answer: that the clock ran back, or that memory ran out.
+/// The line that says why there is no answer: the clock ran back, or memory ran out.
 pub fn ask(
     alloc: Global,
     instance: &mut Instance,

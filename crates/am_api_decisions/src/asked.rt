@@ -1,4 +1,4 @@
-//! What requests ask.
+//! The questions of requests.
 
 ghost use Rattle.std.specs.Prelude.{◌≡◌, IfOk, IfErr};
 ghost use Rattle.am_api_decisions.specs.Asked.{Asks, HasFault, IsAsked, IsAskedBy, IsQuestion, IsQuestionFault, IsRefusedFor};
@@ -11,20 +11,20 @@ use am_decision_json::{Message, Notice};
 use am_http::{Refusal, Request};
 use std::alloc::Global;
 
-/// Whether a group is to be notified.
+/// The question whether a group is to be notified.
 #[derive(Drop)]
 pub struct Question {
-    /// The alerts of the group, and to whom they go.
+    /// The alerts of the group, and their receiver.
     pub message: Message,
     pub terms: Terms,
 }
 
-/// What a request asks.
+/// The question of a request.
 #[derive(Drop)]
 pub enum Asked {
-    /// Whether a group is to be notified.
+    /// True if a group is to be notified.
     Decide(Question),
-    /// That a group was notified is to be logged.
+    /// A notice to log that a group was notified.
     Notified(Notice),
     /// The live entries of the log.
     Log,
@@ -33,7 +33,7 @@ pub enum Asked {
 }
 
 impl Question {
-    /// Whether the reply waits for the member's turn.
+    /// Returns whether the reply waits for the member's turn.
     pub fn waits(&self) -> bool
         ensures { result ≡ self.now.terms.waits }
     {
@@ -41,7 +41,7 @@ impl Question {
     }
 }
 
-/// The question that a query and a body ask.
+/// Reads the question in a query and a body.
 fn question_in(alloc: Global, query: &str, body: &[u8]) -> Result<Question, Cause>
     ensures read { IfOk result (IsQuestion query.now body.now) }
     ensures refused { IfErr result (IsQuestionFault query.now body.now) }
@@ -53,7 +53,7 @@ fn question_in(alloc: Global, query: &str, body: &[u8]) -> Result<Question, Caus
     }
 }
 
-/// What a call with this body asks.
+/// Reads what a call with this body asks.
 fn asked_by(alloc: Global, call: Call<'_>, body: &[u8]) -> Result<Asked, Cause>
     ensures asked { IfOk result (Asks call.entry body.now) }
     ensures refused { IfErr result (HasFault call.entry body.now) }
@@ -66,7 +66,7 @@ fn asked_by(alloc: Global, call: Call<'_>, body: &[u8]) -> Result<Asked, Cause>
     }
 }
 
-/// What a request asks, or what is at fault with it.
+/// Reads what a request asks, or finds its fault.
 fn asked_in(alloc: Global, request: &Request) -> Result<Asked, Cause>
     ensures asked { IfOk result (IsAskedBy request.now) }
     ensures refused { IfErr result (IsRefusedFor request.now) }
@@ -76,11 +76,11 @@ fn asked_in(alloc: Global, request: &Request) -> Result<Asked, Cause>
     Ok(asked)
 }
 
-/// What a request asks.
+/// Reads what a request asks.
 ///
 /// # Errors
 ///
-/// The line of the first fault that stands: the path, the method, a word of the query or the body, or that memory ran out.
+/// The line of the first fault: of the path, the method, a word of the query or the body; or that memory ran out.
 pub fn asked_of(alloc: Global, request: &Request) -> Result<Asked, Refusal>
     // PROMISE: A request for a decision asks what its path, query and message say, or has its first fault.
     ensures { IsAsked request.now result }

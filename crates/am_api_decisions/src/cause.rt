@@ -1,4 +1,4 @@
-//! Why a request is refused, and the line of the table of statuses that says so.
+//! The causes for which a request is refused, and their lines in the table of statuses.
 
 ghost use Rattle.std.specs.Prelude.{◌≡◌};
 ghost use Rattle.am_http.specs.Lines.{line_seen, told_to};
@@ -7,7 +7,7 @@ ghost use Rattle.am_api_decisions.specs.Lines.{allowed_at, bad_key, bad_word, li
 use am_decision_json::MessageKey;
 use am_http::Refusal;
 
-/// What a path under `/v1/` names.
+/// The resource that a path under `/v1/` names.
 #[derive(Clone, Copy)]
 pub enum Resource {
     /// `/v1/decide`
@@ -29,18 +29,18 @@ pub enum Word {
     Index,
 }
 
-/// What is at fault in a request before a step is made, in the order in which it is tested.
+/// The fault of a request before a step is made, in the order in which faults are tested.
 #[derive(Clone, Copy)]
 pub enum Cause {
     /// The path names nothing.
     NoSuchPath,
-    /// What the path names has no such method.
+    /// The resource has no such method.
     MethodNotAllowed(Resource),
-    /// This word of the query has a value that is none.
+    /// The value of this word of the query isn't valid.
     BadQuery(Word),
     /// The body is no JSON object.
     BadJson,
-    /// The message in the body has this key wanting or wrong.
+    /// The message in the body lacks this key, or has a wrong value for it.
     BadMessage(MessageKey),
     /// Alerts were left out of the message in the body.
     Truncated,
@@ -49,7 +49,7 @@ pub enum Cause {
 }
 
 impl Resource {
-    /// The method of the resource, as a field `allow` names it.
+    /// Returns the method of the resource, as a field `allow` names it.
     pub const fn allowed(self) -> &'static str
         ensures { result.now ≡ allowed_at self }
     {
@@ -62,7 +62,7 @@ impl Resource {
     }
 }
 
-/// What is said where the value of a word is none.
+/// Returns the text for a word whose value isn't valid.
 const fn bad_word(word: Word) -> &'static str
     ensures { result.now ≡ bad_word word }
 {
@@ -74,7 +74,7 @@ const fn bad_word(word: Word) -> &'static str
     }
 }
 
-/// What is said where a key of a message is wanting or wrong.
+/// Returns the text for a key of a message that is missing or wrong.
 const fn bad_key(key: MessageKey) -> &'static str
     ensures { result.now ≡ bad_key key }
 {
@@ -95,7 +95,7 @@ const fn bad_key(key: MessageKey) -> &'static str
 }
 
 impl Cause {
-    /// The line of the table that the request is refused with.
+    /// Returns the line of the table with which the request is refused.
     pub const fn refusal(self) -> Refusal
         ensures { line_seen result ≡ line_of self }
     {
@@ -115,7 +115,7 @@ impl Cause {
         }
     }
 
-    /// That line, as it is told to a request of this method.
+    /// Returns that line as a request of this method is told it.
     pub fn refusal_to(self, method: &str) -> Refusal
         ensures { line_seen result ≡ told_to method.now (line_of self) }
     {

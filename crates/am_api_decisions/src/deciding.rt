@@ -4,13 +4,13 @@ ghost use Rattle.std.specs.Prelude.{◌≡◌, ◌==◌, ℕ, List, [], ◌∷�
 ghost use Rattle.am_http.specs.Lines.{line_seen};
 ghost use Rattle.am_api_decisions.specs.Asking.{HoldsSame, IsMutesStep, StopsAt, counted_with};
 ghost use Rattle.am_api_decisions.specs.Deciding.{IsGoingOn, underway_of};
-ghost use Rattle.am_api_decisions.specs.Settling.{IsDecided};
+ghost use Rattle.am_api_decisions.specs.Settling.{IsBrokenOff, IsDecided};
 
 use crate::alerts::ask;
 use crate::asked::Question;
 use crate::group::Group;
-use crate::replies::tell;
-use crate::settling::settle;
+use crate::replies::{short, tell};
+use crate::settling::{Judgement, settle};
 use crate::table;
 use crate::tally::Tally;
 use crate::timing::Timing;
@@ -23,7 +23,7 @@ use std::alloc::Global;
 use std::marker::Model;
 use std::vec::IntoIter;
 
-/// A decision that is being made: which alerts are left to be asked for the silences that mute them, and what came of the
+/// A decision that is being made: the alerts that are still to be asked for the silences that mute them, and the tally of the
 /// others.
 #[derive(Drop)]
 pub struct Deciding {
@@ -44,7 +44,7 @@ impl Model for Deciding {
     ghost invariant = { λ d. into_iter_len d.left ≡ length (into_iter_items d.left) };
 }
 
-/// Asks an alert, and counts it.
+/// Asks for the silences that mute an alert, and counts the alert.
 fn ask_one(
     alloc: Global,
     instance: &mut Instance,
@@ -64,7 +64,7 @@ fn ask_one(
 }
 
 impl Deciding {
-    /// Before the first alert of a question is asked. It takes no memory.
+    /// Begins with a question none of whose alerts has been asked. Takes no memory.
     pub fn new(alloc: Global, question: Question) -> Deciding
         ensures { result ≡ underway_of question }
     {
@@ -81,12 +81,12 @@ impl Deciding {
         }
     }
 
-    /// Asks so many more alerts for the silences that mute them, or all that are left, each by one step at `now`.
+    /// Asks for the silences that mute the next `most` alerts, or all that are left, each by one step at `now`.
     ///
     /// # Errors
     ///
-    /// The line that says why not all of them were asked: `clock ran back`, where `now` is before the moment of the last
-    /// event, or `out of memory`. The steps that were made until then stand; they change nothing but that moment.
+    /// The line that says why not all of them were asked: `clock ran back` if `now` is before the moment of the last event, or
+    /// `out of memory`. The steps that were made until then stand; they change nothing but that moment.
     pub fn go_on(
         self,
         alloc: Global,
@@ -112,16 +112,16 @@ impl Deciding {
         Ok(Deciding { group, left, tally })
     }
 
-    /// Whether all alerts are asked.
+    /// Returns whether all alerts have been asked.
     pub fn is_asked(&self) -> bool
         ensures { result ≡ (length self.now.left == 0) }
     {
         self.left.len() == 0
     }
 
-    /// Whether to notify, in the bytes of a reply: the alerts that are left are asked, as by [`Deciding::go_on`], and then
-    /// one step decides over those that no silence mutes, all at the moment of the timing. Where each is muted no step is
-    /// made. The reply says that moment, to the millisecond, and how long turns are.
+    /// Decides whether to notify, and returns the bytes of the reply. The alerts that are left are asked, as by
+    /// [`Deciding::go_on`], and then one step decides over those that no silence mutes, all at the moment of the timing. If every
+    /// alert is muted, no step is made. The reply gives that moment, to the millisecond, and the length of the turns.
     pub fn decide(self, alloc: Global, instance: &mut Instance, timing: Timing) -> ReplyBytes
         // PROMISE: The decision is over all alerts that no silence mutes, and its reply is the text of that answer.
         ensures decided { IsDecided timing self instance.old result instance.new }
@@ -135,9 +135,28 @@ impl Deciding {
                     left: _,
                     tally,
                 } = deciding;
-                settle(alloc, instance, group, tally, timing)
+                settle(alloc, instance, group, tally, Judgement::Whole, timing)
             }
             Err(refusal) => tell(alloc, &refusal),
+        }
+    }
+
+    /// Decides whether to notify without asking the alerts that are left, and returns the bytes of the reply: those alerts count
+    /// as if no silence muted them. One step decides over these and those that no silence mutes; if the group is to be notified,
+    /// the reply says that it isn't judged.
+    pub fn break_off(self, alloc: Global, instance: &mut Instance, timing: Timing) -> ReplyBytes
+        // PROMISE: A decision that is broken off leaves out no alert that wasn't asked, and says so.
+        ensures decided { IsBrokenOff timing self instance.old result instance.new }
+        ensures same { HoldsSame instance.old instance.new }
+    {
+        let Deciding {
+            group,
+            left,
+            mut tally,
+        } = self;
+        match tally.add_unasked(alloc, left) {
+            Ok(()) => settle(alloc, instance, group, tally, Judgement::Partial, timing),
+            Err(_) => short(),
         }
     }
 }

@@ -27,7 +27,7 @@ use json::{Token, Writer};
 use std::alloc::{AllocError, Global};
 use std::marker::Model;
 
-/// The entries of a log that are live, in the order of their keys.
+/// Returns the entries of a log that are live, in the order of their keys.
 fn live_entries(
     alloc: Global,
     log: &Held<MeshEntry>,
@@ -44,7 +44,7 @@ fn live_entries(
     Ok(rows)
 }
 
-/// Adds entries, without brackets. (An entry is told alike at any moment.)
+/// Adds entries, without brackets. (An entry is written in the same way at any moment.)
 fn add_entries(alloc: Global, out: &mut Writer, rows: &[MeshEntry]) -> Result<(), AllocError>
     ensures { OnOk result (Adds out.old out.new (row_tokens (map entry_data rows.now))) }
 {
@@ -63,7 +63,7 @@ fn begin_list(alloc: Global) -> Result<Writer, AllocError>
     Ok(out)
 }
 
-/// The line of a value whose tokens were written.
+/// Returns the line of a value whose tokens were written.
 fn line_of(out: Writer) -> Result<Vec<u8>, AllocError>
     ensures { IfOk result (λ line. line.items ≡ out.before ++ print out.tokens ++ 10 ∷ []) }
 {
@@ -72,7 +72,7 @@ fn line_of(out: Writer) -> Result<Vec<u8>, AllocError>
     Ok(line)
 }
 
-/// Ends a list to which entries were added, and its line.
+/// Ends a list to which entries were added, and returns its line.
 fn end_list(out: Writer) -> Result<Vec<u8>, AllocError>
     ensures { IfOk result (λ line. (rows : List Mesh) → AreWritten rows out.tokens →
         line.items ≡ out.before ++ list_line (map entry_data rows)) }
@@ -87,7 +87,7 @@ fn end_list(out: Writer) -> Result<Vec<u8>, AllocError>
 #[derive(Drop)]
 pub struct LogWriting {
     rows: Vec<MeshEntry>,
-    /// How many of them are written.
+    /// The number of entries that are written.
     count: usize,
     out: Writer,
 }
@@ -107,7 +107,7 @@ impl Model for LogWriting {
     } };
 }
 
-/// Before the first of these entries.
+/// Begins to write these entries.
 fn begin(alloc: Global, rows: Vec<MeshEntry>) -> Result<LogWriting, AllocError>
     ensures { IfOk result (λ w. w ≡ record { rows = rows.items; left = length rows.items }) }
 {
@@ -147,7 +147,7 @@ pub fn begin_log(alloc: Global, instance: &Instance, now: Moment) -> Result<LogW
 }
 
 impl LogWriting {
-    /// With so many entries more written, or all that are left.
+    /// Returns it with `count` more entries written, or all that are left.
     fn with_more(self, alloc: Global, count: usize) -> Result<LogWriting, AllocError>
         ensures { IfOk result (λ w. w ≡ record self { left = self.left - count }) }
     {
@@ -165,7 +165,7 @@ impl LogWriting {
         })
     }
 
-    /// Writes so many entries more, or all that are left.
+    /// Writes `count` more entries, or all that are left.
     ///
     /// # Errors
     ///
@@ -180,14 +180,14 @@ impl LogWriting {
         }
     }
 
-    /// Whether all entries are written.
+    /// Returns whether all entries are written.
     pub fn is_written(&self) -> bool
         ensures { result ≡ (self.now.left == 0) }
     {
         self.count == self.rows.len()
     }
 
-    /// The line of all entries: what is left of them is written.
+    /// Writes the entries that are left, and returns the line of all entries.
     fn into_line(self, alloc: Global) -> Result<Vec<u8>, AllocError>
         ensures { IfOk result (λ line. line.items ≡ list_line (map entry_data self.rows)) }
     {
@@ -201,7 +201,7 @@ impl LogWriting {
         Ok(line)
     }
 
-    /// The bytes of the reply.
+    /// Returns the bytes of the reply.
     fn into_bytes(self, alloc: Global) -> Result<Vec<u8>, AllocError>
         ensures { IfOk result (λ bytes. bytes.items ≡ log_bytes self.rows) }
     {
@@ -210,7 +210,7 @@ impl LogWriting {
         Ok(bytes)
     }
 
-    /// The whole reply: what is left is written. Where there is no memory for it, that is what is replied.
+    /// Writes the entries that are left, and returns the whole reply, or the one saying that there is no memory for it.
     pub fn finish(self, alloc: Global) -> ReplyBytes
         ensures { Says (λ bytes. bytes ≡ log_bytes self.rows) result }
     {

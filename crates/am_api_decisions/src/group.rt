@@ -10,7 +10,7 @@ use am_nflog::{Hashes, Receiver};
 use am_wire::{Bytes, Text};
 use std::alloc::{AllocError, Global};
 
-/// A group of alerts, to whom they go, and on which terms.
+/// A group of alerts, its receiver, and the terms of its decision.
 #[derive(Drop)]
 pub struct Group {
     pub group_key: Text,
@@ -19,7 +19,7 @@ pub struct Group {
 }
 
 impl Group {
-    /// The receiver that the log knows.
+    /// Returns the receiver as the log knows it.
     fn log_receiver(&self, alloc: Global) -> Result<Receiver, AllocError>
         ensures { IfOk result (λ receiver. receiver ≡ receiver_of self.now) }
     {
@@ -30,11 +30,11 @@ impl Group {
         })
     }
 
-    /// Whether to notify of the alerts that no silence mutes.
+    /// Returns the event that asks whether to notify of the alerts that no silence mutes.
     ///
     /// # Errors
     ///
-    /// [`AllocError`] where memory ran out.
+    /// [`AllocError`] if memory runs out.
     pub fn event(&self, alloc: Global, tally: &Tally) -> Result<Event, AllocError>
         ensures { IfOk result (λ event. event ≡ decide_event self.now tally.now) }
     {
@@ -49,7 +49,7 @@ impl Group {
     }
 }
 
-/// A copy of hashes.
+/// Returns a copy of hashes.
 fn copied_hashes(alloc: Global, hashes: &[u64]) -> Result<Hashes, AllocError>
     ensures { IfOk result (λ copy. copy ≡ hashes.now) }
 {

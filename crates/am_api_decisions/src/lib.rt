@@ -1,5 +1,5 @@
-//! Decisions on groups of alerts, from the bytes of a request to the bytes of its reply: what a request asks, the steps of an
-//! instance that are made for it, and what is answered.
+//! Decisions on groups of alerts, from the bytes of a request to the bytes of its reply: the questions of requests, the steps of
+//! an instance that are made for them, and the answers.
 #![tactic(auto)]
 
 mod alerts;

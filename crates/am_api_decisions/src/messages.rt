@@ -1,4 +1,4 @@
-//! What the bodies of requests say.
+//! The bodies of requests.
 
 ghost use Rattle.std.specs.Prelude.{IfOk, IfErr};
 ghost use Rattle.am_api_decisions.specs.Bodies.{IsMessageFault, IsMessageIn, IsNoticeFault, IsNoticeIn};
@@ -7,11 +7,11 @@ use crate::cause::Cause;
 use am_decision_json::{Message, MessageError, Notice, read_message, read_notice};
 use std::alloc::Global;
 
-/// The message that a body is.
+/// Reads the message in a body.
 ///
 /// # Errors
 ///
-/// [`Cause::BadJson`], [`Cause::BadMessage`] of the first key that is at fault, [`Cause::Truncated`], and [`Cause::Memory`].
+/// [`Cause::BadJson`], [`Cause::BadMessage`] of the first key that is at fault, [`Cause::Truncated`], or [`Cause::Memory`].
 pub fn message_in(alloc: Global, body: &[u8]) -> Result<Message, Cause>
     ensures read { IfOk result (IsMessageIn body.now) }
     ensures refused { IfErr result (IsMessageFault body.now) }
@@ -25,11 +25,11 @@ pub fn message_in(alloc: Global, body: &[u8]) -> Result<Message, Cause>
     }
 }
 
-/// The notice that a body is.
+/// Reads the notice in a body.
 ///
 /// # Errors
 ///
-/// As those of [`message_in`], but for [`Cause::Truncated`].
+/// The same as those of [`message_in`], except for [`Cause::Truncated`].
 pub fn notice_in(alloc: Global, body: &[u8]) -> Result<Notice, Cause>
     ensures read { IfOk result (IsNoticeIn body.now) }
     ensures refused { IfErr result (IsNoticeFault body.now) }

@@ -1,4 +1,4 @@
-//! What was notified, logged.
+//! Logging of notifications.
 
 ghost use Rattle.std.specs.Prelude.{◌≡◌, ◌+◌, nat_le, IfOk, Ok, Err, Some, option_copied};
 ghost use Rattle.serde_json.specs.Written.{compact_text};
@@ -18,10 +18,10 @@ use am_version_order::{Interval, Moment};
 use am_wire::Bytes;
 use std::alloc::{AllocError, Global};
 
-/// How many nanoseconds a millisecond has.
+/// The number of nanoseconds in a millisecond.
 const MILLISECOND: u64 = 1_000_000;
 
-/// The key of the log that a notice is about.
+/// Returns the key of the log that a notice is about.
 fn key_of(alloc: Global, notice: &Notice) -> Result<LogKey, AllocError>
     ensures { IfOk result (λ key. key ≡ key_of notice.now) }
 {
@@ -32,7 +32,7 @@ fn key_of(alloc: Global, notice: &Notice) -> Result<LogKey, AllocError>
     )
 }
 
-/// Whether an entry was made a millisecond or more after a moment.
+/// Returns whether an entry was made a millisecond or more after a moment.
 fn is_made_after(entry: &MeshEntry, moment: Moment) -> bool
     ensures { result ≡ nat_le (moment + 1_000_000) entry.now.entry.timestamp }
 {
@@ -44,7 +44,7 @@ fn is_made_after(entry: &MeshEntry, moment: Moment) -> bool
     }
 }
 
-/// Whether there is an entry that was made a millisecond or more after a moment.
+/// Returns whether there is an entry that was made a millisecond or more after a moment.
 fn is_since(moment: Moment, entry: Option<&MeshEntry>) -> bool
     ensures { result ≡ is_since (Some moment) (option_copied entry.entry) }
 {
@@ -54,7 +54,7 @@ fn is_since(moment: Moment, entry: Option<&MeshEntry>) -> bool
     }
 }
 
-/// Whether the log has an entry of a notice's group that was made after its decision.
+/// Returns whether the log has an entry of a notice's group that was made after its decision.
 fn is_late(alloc: Global, instance: &Instance, notice: &Notice) -> Result<bool, AllocError>
     ensures { IfOk result (λ late. late ≡ is_late notice.now instance.now) }
 {
@@ -65,7 +65,7 @@ fn is_late(alloc: Global, instance: &Instance, notice: &Notice) -> Result<bool, 
     Ok(is_since(decided_at, instance.log().get(&key)))
 }
 
-/// That a notice is to be logged.
+/// Returns the event that logs a notice.
 fn event_of(notice: Notice) -> Event
     ensures { result ≡ notified_event notice }
 {
@@ -78,7 +78,7 @@ fn event_of(notice: Notice) -> Event
     }
 }
 
-/// The reply that says whether a notice was logged.
+/// Returns the reply that says whether a notice was logged.
 fn logged(alloc: Global, is_logged: bool) -> Result<Vec<u8>, AllocError>
     ensures { IfOk result (λ bytes. bytes.items ≡ good_bytes (compact_text (logged_data is_logged))) }
 {
@@ -87,7 +87,7 @@ fn logged(alloc: Global, is_logged: bool) -> Result<Vec<u8>, AllocError>
     Ok(bytes)
 }
 
-/// The reply that says whether a notice was logged; where there is no memory for it, that is said.
+/// Returns the reply that says whether a notice was logged, or the one saying that there is no memory for it.
 fn told_of(alloc: Global, is_logged: bool) -> ReplyBytes
     ensures { Says (λ bytes. bytes ≡ good_bytes (compact_text (logged_data is_logged))) result }
 {
@@ -97,7 +97,7 @@ fn told_of(alloc: Global, is_logged: bool) -> ReplyBytes
     }
 }
 
-/// What is told of the reply of a step.
+/// Returns the reply to a notice, by the reply of its step.
 fn told_by(alloc: Global, reply: Reply) -> ReplyBytes
     ensures { Says (IsLoggedBytes reply) result }
 {
@@ -107,7 +107,7 @@ fn told_by(alloc: Global, reply: Reply) -> ReplyBytes
     }
 }
 
-/// The answer where the step was made.
+/// Returns the answer to a notice whose step was made.
 fn done(alloc: Global, outcome: Outcome) -> PendingAnswer
     ensures { WhenMade (TellsNotice (Ok outcome)) result }
 {
@@ -118,7 +118,7 @@ fn done(alloc: Global, outcome: Outcome) -> PendingAnswer
     }
 }
 
-/// The answer where the step was refused.
+/// Returns the answer to a notice whose step was refused.
 fn stopped(alloc: Global, error: StepError) -> PendingAnswer
     ensures { WhenMade (TellsNotice (Err error)) result }
 {
@@ -128,7 +128,7 @@ fn stopped(alloc: Global, error: StepError) -> PendingAnswer
     }
 }
 
-/// The answer where the log has a later entry.
+/// Returns the answer to a notice if the log has a later entry.
 fn passed_over(alloc: Global, instance: &Instance) -> PendingAnswer
     ensures { WhenMade (λ answered. IsPassedOver instance.now answered instance.now) result }
 {
@@ -138,7 +138,7 @@ fn passed_over(alloc: Global, instance: &Instance) -> PendingAnswer
     }
 }
 
-/// The answer where there is no memory to look into the log.
+/// Returns the answer to a notice if there is no memory to look into the log.
 fn unread(alloc: Global, instance: &Instance) -> PendingAnswer
     ensures { WhenMade (λ answered. IsUnread instance.now answered instance.now) result }
 {
@@ -148,7 +148,7 @@ fn unread(alloc: Global, instance: &Instance) -> PendingAnswer
     }
 }
 
-/// Logs what was notified by one step.
+/// Logs a notice by one step.
 fn log_by_step(alloc: Global, instance: &mut Instance, notice: Notice, now: Moment) -> PendingAnswer
     ensures { WhenMade (λ answered. IsLogged now notice instance.old answered instance.new) result }
 {
@@ -158,15 +158,15 @@ fn log_by_step(alloc: Global, instance: &mut Instance, notice: Notice, now: Mome
     }
 }
 
-/// Logs what was notified, by one step at `now`, and answers whether that changed the log; it didn't where its entry would
-/// not outlive its moment. What the step sends goes to all peers.
+/// Logs a notice by one step at `now`, and answers whether that changed the log; it didn't if its entry wouldn't outlive its
+/// moment. What the step sends goes to all peers.
 ///
-/// Where the notice says when it was decided, and the log has an entry of its group that was made a millisecond or more after
-/// that, live or not, no step is made, and it is answered that the log isn't changed: the notice came too late to speak for
-/// what happened since. Moments of decisions are told to the millisecond.
+/// If the notice says when it was decided, and the log has an entry of its group that was made a millisecond or more after that,
+/// live or not, no step is made, and the answer is that the log isn't changed: the notice came too late to speak for what
+/// happened since. Moments of decisions are given to the millisecond.
 ///
-/// Where the step is refused that is answered, and nothing is sent: `entry too large`, `clock ran back`, or `out of memory`.
-/// Where memory runs out once the step is made, that is what is answered; the entry stands then, and its frames are answered.
+/// If the step is refused, the answer says so, and nothing is sent: `entry too large`, `clock ran back`, or `out of memory`. If
+/// memory runs out once the step is made, the answer says that; the entry stands then, and its frames are returned.
 pub fn log_notice(
     alloc: Global,
     instance: &mut Instance,

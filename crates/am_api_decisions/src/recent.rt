@@ -20,19 +20,19 @@ use json::{Token, Writer};
 use std::alloc::{AllocError, Global};
 use std::marker::Model;
 
-/// How many alerts are kept.
+/// The maximum number of alerts that are kept.
 const MOST_ALERTS: usize = 512;
 
-/// As how many bytes one of them counts at most, so that all of them fit into one message.
+/// The most bytes that one alert counts as, so that all of them fit into one message.
 const MOST_BYTES: usize = 2_048;
 
-/// As how many bytes a label counts, beside those of its name and its value.
+/// The number of bytes that a label counts as, besides those of its name and its value.
 const BESIDE: usize = 64;
 
 /// An alert of a message that was asked about.
 #[derive(Drop)]
 pub struct RecentAlert {
-    /// The key of its group.
+    /// The key of the alert's group.
     pub group_key: Text,
     pub labels: Labels,
 }
@@ -53,7 +53,7 @@ impl Model for RecentAlerts {
     ghost view = { λ r. r.alerts.items };
 }
 
-/// What is left of so many bytes behind a label, where it fits.
+/// Returns what is left of `left` bytes after a label, if it fits.
 fn left_behind(left: usize, label: &Label) -> Option<usize>
     ensures { SomeIff result (label_size label.now ≤ left) (left - label_size label.now) }
 {
@@ -62,7 +62,7 @@ fn left_behind(left: usize, label: &Label) -> Option<usize>
         .checked_sub(BESIDE)
 }
 
-/// Whether labels fit into so many bytes.
+/// Returns whether labels fit into `room` bytes.
 fn fit(room: usize, labels: &[Label]) -> bool
     ensures { result ≡ nat_le (sum_by label_size labels.now) room }
 {
@@ -76,7 +76,7 @@ fn fit(room: usize, labels: &[Label]) -> bool
     true
 }
 
-/// Whether an alert of a group is kept.
+/// Returns whether an alert of a group is kept.
 fn is_kept(group_key: &str, alert: &Alert) -> bool
     ensures { result ≡ is_kept group_key.now alert.now }
 {
@@ -89,7 +89,7 @@ fn is_kept(group_key: &str, alert: &Alert) -> bool
     }
 }
 
-/// What is kept of an alert with these labels.
+/// Returns what is kept of an alert with these labels.
 fn kept_as(alloc: Global, group_key: &Text, labels: &Labels) -> Result<RecentAlert, AllocError>
     ensures { IfOk result (λ kept. kept ≡ record { group_key = group_key.now; labels = labels.now }) }
 {
@@ -114,7 +114,7 @@ fn keep(
     Ok(())
 }
 
-/// What is kept of the alerts of a group.
+/// Returns what is kept of the alerts of a group.
 fn kept_of(
     alloc: Global,
     group_key: &Text,
@@ -129,7 +129,7 @@ fn kept_of(
     Ok(kept)
 }
 
-/// The first alerts of a message, as many as are kept at most.
+/// Returns the first alerts of a message, up to the maximum that is kept.
 fn first_of(alerts: &[Alert]) -> &[Alert]
     ensures { result.now ≡ take MOST_ALERTS alerts.now }
 {
@@ -139,7 +139,7 @@ fn first_of(alerts: &[Alert]) -> &[Alert]
     }
 }
 
-/// Whether an alert was in another group.
+/// Returns whether an alert was in another group.
 fn is_of_another(group_key: &str, alert: &RecentAlert) -> bool
     ensures { result ≡ is_of_another group_key.now alert.now }
 {
@@ -166,7 +166,7 @@ fn add_alerts(out: &mut Writer, alerts: &[RecentAlert]) -> Result<(), AllocError
     Ok(())
 }
 
-/// The list of the labels of each alert, as a line.
+/// Returns the list of the labels of each alert, as a line.
 fn line_of(alloc: Global, alerts: &[RecentAlert]) -> Result<Vec<u8>, AllocError>
     ensures { IfOk result (λ line. line.items ≡ list_line (map alert_data alerts.now)) }
 {
@@ -177,7 +177,7 @@ fn line_of(alloc: Global, alerts: &[RecentAlert]) -> Result<Vec<u8>, AllocError>
     Ok(line)
 }
 
-/// The bytes of the reply that lists alerts.
+/// Returns the bytes of the reply that lists alerts.
 fn bytes_of(alloc: Global, alerts: &[RecentAlert]) -> Result<Vec<u8>, AllocError>
     ensures { IfOk result (λ bytes. bytes.items ≡ alerts_bytes alerts.now) }
 {
@@ -187,7 +187,7 @@ fn bytes_of(alloc: Global, alerts: &[RecentAlert]) -> Result<Vec<u8>, AllocError
 }
 
 impl RecentAlerts {
-    /// Before the first message. It takes no memory.
+    /// Returns the alerts before the first message: none. Takes no memory.
     pub fn new(alloc: Global) -> RecentAlerts
         ensures { result ≡ [] }
     {
@@ -203,13 +203,13 @@ impl RecentAlerts {
         self.alerts.retain(|alert| is_of_another(group_key, alert));
     }
 
-    /// Keeps those of the first 512 alerts of a message that fire, in place of what was kept of its group. One that counts as more
-    /// than 2,048 bytes is passed over, where a label counts as 64 beside its name and its value, and the key of the group counts
-    /// too. Where there are more than 512 then, the oldest are forgotten.
+    /// Keeps those of the first 512 alerts of a message that fire, in place of what was kept of its group. An alert that counts
+    /// as more than 2,048 bytes is passed over; a label counts as 64 bytes besides its name and its value, and the key of the
+    /// group counts too. If there are more than 512 then, the oldest are forgotten.
     ///
     /// # Errors
     ///
-    /// [`AllocError`] where memory runs out: then nothing is kept of the group.
+    /// [`AllocError`] if memory runs out: then nothing is kept of the group.
     pub fn note(&mut self, alloc: Global, message: &Message) -> Result<(), AllocError>
         // PROMISE: The alerts that fire in the last message of each group are kept in mind, 512 at most.
         ensures kept { OnOk result (self.new ≡ noted self.old message.now) }
@@ -223,7 +223,7 @@ impl RecentAlerts {
         Ok(())
     }
 
-    /// The bytes of the reply that lists the labels of the alerts. Where there is no memory for it, that is what is replied.
+    /// Returns the bytes of the reply that lists the labels of the alerts, or of the one saying that there is no memory for it.
     pub fn told(&self, alloc: Global) -> ReplyBytes
         // PROMISE: They are listed as one line of JSON, the newest message first.
         ensures { Says (λ bytes. bytes ≡ alerts_bytes self.now) result }

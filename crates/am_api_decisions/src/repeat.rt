@@ -1,10 +1,11 @@
-//! After how long a notification is repeated.
+//! The interval at which a notification is repeated.
 
 ghost use Rattle.std.specs.Prelude.{◌≡◌, ◌*◌, ◌≤◌};
 
 use am_version_order::Interval;
 
-/// After how many seconds a notification is repeated: 1 to 9,223,372,036, since an interval has fewer than 2^63 nanoseconds.
+/// The number of seconds after which a notification is repeated: 1 to 9,223,372,036, since an interval has fewer than 2^63
+/// nanoseconds.
 #[derive(Clone, Copy)]
 pub struct Repeat {
     pub seconds: u64,
@@ -12,7 +13,7 @@ pub struct Repeat {
 }
 
 impl Repeat {
-    /// The interval.
+    /// Returns the interval.
     pub fn interval(self) -> Interval
         ensures { result ≡ self.seconds * 1_000_000_000 }
     {

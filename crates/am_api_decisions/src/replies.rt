@@ -9,28 +9,28 @@ use am_api_silences::{ReplyBytes, to_bytes};
 use am_http::{Refusal, out_of_memory, reply};
 use std::alloc::{AllocError, Global};
 
-/// The reply 200 with this body.
+/// Returns the reply 200 with this body.
 pub fn good(alloc: Global, body: &[u8]) -> Result<Vec<u8>, AllocError>
     ensures { IfOk result (λ bytes. bytes.items ≡ good_bytes body.now) }
 {
     reply(alloc, 200, None, body)
 }
 
-/// The bytes that say that there is no memory for others.
+/// Returns the bytes of the reply saying that there is no memory for another.
 fn memory_bytes() -> &'static [u8]
     ensures { result.now ≡ memory_bytes }
 {
     out_of_memory()
 }
 
-/// The reply where there is no memory for another.
+/// Returns the reply saying that there is no memory for another.
 pub fn short() -> ReplyBytes
     ensures { IsNoMemory result }
 {
     ReplyBytes::Fixed(memory_bytes())
 }
 
-/// The reply with a line of the table of statuses; where there is no memory for it, that is said.
+/// Returns the reply with a line of the table of statuses, or the one saying that there is no memory for it.
 pub fn tell(alloc: Global, line: &Refusal) -> ReplyBytes
     ensures { Says (λ bytes. bytes ≡ line_bytes (line_seen line.now)) result }
 {

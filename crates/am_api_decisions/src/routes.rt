@@ -11,9 +11,9 @@ use am_http::Request;
 /// A call on decisions.
 #[derive(Clone, Copy)]
 pub enum Call<'a> {
-    /// Whether a group is to be notified, on the terms of the query, which is not decoded.
+    /// The question whether a group is to be notified, on the terms of the query, which is not decoded.
     Decide { query: &'a str },
-    /// A group was notified.
+    /// The notice that a group was notified.
     Notified,
     /// The live entries of the log.
     Log,
@@ -21,10 +21,10 @@ pub enum Call<'a> {
     Alerts,
 }
 
-/// What the paths of all calls on decisions begin with.
+/// The beginning of the paths of all calls on decisions.
 const FRONT: &[u8] = b"/v1/";
 
-/// Whether a request is for one of these calls: its path begins with `/v1/`, whatever its method. All others are for the
+/// Returns whether a request is for one of these calls: its path begins with `/v1/`, whatever its method. All others are for the
 /// silences.
 pub fn is_for_decisions(request: &Request) -> bool
     ensures { result ≡ is_below (string_bytes request.now.target) }
@@ -32,7 +32,7 @@ pub fn is_for_decisions(request: &Request) -> bool
     request.target.as_bytes().starts_with(FRONT)
 }
 
-/// The path and the query of a target, cut at the first `?`.
+/// Returns the path and the query of a target, cut at the first `?`.
 fn cut(target: &str) -> (&str, &str)
     ensures path { result.0.now ≡ path_of target.now }
     ensures query { result.1.now ≡ query_of target.now }
@@ -43,11 +43,11 @@ fn cut(target: &str) -> (&str, &str)
     }
 }
 
-/// The call that a request with this method and target asks for.
+/// Returns the call that a request with this method and target makes.
 ///
 /// # Errors
 ///
-/// [`Cause::NoSuchPath`] for any other path, and [`Cause::MethodNotAllowed`] for another method on a path that is one.
+/// [`Cause::NoSuchPath`] for any other path, and [`Cause::MethodNotAllowed`] for another method on one of the paths.
 pub fn call_of<'a>(method: &str, target: &'a str) -> Result<Call<'a>, Cause>
     ensures { IsCallOf method.now target.now result }
 {

@@ -1,4 +1,4 @@
-//! What a decision is answered, once all alerts of its group are asked.
+//! The answer to a decision, once all alerts of its group have been asked.
 
 ghost use Rattle.std.specs.Prelude.{◌≡◌, IfOk};
 ghost use Rattle.serde_json.specs.Written.{compact_text};
@@ -21,28 +21,38 @@ use am_nflog::Hashes;
 use am_silence_json::moments::write_moment;
 use std::alloc::{AllocError, Global};
 
-/// Why a group is notified, or why not.
-fn why_of(decision: Decision) -> Why
-    ensures { result ≡ why_of decision }
+/// The part of a group's alerts that was held against the silences.
+#[derive(Clone, Copy, PartialEq, Eq)]
+pub enum Judgement {
+    /// All of the alerts.
+    Whole,
+    /// Not all of the alerts: the others count as if no silence muted them.
+    Partial,
+}
+
+/// Returns why a group is notified, or why not.
+fn why_of(judgement: Judgement, decision: Decision) -> Why
+    ensures { result ≡ why_of judgement decision }
 {
-    match decision {
-        Decision::Skip => Why::Skip,
-        Decision::Notify(reason) => Why::Notify(reason),
+    match (judgement, decision) {
+        (_, Decision::Skip) => Why::Skip,
+        (Judgement::Whole, Decision::Notify(reason)) => Why::Notify(reason),
+        (Judgement::Partial, Decision::Notify(_)) => Why::Unjudged,
     }
 }
 
-/// Whether it is to be notified.
+/// Returns whether the group is to be notified.
 fn is_notified(why: Why) -> bool
     ensures { result ≡ is_notified why }
 {
     match why {
-        Why::Notify(_) => true,
+        Why::Notify(_) | Why::Unjudged => true,
         Why::Skip => false,
         Why::Muted => false,
     }
 }
 
-/// The answer that tells what is decided of a group, and why.
+/// Returns the answer that says what is decided of a group, and why.
 fn answer_of(timing: Timing, group: Group, tally: Tally, why: Why) -> Answer
     ensures { IsAnswerOf timing group tally why result }
 {
@@ -79,7 +89,7 @@ fn answer_of(timing: Timing, group: Group, tally: Tally, why: Why) -> Answer
     }
 }
 
-/// The reply with an answer.
+/// Returns the reply with an answer.
 fn answered(alloc: Global, answer: &Answer) -> Result<Vec<u8>, AllocError>
     ensures { IfOk result (λ bytes. bytes.items ≡ good_bytes (compact_text (answer_data answer.now))) }
 {
@@ -88,7 +98,7 @@ fn answered(alloc: Global, answer: &Answer) -> Result<Vec<u8>, AllocError>
     Ok(bytes)
 }
 
-/// What is told of a group, of which this is decided.
+/// Returns the reply that says what is decided of a group, and why.
 fn told_of(alloc: Global, timing: Timing, group: Group, tally: Tally, why: Why) -> ReplyBytes
     ensures { Says (IsAnswerBytes timing group tally why) result }
 {
@@ -99,47 +109,59 @@ fn told_of(alloc: Global, timing: Timing, group: Group, tally: Tally, why: Why) 
     }
 }
 
-/// What is told of the reply of a step.
-fn told_by(alloc: Global, timing: Timing, group: Group, tally: Tally, reply: Reply) -> ReplyBytes
-    ensures { Says (IsDecisionBytes timing group tally reply) result }
+/// Returns the reply that says what a step decided of a group.
+fn told_by(
+    alloc: Global,
+    judgement: Judgement,
+    timing: Timing,
+    group: Group,
+    tally: Tally,
+    reply: Reply,
+) -> ReplyBytes
+    ensures { Says (IsDecisionBytes judgement timing group tally reply) result }
 {
     match reply {
-        Reply::Decided(decision) => told_of(alloc, timing, group, tally, why_of(decision)),
+        Reply::Decided(decision) => {
+            let why = why_of(judgement, decision);
+            told_of(alloc, timing, group, tally, why)
+        }
         _ => short(),
     }
 }
 
-/// Makes the step that decides, over the alerts that no silence mutes.
+/// Makes the step that decides over the alerts that no silence mutes.
 fn decide_by_step(
     alloc: Global,
     instance: &mut Instance,
     group: Group,
     tally: Tally,
+    judgement: Judgement,
     timing: Timing,
 ) -> ReplyBytes
-    ensures { IsDecidedByStep timing group tally instance.old result instance.new }
+    ensures { IsDecidedByStep judgement timing group tally instance.old result instance.new }
 {
     let Ok(event) = group.event(alloc, &tally) else {
         return short();
     };
     match instance.step(event, timing.now) {
-        Ok(outcome) => told_by(alloc, timing, group, tally, outcome.reply),
+        Ok(outcome) => told_by(alloc, judgement, timing, group, tally, outcome.reply),
         Err(error) => tell(alloc, &table::refused(error)),
     }
 }
 
-/// What a group is answered, all of whose alerts were asked.
+/// Settles the decision on a group whose alerts have been counted, and returns the reply.
 pub fn settle(
     alloc: Global,
     instance: &mut Instance,
     group: Group,
     tally: Tally,
+    judgement: Judgement,
     timing: Timing,
 ) -> ReplyBytes
-    ensures { IsSettled timing group tally instance.old result instance.new }
+    ensures { IsSettled judgement timing group tally instance.old result instance.new }
 {
     if tally.has_none() {
         return told_of(alloc, timing, group, tally, Why::Muted);
     }
-    decide_by_step(alloc, instance, group, tally, timing)
+    decide_by_step(alloc, instance, group, tally, judgement, timing)
 }

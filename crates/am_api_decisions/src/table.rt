@@ -1,4 +1,4 @@
-//! The lines of the table of statuses for what a step refuses.
+//! The lines of the table of statuses for the errors of steps.
 
 ghost use Rattle.std.specs.Prelude.{◌≡◌};
 ghost use Rattle.am_http.specs.Lines.{line_seen};
@@ -8,14 +8,14 @@ ghost use Rattle.am_api_decisions.specs.Lines.{error_line};
 use am_http::Refusal;
 use am_instance::StepError;
 
-/// The line where there is no memory.
+/// Returns the line for want of memory.
 pub const fn out_of_memory() -> Refusal
     ensures { line_seen result ≡ memory_line }
 {
     Refusal::new(500, "out of memory")
 }
 
-/// The line of a step that is refused.
+/// Returns the line for a step that is refused.
 pub const fn refused(error: StepError) -> Refusal
     ensures { line_seen result ≡ error_line error }
 {

@@ -1,7 +1,9 @@
-//! What came of the alerts that were asked.
+//! The tally of the alerts that have been asked.
 
 ghost use Rattle.std.specs.Prelude.{◌≡◌, ◌&&◌, ◌==◌, ◌-◌, [], ◌∷◌, IfOk, OnOk, false, length, take};
-ghost use Rattle.am_api_decisions.specs.Asking.{counted_with, nothing_counted};
+ghost use Rattle.std.specs.Prelude.{map};
+ghost use Rattle.std.specs.Vec.Iter.{into_iter_items, into_iter_len};
+ghost use Rattle.am_api_decisions.specs.Asking.{counted_with, nothing_counted, unasked};
 
 use am_alert_hash::alert_hash;
 use am_decision_json::{Alert, Muted};
@@ -9,11 +11,13 @@ use am_matcher::Ids;
 use am_wire::Text;
 use std::alloc::{AllocError, Global};
 use std::marker::Model;
+use std::vec::IntoIter;
 
-/// How many of the silences that mute an alert are named, so that the alerts of a message bound what an answer takes.
+/// The maximum number of silences that are named of those that mute an alert, so that the alerts of a message bound the size of
+/// an answer.
 const MOST_NAMED: usize = 16;
 
-/// What came of alerts: the hashes of those that no silence mutes, by whether they fire, and those that are muted.
+/// The tally of alerts: the hashes of those that no silence mutes, by whether they fire, and those that are muted.
 #[derive(Drop)]
 pub struct Tally {
     pub firing: Vec<u64>,
@@ -30,7 +34,7 @@ impl Model for Tally {
     ghost view = { λ t. record { firing = t.firing.items; resolved = t.resolved.items; muted = map silenced_in t.muted.items } };
 }
 
-/// Copies of identifiers.
+/// Returns copies of identifiers.
 fn copied_ids(alloc: Global, ids: &[Text]) -> Result<Vec<Text>, AllocError>
     ensures { IfOk result (λ copies. copies.items ≡ ids.now) }
 {
@@ -41,7 +45,7 @@ fn copied_ids(alloc: Global, ids: &[Text]) -> Result<Vec<Text>, AllocError>
     Ok(copies)
 }
 
-/// The first identifiers, as many as are named.
+/// Returns the first identifiers, up to the maximum that is named.
 fn named(alloc: Global, ids: &[Text]) -> Result<Vec<Text>, AllocError>
     ensures { IfOk result (λ named. named.items ≡ take 16 ids.now) }
 {
@@ -52,7 +56,7 @@ fn named(alloc: Global, ids: &[Text]) -> Result<Vec<Text>, AllocError>
     }
 }
 
-/// How many identifiers there are beside those that are named.
+/// Returns the number of identifiers beyond those that are named.
 fn unnamed(ids: &[Text]) -> u64
     ensures { result ≡ length ids.now - 16 }
 {
@@ -60,7 +64,7 @@ fn unnamed(ids: &[Text]) -> u64
 }
 
 impl Tally {
-    /// Nothing so far. It takes no memory.
+    /// Returns an empty tally. Takes no memory.
     pub fn new(alloc: Global) -> Tally
         ensures { result ≡ nothing_counted }
     {
@@ -71,7 +75,7 @@ impl Tally {
         }
     }
 
-    /// Whether all alerts are muted.
+    /// Returns whether all alerts are muted.
     pub fn has_none(&self) -> bool
         ensures { result ≡ (length self.now.firing == 0) && (length self.now.resolved == 0) }
     {
@@ -87,6 +91,21 @@ impl Tally {
             self.firing.push(hash)?;
         } else {
             self.resolved.push(hash)?;
+        }
+        Ok(())
+    }
+
+    /// Adds alerts that weren't asked, as if no silence muted them.
+    ///
+    /// # Errors
+    ///
+    /// [`AllocError`] if memory runs out.
+    pub fn add_unasked(&mut self, alloc: Global, alerts: IntoIter<Alert>) -> Result<(), AllocError>
+        requires { into_iter_len alerts ≡ length (into_iter_items alerts) }
+        ensures { OnOk result (self.new ≡ counted_with self.old (map unasked (into_iter_items alerts))) }
+    {
+        for alert in alerts {
+            self.add_open(alloc, &alert)?;
         }
         Ok(())
     }
@@ -109,7 +128,7 @@ impl Tally {
     ///
     /// # Errors
     ///
-    /// [`AllocError`] where memory ran out.
+    /// [`AllocError`] if memory runs out.
     pub fn add(&mut self, alloc: Global, alert: Alert, ids: Ids) -> Result<(), AllocError>
         ensures { OnOk result (self.new ≡ counted_with self.old (record { alert = alert; ids = ids } ∷ [])) }
     {

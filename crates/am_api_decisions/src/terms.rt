@@ -1,4 +1,4 @@
-//! On which terms a decision is asked for.
+//! The terms on which a decision is asked for.
 
 ghost use Rattle.std.specs.Prelude.{◌≡◌, Some, None, IfOk, IfErr, codes};
 ghost use Rattle.am_api_decisions.specs.Words.{truth_or, word_in};
@@ -12,22 +12,22 @@ use crate::words::{number_or, text_or, truth_or, word_in};
 use am_wire::Text;
 use std::alloc::Global;
 
-/// On which terms a decision is asked for, by the words of the query.
+/// The terms on which a decision is asked for, by the words of the query.
 #[derive(Drop)]
 pub struct Terms {
-    /// `repeat`, in seconds: after how long a notification is repeated.
+    /// `repeat`, in seconds: the time after which a notification is repeated.
     pub repeat: Repeat,
-    /// `resolved`: it is told that alerts are resolved.
+    /// `resolved`: whether the receiver is told of resolved alerts.
     pub send_resolved: bool,
-    /// `wait`: the reply waits for the member's turn.
+    /// `wait`: whether the reply waits for the member's turn.
     pub waits: bool,
-    /// `integration`: that of the receiver.
+    /// `integration`: the integration of the receiver.
     pub integration: Text,
     /// `index`: the number of the integration in its receiver, from 0.
     pub index: u32,
 }
 
-/// The word `repeat` of a query.
+/// Reads the word `repeat` of a query.
 fn repeat_in(alloc: Global, query: &str) -> Result<Repeat, Cause>
     ensures read { IfOk result (λ repeat. repeat_in query.now ≡ Some repeat.seconds) }
     ensures refused { IfErr result (IsWordFault (repeat_in query.now ≡ None) words.Repeat) }
@@ -41,7 +41,7 @@ fn repeat_in(alloc: Global, query: &str) -> Result<Repeat, Cause>
     }
 }
 
-/// A word of a query that is a truth value.
+/// Reads a word of a query that is a truth value.
 fn truth_in(alloc: Global, query: &str, name: &str, word: Word) -> Result<bool, Cause>
     ensures read { IfOk result (λ truth. truth_or (word_in name.now query.now) ≡ Some truth) }
     ensures refused { IfErr result (IsWordFault (truth_or (word_in name.now query.now) ≡ None) word) }
@@ -55,7 +55,7 @@ fn truth_in(alloc: Global, query: &str, name: &str, word: Word) -> Result<bool, 
     }
 }
 
-/// The word `integration` of a query.
+/// Reads the word `integration` of a query.
 fn integration_in(alloc: Global, query: &str) -> Result<Text, Cause>
     ensures read { IfOk result (λ text. text ≡ integration_in query.now) }
     ensures refused { IfErr result (λ cause. cause ≡ causes.Memory) }
@@ -69,7 +69,7 @@ fn integration_in(alloc: Global, query: &str) -> Result<Text, Cause>
     }
 }
 
-/// The word `index` of a query.
+/// Reads the word `index` of a query.
 fn index_in(alloc: Global, query: &str) -> Result<u32, Cause>
     ensures read { IfOk result (λ index. index_in query.now ≡ Some index) }
     ensures refused { IfErr result (IsWordFault (index_in query.now ≡ None) words.Index) }
@@ -83,8 +83,8 @@ fn index_in(alloc: Global, query: &str) -> Result<u32, Cause>
     }
 }
 
-/// The terms that a query asks for, which is not decoded. Words that are left out have their defaults, and other words are
-/// passed over.
+/// Reads the terms in a query, which is not decoded. Words that are left out have their defaults, and other words are passed
+/// over.
 ///
 /// # Errors
 ///

@@ -1,8 +1,8 @@
-//! When a decision is made, and how long turns are.
+//! The moment of a decision, and the length of turns.
 
 use am_version_order::Moment;
 
-/// When a decision is made, and how long each member's turn is.
+/// The moment of a decision, and the length of each member's turn.
 #[derive(Clone, Copy)]
 pub struct Timing {
     pub now: Moment,

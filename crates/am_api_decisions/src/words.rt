@@ -10,18 +10,18 @@ use am_wire::Text;
 use form_urlencoded::{decode, raw_pairs};
 use std::alloc::{AllocError, Global};
 
-/// The text that the bytes of a name or of a value stand for.
+/// Decodes the bytes of a name or of a value.
 fn text_of(alloc: Global, encoded: &[u8]) -> Result<String, AllocError>
     ensures { IfOk result (λ text. string_bytes text ≡ decoded encoded.now) }
 {
     decode(alloc, encoded)?.into_owned(alloc)
 }
 
-/// The value of the first pair of a query that has the name, decoded, where there is one.
+/// Returns the decoded value of the first pair of a query that has the name, if there is one.
 ///
 /// # Errors
 ///
-/// [`AllocError`] where memory ran out.
+/// [`AllocError`] if memory runs out.
 pub fn word_in(alloc: Global, query: &str, name: &str) -> Result<Option<String>, AllocError>
     ensures { IfOk result (λ word. option_map string_bytes word ≡ word_in name.now query.now) }
 {
@@ -33,14 +33,14 @@ pub fn word_in(alloc: Global, query: &str, name: &str) -> Result<Option<String>,
     Ok(None)
 }
 
-/// Whether all bytes are ASCII digits.
+/// Returns whether all bytes are ASCII digits.
 fn are_digits(bytes: &[u8]) -> bool
     ensures { result ≡ list_all is_ascii_digit bytes.now }
 {
     bytes.iter().all(|byte| byte.is_ascii_digit())
 }
 
-/// A number below 2^64, in ASCII digits alone.
+/// Reads a number below 2^64, in ASCII digits alone.
 #[tactic(auto, unfolding(crate::specs::Words::number_in))]
 fn number_in(text: &str) -> Option<u64>
     ensures { result ≡ number_in text.now }
@@ -54,7 +54,7 @@ fn number_in(text: &str) -> Option<u64>
     }
 }
 
-/// The number that a text is, where it lies between the least and the most.
+/// Reads a number in a text, if it lies between `least` and `most`.
 fn number_within(least: u64, most: u64, text: &str) -> Option<u64>
     ensures value { result ≡ within least most (number_in text.now) }
     ensures range { IfSome result (λ n. (least ≤ n) × (n ≤ most)) }
@@ -66,7 +66,8 @@ fn number_within(least: u64, most: u64, text: &str) -> Option<u64>
     Some(number)
 }
 
-/// The number that a word is, or `default` where it is left out; it lies between the least and the most, or there is none.
+/// Reads the number in a word, or returns `default` if the word is left out. The number lies between `least` and `most`, or there
+/// is none.
 pub fn number_or(default: u64, least: u64, most: u64, word: Option<String>) -> Option<u64>
     requires { (least ≤ default) × (default ≤ most) }
     ensures value { result ≡ number_or default least most (option_map string_bytes word) }
@@ -78,7 +79,7 @@ pub fn number_or(default: u64, least: u64, most: u64, word: Option<String>) -> O
     }
 }
 
-/// The truth value that a text is.
+/// Reads the truth value in a text.
 fn truth_of(text: &str) -> Option<bool>
     ensures { result ≡ truth_of text.now }
 {
@@ -91,7 +92,7 @@ fn truth_of(text: &str) -> Option<bool>
     }
 }
 
-/// The truth value that a word is; true where it is left out.
+/// Reads the truth value in a word, or returns `true` if the word is left out.
 pub fn truth_or(word: Option<String>) -> Option<bool>
     ensures { result ≡ truth_or (option_map string_bytes word) }
 {
@@ -101,11 +102,11 @@ pub fn truth_or(word: Option<String>) -> Option<bool>
     }
 }
 
-/// The text that a word is, or `default` where it is left out.
+/// Returns the text of a word, or `default` if it is left out.
 ///
 /// # Errors
 ///
-/// [`AllocError`] where memory ran out.
+/// [`AllocError`] if memory runs out.
 pub fn text_or(alloc: Global, default: &str, word: Option<String>) -> Result<Text, AllocError>
     ensures { IfOk result (λ text. text ≡ text_or default.now (option_map string_bytes word)) }
 {

@@ -1,4 +1,4 @@
--- What a request is answered, by one step or none.
+-- The answer to a request, by one step or none.
 use Rattle.std.specs.Prelude.{◌≡◌, ℕ, List, Result, IfOk, IfErr, OnErr}
 use Rattle.am_http.specs.Lines.{line_seen}
 use Rattle.am_http.specs.declared.refusal.Refusal.{Refusal}
@@ -23,19 +23,19 @@ pub record Answered : Type 0 where
   pub reply : ReplyBytes
   pub sent : Sent
 
--- what the code returns
+-- the answer that the code returns
 abbrev pub answer_in : Whole → Answered
 answer_in whole = record {
   reply = whole.reply;
   sent = record { frames = whole.frames.items; memory = whole.unsent.memory; limit = whole.unsent.limit };
 }
 
--- what is told of a step that was refused: a request names no peer and brings no rows, so it is the moment or else memory
+-- the bytes that tell of a refused step: a request names no peer and brings no rows, so the fault is the moment or else memory
 abbrev pub IsErrorBytes : StepError → List ℕ → Type 0
 IsErrorBytes (MomentBack last) bytes = bytes ≡ line_bytes clock_line
 IsErrorBytes _ bytes = bytes ≡ line_bytes memory_line
 
--- what is answered where no step is made, and what that leaves of the instance
+-- the answer if no step is made, and what that leaves of the instance
 pub record IsRefusalAnswer (refusal : Refusal) (old : InstanceState) (answered : Answered) (new : InstanceState) : Type 0 where
   -- the refusal is told
   pub says : Says (λ bytes. bytes ≡ line_bytes (line_seen refusal)) answered.reply
@@ -44,7 +44,7 @@ pub record IsRefusalAnswer (refusal : Refusal) (old : InstanceState) (answered :
   -- the instance is as it was
   pub same : new ≡ old
 
--- what is answered by the step of an event, and what that leaves of the instance
+-- the answer by the step of an event, and what that leaves of the instance
 pub record IsStepAnswer (event : Event) (old : InstanceState) (now : ℕ) (answered : Answered) (new : InstanceState) : Type 0 where
   -- one step is made
   pub step : Result Outcome StepError
@@ -53,14 +53,14 @@ pub record IsStepAnswer (event : Event) (old : InstanceState) (now : ℕ) (answe
   pub replied : IfOk step (λ outcome. Says (IsReplyBytes outcome.reply) answered.reply)
   -- its frames are handed on
   pub sent : IfOk step (λ outcome. answered.sent ≡ sent_by outcome)
-  -- where it is refused, the cause is told
+  -- if the step is refused, the cause is told
   pub refused : IfErr step (λ error. Says (IsErrorBytes error) answered.reply)
-  -- and nothing is sent
+  -- nothing is sent then
   pub unsent : OnErr step (answered.sent ≡ nothing_sent)
 
--- what a request is answered, and what that leaves of the instance
+-- the answer to a request, and what that leaves of the instance
 pub record IsRequestAnswer (old : InstanceState) (request : Request) (bits now : ℕ) (answered : Answered) (new : InstanceState) : Type 0 where
-  -- it means an event, or this refusal
+  -- the request means an event, or this refusal
   pub meant : Result Event Refusal
   pub means : IsEventIn old.config.dialect request bits meant
   -- a refusal is told, and nothing else is done
@@ -68,12 +68,12 @@ pub record IsRequestAnswer (old : InstanceState) (request : Request) (bits now :
   -- an event is one step, which is answered
   pub stepped : IfOk meant (λ event. IsStepAnswer event old now answered new)
 
--- ---- an answer whose reply is being made
+-- ---- an answer whose reply is in the making
 
--- the answer that it becomes with this reply
+-- the answer that this one becomes with a reply
 abbrev pub with_reply : PendingAnswer → ReplyBytes → Answered
 with_reply begun reply = record { reply = reply; sent = begun.outbox }
 
--- whatever its reply is finished with, it becomes such an answer
+-- whatever reply this answer is finished with, it becomes such an answer
 abbrev pub WhenMade : (Answered → Type 0) → PendingAnswer → Type 0
 WhenMade IsSuch begun = Makes (λ reply. IsSuch (with_reply begun reply)) begun.making

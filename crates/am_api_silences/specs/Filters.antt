@@ -1,4 +1,4 @@
--- The filters of a query, each read.
+-- The filters of a query.
 use Rattle.std.specs.Prelude.{ℕ, ◌⊎◌, List, [], ◌∷◌, ⊤}
 use Rattle.am_silence.specs.declared.matcher.Matcher.{Matcher}
 use Rattle.am_matcher.specs.declared.dialect.Dialect.{Dialect}
@@ -23,7 +23,7 @@ AreFilters dialect (text ∷ texts) (m ∷ ms) = IsGoodFilter dialect text m × 
 abbrev pub IsBadFilter : Dialect → List ℕ → Type 0
 IsBadFilter dialect text = ((m : Matcher) → ¬ IsFilter text m) ⊎ ((m : Matcher) × IsFilter text m × IsRefusedMatcher dialect m)
 
--- why filters are refused: one of them is bad, which stands so, or memory ran out
+-- filters are refused for this cause: one of them is bad, which holds then, or memory ran out
 abbrev pub IsFilterFault : Type 0 → Cause → Type 0
 IsFilterFault IsBad BadFilter = IsBad
 IsFilterFault IsBad Memory = ⊤

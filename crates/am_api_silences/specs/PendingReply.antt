@@ -1,4 +1,4 @@
--- A reply that is being made: a list is written a stretch at a time.
+-- A reply in the making: a list is written a stretch at a time.
 use Rattle.std.specs.Prelude.{◌≡◌, ◌-◌, ◌==◌, ℕ, Bool, true, List, length}
 use Rattle.am_silence.specs.Mesh.{Mesh}
 use Rattle.am_silence.specs.declared.state.State.{State}
@@ -8,12 +8,12 @@ use Rattle.am_api_silences.specs.declared.pending_reply.PendingReply.TheVariants
 use Rattle.am_api_silences.specs.declared.replies.ReplyBytes.{ReplyBytes}
 use Rattle.am_api_silences.specs.declared.replies.ReplyBytes.TheVariants.{Own, Fixed}
 
--- What a making is finished with: the reply that is whole; or the bytes of its list, where there is memory for them.
+-- A making is finished with this reply: the one that is whole; or the bytes of its list, if there is memory for them.
 abbrev pub IsMadeOf : PendingReply → ReplyBytes → Type 0
 IsMadeOf (makings.Whole whole) reply = reply ≡ whole
 IsMadeOf (makings.List list) reply = Says (IsListReply list.rows) reply
 
--- whatever it is finished with, the reply is such
+-- whatever reply the making is finished with is such a reply
 abbrev pub Makes : (ReplyBytes → Type 0) → PendingReply → Type 0
 Makes IsSuch making = (reply : ReplyBytes) → IsMadeOf making reply → IsSuch reply
 
@@ -27,12 +27,12 @@ abbrev pub IsNoMemory : ReplyBytes → Type 0
 IsNoMemory (Own bytes) = ⊥
 IsNoMemory (Fixed bytes) = bytes.now ≡ memory_bytes
 
--- The list of these silences, of which none is written; or there was no memory to begin it.
+-- The making is the list of these silences, of which none is written; or there was no memory to begin it.
 abbrev pub IsBegun : List (Mesh × State) → PendingReply → Type 0
 IsBegun rows (makings.List list) = list ≡ record { rows = rows; left = length rows }
 IsBegun rows (makings.Whole whole) = IsNoMemory whole
 
--- So many silences more are written, or all that were left; or there was no memory for them. What is whole stays.
+-- This many more silences are written, or all that were left; or there was no memory for them. A whole reply stays as it is.
 abbrev pub GoesOn : ℕ → PendingReply → PendingReply → Type 0
 GoesOn count (makings.Whole whole) new = new ≡ makings.Whole whole
 GoesOn count (makings.List list) (makings.List new) = new ≡ record list { left = list.left - count }

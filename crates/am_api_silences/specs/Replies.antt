@@ -21,7 +21,7 @@ use Rattle.am_api_silences.specs.declared.replies.ReplyBytes.TheVariants.{Own, F
 abbrev pub good_bytes : List ℕ → List ℕ
 good_bytes body = reply_bytes 200 None body
 
--- the reply of a line of the table of statuses: its text as a string of JSON, where it isn't told to HEAD
+-- the reply of a line of the table of statuses: its text as a string of JSON, unless it is told to HEAD
 abbrev pub line_bytes : RefusalLine → List ℕ
 line_bytes line =
     let body = compact_text (string line.text) in
@@ -52,7 +52,7 @@ pub record HasStatus (status : ℕ) (bytes : List ℕ) : Type 0 where
   pub body : List ℕ
   pub bytes_are : bytes ≡ head_bytes status allow count ++ body
 
--- so they do with some status
+-- the bytes begin with the head of a reply with some status
 abbrev pub HasSomeStatus : List ℕ → Type 0
 HasSomeStatus bytes = (status : ℕ) × HasStatus status bytes
 
@@ -63,7 +63,7 @@ abbrev pub bytes_of : ReplyBytes → List ℕ
 bytes_of (Own bytes) = bytes.items
 bytes_of (Fixed bytes) = bytes.now
 
--- the reply where there is no memory for another
+-- the reply for when there is no memory for another
 abbrev pub memory_bytes : List ℕ
 memory_bytes = line_bytes memory_line
 

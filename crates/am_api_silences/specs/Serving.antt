@@ -15,9 +15,9 @@ use Rattle.am_api_silences.specs.declared.serving.ServeFault.{ServeFault}
 use Rattle.am_api_silences.specs.declared.serving.ServeFault.TheVariants as faults
 use Rattle.am_api_silences.specs.declared.serving.Served.{Served}
 
--- ---- what is read
+-- ---- reading
 
--- Nothing came; or the last that came is one piece, of at most 4,096 bytes, behind others that decide nothing.
+-- Nothing came; or the last of what came is one piece, of at most 4,096 bytes, behind others that decide nothing.
 abbrev pub IsJustRead : List ℕ → Type 0
 IsJustRead came =
     (came ≡ []) ⊎ ((before : List ℕ) × (piece : List ℕ) × (came ≡ before ++ piece) × (length piece ≤ 4096) × IsUnfinished before)
@@ -31,42 +31,42 @@ LacksMemory _ = ⊥
 pub record HasReceived (input left : Option (List ℕ)) (read : Read) : Type 0 where
   pub came : List ℕ
   pub consumed : Consumes input left came
-  -- nothing is read of what is decided
+  -- nothing more is read once the bytes are decided
   pub just : IsJustRead came
   pub ended : Bool
   pub at_end : IsTrue ended → IsAtEnd left
   pub answer : IsReadOf came ended read ⊎ LacksMemory read
 
--- the reader failed when it had given so many bytes, which decide nothing
+-- the reader failed after it had given this many bytes, which decide nothing
 pub record StopsReading (input left : Option (List ℕ)) (at : ℕ) : Type 0 where
   pub came : List ℕ
   pub consumed : Consumes input left came
   pub count : at ≡ length came
   pub undecided : IsUnfinished came
 
--- The first request that the reader gave, or why it is refused; nothing is decided where its input ended before its first
--- byte. Or a read failed.
+-- The reader gave this first request, or the reason why it is refused; nothing is decided if its input ended before its first byte.
+-- Or a read failed.
 abbrev pub IsReadBy : Option (List ℕ) → Option (List ℕ) → Result Read ServeFault → Type 0
 IsReadBy input left (Ok More) = Consumes input left [] × IsAtEnd left
 IsReadBy input left (Ok read) = HasReceived input left read
 IsReadBy input left (Err (faults.Read at)) = StopsReading input left at
 IsReadBy input left (Err (faults.Write written)) = ⊥
 
--- ---- what is answered
+-- ---- answering
 
--- what was read is answered: a request by what it means, another by why it is refused
+-- what was read is answered: a request by what it means, anything else by the reason why it is refused
 abbrev pub IsAnswerTo : Read → InstanceState → ℕ → ℕ → Answered → InstanceState → Type 0
 IsAnswerTo (Whole request) old bits now answered new = IsRequestAnswer old request bits now answered new
 IsAnswerTo (Refused refusal) old bits now answered new = IsRefusalAnswer refusal old answered new
 IsAnswerTo More old bits now answered new = ⊥
 
--- all the bytes went out, or exactly so many of the first ones, where a write failed
+-- all the bytes went out, or exactly this many of the first ones if a write failed
 abbrev pub GoesOut : Option (List ℕ) → Option (List ℕ) → List ℕ → Option ServeFault → Type 0
 GoesOut before after bytes None = Appends before after bytes
 GoesOut before after bytes (Some (faults.Write written)) = WritesPart before after bytes written
 GoesOut before after bytes (Some (faults.Read at)) = ⊥
 
--- what is sent with what was served
+-- the frames that are sent with an outcome
 abbrev pub sent_with : Served → Sent
 sent_with served = record { frames = served.frames.items; memory = served.unsent.memory; limit = served.unsent.limit }
 
@@ -89,14 +89,14 @@ pub record IsSilent (fault : Option ServeFault) (old new : InstanceState) (befor
   pub sent : sent_with served ≡ nothing_sent
   pub told : served.fault ≡ fault
 
--- What is served of what was read: nothing where the input ended before its first byte, or a read failed; else the answer.
+-- The outcome of what was read: nothing if the input ended before its first byte, or a read failed; else the answer.
 abbrev pub IsServed : Result Read ServeFault → ℕ → ℕ → InstanceState → InstanceState → Option (List ℕ) → Option (List ℕ) → Served → Type 0
 IsServed (Err fault) bits now old new before after served = IsSilent (Some fault) old new before after served
 IsServed (Ok More) bits now old new before after served = IsSilent None old new before after served
 IsServed (Ok read) bits now old new before after served =
     (answered : Answered) × IsAnswerTo read old bits now answered new × IsHandedOn before after answered served
 
--- what is served of an input: what its reader gave is answered
+-- the outcome of an input: what its reader gave is answered
 abbrev pub Serves : ℕ → ℕ → Option (List ℕ) → Option (List ℕ) → InstanceState → InstanceState → Option (List ℕ) → Option (List ℕ) → Served → Type 0
 Serves bits now input left old new before after served =
     (read : Result Read ServeFault) × IsReadBy input left read × IsServed read bits now old new before after served

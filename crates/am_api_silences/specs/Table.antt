@@ -1,10 +1,10 @@
--- The rest of the table of statuses: the lines of what a step refuses.
+-- The rest of the table of statuses: the lines of refused steps.
 use Rattle.std.specs.Prelude.{codes}
 use Rattle.am_silence.specs.declared.error.SilenceError.{SilenceError}
 use Rattle.am_silence.specs.declared.error.SilenceError.TheVariants as errors
 use Rattle.am_http.specs.Lines.{RefusalLine, line}
 
--- a request that is refused (status codes of RFC 9110, section 15)
+-- the line of a refused request (status codes of RFC 9110, section 15)
 abbrev pub refused_line : SilenceError → RefusalLine
 refused_line errors.NotFound = line 404 (codes "silence not found")
 refused_line errors.NoMatcher = line 400 (codes "no matcher")
@@ -19,10 +19,10 @@ refused_line errors.IdInUse = line 500 (codes "id in use")
 refused_line errors.TooLarge = line 500 (codes "silence too large")
 refused_line errors.Memory = line 500 (codes "out of memory")
 
--- the moment is before that of the last event
+-- the line of a moment that is before that of the last event
 abbrev pub clock_line : RefusalLine
 clock_line = line 500 (codes "clock ran back")
 
--- a growth was refused
+-- the line of a growth that was refused
 abbrev pub memory_line : RefusalLine
 memory_line = line 500 (codes "out of memory")

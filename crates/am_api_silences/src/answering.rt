@@ -1,4 +1,4 @@
-//! What requests are answered.
+//! The answers to requests.
 
 ghost use Rattle.std.specs.Prelude.{◌≡◌};
 ghost use Rattle.am_instance.specs.Sendings.{nothing_sent, sent_by};
@@ -30,14 +30,14 @@ pub struct PendingAnswer {
 #[derive(Drop)]
 pub struct Answered {
     pub reply: ReplyBytes,
-    /// The frames to be sent, in order, each with the place of the peer that it goes to.
+    /// The frames to be sent, in order, each with the place of the peer to which it goes.
     pub frames: Vec<(Place, Frame)>,
-    /// How many frames were left out.
+    /// The number of frames that were left out.
     pub unsent: Unsent,
 }
 
 impl PendingAnswer {
-    /// The whole answer: what is left of a list is written.
+    /// Returns the whole answer: what is left of a list is written.
     pub(crate) fn finish(self, alloc: Global) -> Answered
         ensures reply { IsMadeOf self.making (answer_in result).reply }
         ensures sent { (answer_in result).sent ≡ self.outbox }
@@ -51,7 +51,7 @@ impl PendingAnswer {
     }
 }
 
-/// An answer whose reply is whole already, and with which nothing is sent.
+/// Returns an answer whose reply is whole already, and with which nothing is sent.
 fn quiet(alloc: Global, reply: ReplyBytes) -> PendingAnswer
     ensures making { result.making ≡ makings.Whole reply }
     ensures sent { result.outbox ≡ nothing_sent }
@@ -62,14 +62,14 @@ fn quiet(alloc: Global, reply: ReplyBytes) -> PendingAnswer
     }
 }
 
-/// The answer to a request that is refused before its step.
+/// Returns the answer to a request that is refused before its step.
 pub fn refuse(alloc: Global, refusal: &Refusal) -> PendingAnswer
     ensures { (stand : InstanceState) → WhenMade (λ answered. IsRefusalAnswer refusal.now stand answered stand) result }
 {
     quiet(alloc, tell(alloc, Err(refusal)))
 }
 
-/// The answer to a request whose step was made.
+/// Returns the answer to a request whose step was made.
 fn done(alloc: Global, outcome: Outcome) -> PendingAnswer
     ensures reply { Makes (Says (IsReplyBytes outcome.reply)) result.making }
     ensures sent { result.outbox ≡ sent_by outcome }
@@ -81,7 +81,7 @@ fn done(alloc: Global, outcome: Outcome) -> PendingAnswer
     }
 }
 
-/// The answer to a request whose step was refused.
+/// Returns the answer to a request whose step was refused.
 fn stopped(alloc: Global, error: StepError) -> PendingAnswer
     ensures reply { Makes (Says (IsErrorBytes error)) result.making }
     ensures sent { result.outbox ≡ nothing_sent }
@@ -105,7 +105,7 @@ fn step(alloc: Global, instance: &mut Instance, event: Event, now: Moment) -> Pe
     }
 }
 
-/// The event that a request means at an instance, whose patterns are those of its dialect.
+/// Returns the event that a request means at an instance, whose patterns are those of its dialect.
 fn event_at(
     alloc: Global,
     instance: &Instance,
@@ -119,10 +119,10 @@ fn event_at(
 }
 
 /// Makes the step of a request at `now`, and begins its reply: a list is written afterwards, a stretch at a time. `bits` are
-/// random: a silence that the request makes gets its identifier by them.
+/// random: a silence that the request makes gets its identifier from them.
 ///
-/// Where no step is made the instance is as it was, and nothing is sent. Where memory runs out, that is what is answered; the
-/// step may stand then, and its frames are answered.
+/// If no step is made, the instance is as it was, and nothing is sent. If memory runs out, the answer says so; the step may stand
+/// then, and its frames are in the answer.
 pub fn begin_answer(
     alloc: Global,
     instance: &mut Instance,
@@ -139,10 +139,10 @@ pub fn begin_answer(
     }
 }
 
-/// Answers a request by one step at `now`. `bits` are random: a silence that it makes gets its identifier by them.
+/// Answers a request by one step at `now`. `bits` are random: a silence that the request makes gets its identifier from them.
 ///
-/// Where no step is made the instance is as it was, and nothing is sent. Where memory runs out, that is what is answered; the
-/// step may stand then, and its frames are answered.
+/// If no step is made, the instance is as it was, and nothing is sent. If memory runs out, the answer says so; the step may stand
+/// then, and its frames are in the answer.
 pub fn answer(
     alloc: Global,
     instance: &mut Instance,

@@ -1,4 +1,4 @@
-//! What requests mean.
+//! The events that requests mean.
 
 ghost use Rattle.std.specs.Prelude.{◌≡◌, IfOk, IfErr};
 ghost use Rattle.am_http.specs.declared.cause.Cause.TheVariants as causes;
@@ -14,7 +14,7 @@ use am_silence_json::{BodyError, read_post};
 use am_wire::Text;
 use std::alloc::Global;
 
-/// An identifier of its own.
+/// Copies an identifier.
 fn identifier(alloc: Global, id: &str) -> Result<Text, Cause>
     ensures copied { IfOk result (λ copy. copy ≡ id.now) }
     ensures refused { IfErr result (λ cause. cause ≡ causes.Memory) }
@@ -22,7 +22,7 @@ fn identifier(alloc: Global, id: &str) -> Result<Text, Cause>
     Text::copied(alloc, id).ok().ok_or(Cause::Memory)
 }
 
-/// The post of a body.
+/// Reads the post of a body.
 fn post(alloc: Global, body: &[u8], bits: u128) -> Result<SilenceRequest, Cause>
     ensures { (dialect : Dialect) → IsAsk dialect calls.Post body.now bits result }
 {
@@ -34,7 +34,7 @@ fn post(alloc: Global, body: &[u8], bits: u128) -> Result<SilenceRequest, Cause>
     }
 }
 
-/// What a call with this body asks of an instance.
+/// Returns what a call with this body asks of an instance.
 fn ask(
     alloc: Global,
     dialect: Dialect,
@@ -59,7 +59,7 @@ fn ask(
     }
 }
 
-/// What a request asks of an instance.
+/// Returns what a request asks of an instance.
 fn asked(
     alloc: Global,
     dialect: Dialect,
@@ -75,11 +75,11 @@ fn asked(
     Ok(asked)
 }
 
-/// What a request means. `bits` are random: a silence that it makes gets its identifier by them.
+/// Returns the event that a request means. `bits` are random: a silence that the request makes gets its identifier from them.
 ///
 /// # Errors
 ///
-/// The line of the first fault that stands: the path, the method, a filter or the body, or that memory ran out.
+/// The line of the first fault that applies: in the path, the method, a filter or the body, or that memory ran out.
 pub fn to_event(alloc: Global, request: &Request, bits: u128) -> Result<Event, Refusal>
     // PROMISE: A request means the event of its path, filters and body, or its first fault.
     ensures { IsEventOf request.now bits result }
@@ -93,11 +93,12 @@ pub fn to_event(alloc: Global, request: &Request, bits: u128) -> Result<Event, R
     )
 }
 
-/// As [`to_event`], with patterns of the dialect: of a filter whose pattern is kept nothing is compiled.
+/// Returns the event that a request means, as [`to_event`] does, with patterns of the dialect: a filter whose pattern is kept isn't
+/// compiled.
 ///
 /// # Errors
 ///
-/// As those of [`to_event`].
+/// The same as those of [`to_event`].
 pub fn event_by(
     alloc: Global,
     dialect: Dialect,

@@ -1,4 +1,4 @@
-//! The filters of a query, each read.
+//! The filters of a query.
 
 ghost use Rattle.std.specs.Prelude.{map, Any, IfOk, IfErr, string_bytes};
 ghost use Rattle.am_http.specs.Queries.{filter_texts_of};
@@ -8,7 +8,7 @@ use am_http::{Cause, filter_texts};
 use am_matcher::{Dialect, Filter, FilterError, PatternCache};
 use std::alloc::Global;
 
-/// The filter that a text is.
+/// Reads a text as a filter.
 fn filter_of(dialect: Dialect, patterns: &PatternCache, text: &str) -> Result<Filter, Cause>
     ensures read { IfOk result (IsGoodFilter dialect text.now) }
     ensures refused { IfErr result (IsFilterFault (IsBadFilter dialect text.now)) }
@@ -21,7 +21,7 @@ fn filter_of(dialect: Dialect, patterns: &PatternCache, text: &str) -> Result<Fi
     }
 }
 
-/// The filters that the texts are.
+/// Reads texts as filters.
 fn filters_of(
     alloc: Global,
     dialect: Dialect,
@@ -45,11 +45,11 @@ fn filters_of(
     Ok(filters)
 }
 
-/// The filters of a query, which is not decoded, with patterns of the dialect. One that is kept is shared.
+/// Returns the filters of a query, which is not decoded, with patterns of the dialect. A pattern that is kept is shared.
 ///
 /// # Errors
 ///
-/// [`Cause::BadFilter`] where one is no filter or its pattern is broken, and [`Cause::Memory`].
+/// [`Cause::BadFilter`] if a text is no filter or its pattern is broken, and [`Cause::Memory`].
 pub fn filters_in(
     alloc: Global,
     dialect: Dialect,

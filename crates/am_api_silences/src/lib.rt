@@ -1,5 +1,5 @@
-//! The silences of API v2, from the bytes of a request to the bytes of its reply: what a request means, one step of an
-//! instance, and what is answered.
+//! The silences of API v2, from the bytes of a request to the bytes of its reply: the event that a request means, one step of an
+//! instance, and the answer.
 #![tactic(auto)]
 
 mod answering;

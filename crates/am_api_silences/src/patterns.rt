@@ -7,7 +7,7 @@ use am_silence_json::{BodyError, read_post};
 use am_wire::Text;
 use std::alloc::{AllocError, Global};
 
-/// The patterns of matchers that are regular expressions, in order.
+/// Returns the patterns of matchers that are regular expressions, in order.
 fn patterns_of_matchers(alloc: Global, matchers: MatcherIter<'_>) -> Result<Vec<Text>, AllocError> {
     let mut patterns = Vec::new(alloc);
     for matcher in matchers {
@@ -18,15 +18,15 @@ fn patterns_of_matchers(alloc: Global, matchers: MatcherIter<'_>) -> Result<Vec<
     Ok(patterns)
 }
 
-/// The key of a matcher that tells whether it is a regular expression.
+/// The key of a matcher that says whether it is a regular expression.
 const KEY: &[u8] = b"isRegex";
 
-/// Whether a byte stands between a key and its value: its quotation mark, a colon, or a blank of JSON.
+/// Returns whether a byte may stand between a key and its value: a quotation mark, a colon, or a blank of JSON.
 fn is_between(byte: &u8) -> bool {
     matches!(*byte, b'"' | b':' | b' ' | b'\t' | b'\n' | b'\r')
 }
 
-/// Whether the value `true` stands behind a key.
+/// Returns whether the value `true` stands behind a key.
 fn is_true_behind(rest: &[u8]) -> bool {
     let count = rest.iter().take_while(|byte| is_between(byte)).count();
     match rest.get(count..) {
@@ -35,7 +35,7 @@ fn is_true_behind(rest: &[u8]) -> bool {
     }
 }
 
-/// Whether a body may have a regular expression: one has to be told by its key, unless that is written with escapes.
+/// Returns whether a body may have a regular expression: a matcher says so by its key, unless that is written with escapes.
 fn may_have_pattern(body: &[u8]) -> bool {
     if body.contains(&b'\\') {
         return true;
@@ -48,7 +48,7 @@ fn may_have_pattern(body: &[u8]) -> bool {
     false
 }
 
-/// The patterns of what is posted, where the body is sound.
+/// Returns the patterns of a body that is posted, if it is sound.
 fn patterns_posted(alloc: Global, body: &[u8]) -> Result<Vec<Text>, AllocError> {
     if !may_have_pattern(body) {
         return Ok(Vec::new(alloc));
@@ -60,7 +60,7 @@ fn patterns_posted(alloc: Global, body: &[u8]) -> Result<Vec<Text>, AllocError> 
     }
 }
 
-/// The patterns of the filters of a query, up to the first text that is no filter.
+/// Returns the patterns of the filters of a query, up to the first text that is no filter.
 fn patterns_in(alloc: Global, query: &str) -> Result<Vec<Text>, AllocError> {
     let texts = filter_texts(alloc, query)?;
     let mut patterns = Vec::new(alloc);
@@ -75,12 +75,12 @@ fn patterns_in(alloc: Global, query: &str) -> Result<Vec<Text>, AllocError> {
     Ok(patterns)
 }
 
-/// The regular expressions that are compiled to answer a request, in order: those of the matchers that are posted, or of a
-/// list's filters up to the first text that is no filter. None is compiled of another request, nor of a body that is at fault.
+/// Returns the regular expressions that are compiled to answer a request, in order: those of the matchers that are posted, or of a
+/// list's filters up to the first text that is no filter. None is compiled for another request, nor for a body that is at fault.
 ///
 /// # Errors
 ///
-/// [`AllocError`] where memory ran out.
+/// [`AllocError`] if memory runs out.
 pub fn patterns_of(alloc: Global, request: &Request) -> Result<Vec<Text>, AllocError> {
     match call_of(&request.method, &request.target) {
         Ok(Call::Post) => patterns_posted(alloc, &request.body),

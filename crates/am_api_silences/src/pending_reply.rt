@@ -1,4 +1,4 @@
-//! Replies that are being made: a list is written a stretch at a time.
+//! Replies in the making: a list is written a stretch at a time.
 
 ghost use Rattle.std.specs.Prelude.{◌≡◌, IfOk};
 ghost use Rattle.am_api_silences.specs.PendingReply.{GoesOn, IsBegun, IsMadeOf, IsNoMemory, Makes, is_whole};
@@ -14,18 +14,18 @@ use std::alloc::{AllocError, Global};
 #[derive(Drop)]
 pub enum PendingReply {
     Whole(ReplyBytes),
-    /// A list, of whose silences some are left to be written.
+    /// A list, of whose silences some may be left to be written.
     List(Listing),
 }
 
-/// The reply where there is no memory for another.
+/// Returns the reply for when there is no memory for another.
 fn short() -> ReplyBytes
     ensures { IsNoMemory result }
 {
     ReplyBytes::Fixed(no_memory())
 }
 
-/// The reply that lists these silences, before the first of them is written.
+/// Returns the reply that lists these silences, before the first of them is written.
 fn list(alloc: Global, rows: Vec<(MeshSilence, State)>) -> PendingReply
     ensures { IsBegun rows.items result }
 {
@@ -35,7 +35,7 @@ fn list(alloc: Global, rows: Vec<(MeshSilence, State)>) -> PendingReply
     }
 }
 
-/// The whole reply of a list: what is left of it is written.
+/// Returns the whole reply of a list: what is left of it is written.
 fn finished(alloc: Global, list: Listing) -> Result<Vec<u8>, AllocError>
     ensures { IfOk result (λ bytes. IsListReply list.rows bytes.items) }
 {
@@ -55,8 +55,7 @@ pub fn make(alloc: Global, reply: Reply) -> PendingReply
 }
 
 impl PendingReply {
-    /// Writes so many silences more of a list, or all that are left. Where there is no memory for them, that is what is
-    /// replied.
+    /// Writes `count` more silences of a list, or all that are left. If there is no memory for them, the reply says so.
     pub fn go_on(self, count: usize) -> PendingReply
         ensures goes_on { GoesOn count self result }
         ensures same { Makes (IsMadeOf self) result }
@@ -70,7 +69,7 @@ impl PendingReply {
         }
     }
 
-    /// Whether no silence is left to be written.
+    /// Returns whether no silence is left to be written.
     pub fn is_whole(&self) -> bool
         ensures { result ≡ is_whole self.now }
     {
@@ -80,7 +79,7 @@ impl PendingReply {
         }
     }
 
-    /// The whole reply: what is left of a list is written. Where there is no memory for it, that is what is replied.
+    /// Returns the whole reply: what is left of a list is written. If there is no memory for it, the reply says so.
     pub fn finish(self, alloc: Global) -> ReplyBytes
         // PROMISE: A list that is written in stretches ends as the reply to its step.
         ensures { IsMadeOf self result }

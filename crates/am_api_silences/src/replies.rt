@@ -17,16 +17,16 @@ use am_silence::{MeshSilence, State};
 use am_silence_json::{write_error, write_posted, write_silence, write_silences};
 use std::alloc::{AllocError, Global};
 
-/// A whole reply, to be written.
+/// The bytes of a whole reply.
 #[derive(Drop)]
 pub enum ReplyBytes {
     Own(Vec<u8>),
-    /// That there is no memory for another; this one takes none.
+    /// The reply that there is no memory for another, which takes none itself.
     Fixed(&'static [u8]),
 }
 
 impl ReplyBytes {
-    /// The bytes.
+    /// Returns the bytes.
     pub fn as_slice(&self) -> &[u8]
         ensures { result.now ≡ bytes_of self.now }
     {
@@ -37,14 +37,14 @@ impl ReplyBytes {
     }
 }
 
-/// The reply 200 with this body.
+/// Returns the reply 200 with this body.
 pub fn good(alloc: Global, body: &[u8]) -> Result<Vec<u8>, AllocError>
     ensures { IfOk result (λ bytes. bytes.items ≡ good_bytes body.now) }
 {
     reply(alloc, 200, None, body)
 }
 
-/// The reply that lists silences.
+/// Returns the reply that lists silences.
 fn list(alloc: Global, rows: &[(MeshSilence, State)]) -> Result<Vec<u8>, AllocError>
     ensures { IfOk result (λ bytes. IsListReply rows.now bytes.items) }
 {
@@ -53,7 +53,7 @@ fn list(alloc: Global, rows: &[(MeshSilence, State)]) -> Result<Vec<u8>, AllocEr
     Ok(bytes)
 }
 
-/// The reply that shows a silence.
+/// Returns the reply that shows a silence.
 fn one(alloc: Global, version: &MeshSilence, state: State) -> Result<Vec<u8>, AllocError>
     ensures { IfOk result (λ bytes. (d : Data) × IsGettable version.now.silence state d
         × (bytes.items ≡ good_bytes (compact_text d))) }
@@ -63,7 +63,7 @@ fn one(alloc: Global, version: &MeshSilence, state: State) -> Result<Vec<u8>, Al
     Ok(bytes)
 }
 
-/// The reply that tells the identifier of what was posted.
+/// Returns the reply that tells the identifier of what was posted.
 fn posted(alloc: Global, id: &str) -> Result<Vec<u8>, AllocError>
     ensures { IfOk result (λ bytes. bytes.items ≡ good_bytes (compact_text (posted_data id.now))) }
 {
@@ -72,7 +72,7 @@ fn posted(alloc: Global, id: &str) -> Result<Vec<u8>, AllocError>
     Ok(bytes)
 }
 
-/// The reply with a line of the table of statuses.
+/// Returns the reply with a line of the table of statuses.
 fn whole(alloc: Global, line: &Refusal) -> Result<Vec<u8>, AllocError>
     ensures { IfOk result (λ bytes. bytes.items ≡ reply_bytes line.now.status (option_copied line.now.allow) (compact_text (string line.now.text.now))) }
 {
@@ -81,7 +81,7 @@ fn whole(alloc: Global, line: &Refusal) -> Result<Vec<u8>, AllocError>
     Ok(bytes)
 }
 
-/// The head of the reply with a line of the table of statuses.
+/// Returns the head of the reply with a line of the table of statuses.
 fn bare(alloc: Global, line: &Refusal) -> Result<Vec<u8>, AllocError>
     ensures { IfOk result (λ bytes. bytes.items
         ≡ head_bytes line.now.status (option_copied line.now.allow) (length (compact_text (string line.now.text.now)))) }
@@ -91,7 +91,7 @@ fn bare(alloc: Global, line: &Refusal) -> Result<Vec<u8>, AllocError>
     Ok(bytes)
 }
 
-/// What is replied with a line of the table of statuses.
+/// Returns the reply to a refused request with a line of the table of statuses.
 fn refused(alloc: Global, line: &Refusal) -> Result<Vec<u8>, AllocError>
     ensures { IfOk result (λ bytes. bytes.items ≡ line_bytes (line_seen line.now)) }
 {
@@ -103,7 +103,7 @@ fn refused(alloc: Global, line: &Refusal) -> Result<Vec<u8>, AllocError>
     Ok(bytes)
 }
 
-/// The bytes of a reply.
+/// Returns the bytes of a reply.
 fn replied(alloc: Global, reply: &Reply) -> Result<Vec<u8>, AllocError>
     ensures { IfOk result (λ bytes. IsReplyBytes reply.now bytes.items) }
 {
@@ -116,11 +116,11 @@ fn replied(alloc: Global, reply: &Reply) -> Result<Vec<u8>, AllocError>
     }
 }
 
-/// The bytes of the reply to a request, or of why it is refused. A reply to another event is told without a body.
+/// Returns the bytes of the reply to a request, or of its refusal. The reply to any other event has no body.
 ///
 /// # Errors
 ///
-/// [`AllocError`] where memory ran out.
+/// [`AllocError`] if memory runs out.
 pub fn to_bytes(alloc: Global, said: Result<&Reply, &Refusal>) -> Result<Vec<u8>, AllocError>
     ensures { IfOk result (λ bytes. IsSaid said.entry bytes.items) }
 {
@@ -130,14 +130,14 @@ pub fn to_bytes(alloc: Global, said: Result<&Reply, &Refusal>) -> Result<Vec<u8>
     }
 }
 
-/// The reply where there is no memory for another.
+/// Returns the reply for when there is no memory for another.
 pub fn no_memory() -> &'static [u8]
     ensures { result.now ≡ memory_bytes }
 {
     out_of_memory()
 }
 
-/// The reply to a request, or why it is refused; where there is no memory for it, that is said.
+/// Returns the bytes of a reply or of a refusal; if there is no memory for them, the reply says so.
 pub fn tell(alloc: Global, said: Result<&Reply, &Refusal>) -> ReplyBytes
     ensures { Says (IsSaid said.entry) result }
 {

@@ -17,31 +17,31 @@ use http::StatusCode;
 use std::alloc::Global;
 use std::io;
 
-/// The most bytes of a request: those of a head and of a body.
+/// The maximum size of a request in bytes: a head and a body.
 const MOST_BYTES: usize = 16_384 + 1_048_576;
 
-/// Why a request wasn't read, or its reply not written to its end.
+/// The reason why a request wasn't read, or its reply not written to its end.
 #[derive(Clone, Copy, Debug, PartialEq, Eq)]
 pub enum ServeFault {
-    /// A read failed, when so many bytes had come; no step was made.
+    /// A read failed, after `at` bytes had come; no step was made.
     Read { at: u64 },
-    /// A write failed or took nothing, when so many bytes had gone out; the step stands.
+    /// A write failed or took nothing, after `written` bytes had gone out; the step stands.
     Write { written: u64 },
 }
 
-/// What came of a request.
+/// The outcome of a request.
 #[derive(Drop)]
 pub struct Served {
-    /// The status of the reply, where one was made.
+    /// The status of the reply, if one was made.
     pub status: Option<u16>,
-    /// The frames to be sent, in order, each with the place of the peer that it goes to.
+    /// The frames to be sent, in order, each with the place of the peer to which it goes.
     pub frames: Vec<(Place, Frame)>,
-    /// How many frames were left out.
+    /// The number of frames that were left out.
     pub unsent: Unsent,
     pub fault: Option<ServeFault>,
 }
 
-/// Reads a request, up to the piece in which it is decided. Where the input ended before its first byte that is [`Read::More`].
+/// Reads a request, up to the piece in which it is decided. If the input ends before its first byte, the result is [`Read::More`].
 fn receive<R: io::Read>(alloc: Global, reader: &mut R) -> Result<Read, ServeFault>
     ensures { IsReadBy (R.remaining reader.old) (R.remaining reader.new) result }
 {
@@ -64,7 +64,7 @@ fn receive<R: io::Read>(alloc: Global, reader: &mut R) -> Result<Read, ServeFaul
     }
 }
 
-/// Nothing is answered.
+/// Returns the outcome without a reply.
 fn silent(alloc: Global, fault: Option<ServeFault>) -> Served
     ensures { (stand : InstanceState) (out : Option (List ℕ)) → IsSilent fault stand stand out out result }
 {
@@ -79,7 +79,7 @@ fn silent(alloc: Global, fault: Option<ServeFault>) -> Served
     }
 }
 
-/// The status of a reply, by its first line.
+/// Returns the status of a reply, by its first line.
 fn status_of(bytes: &[u8]) -> Option<u16>
     ensures { (status : ℕ) → HasStatus status bytes.now → result ≡ Some status }
 {
@@ -134,10 +134,10 @@ fn reply_to<W: io::Write>(
     }
 }
 
-/// Reads a request, answers it by one step at `now`, and writes the reply. `bits` are random: a silence that it makes gets its
-/// identifier by them.
+/// Reads a request, answers it by one step at `now`, and writes the reply. `bits` are random: a silence that the request makes gets
+/// its identifier from them.
 ///
-/// Where no step is made the instance is as it was, and nothing is sent. Input that ends before its first byte gets no reply.
+/// If no step is made, the instance is as it was, and nothing is sent. Input that ends before its first byte gets no reply.
 /// No read or write is tried again after it failed.
 pub fn serve<R: io::Read, W: io::Write>(
     alloc: Global,

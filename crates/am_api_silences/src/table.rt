@@ -1,4 +1,4 @@
-//! The lines of the table of statuses for what a step refuses.
+//! The lines of the table of statuses for refused steps.
 
 ghost use Rattle.std.specs.Prelude.{◌≡◌};
 ghost use Rattle.am_http.specs.Lines.{line_seen};
@@ -7,7 +7,7 @@ ghost use Rattle.am_api_silences.specs.Table.{clock_line, refused_line};
 use am_http::Refusal;
 use am_silence::SilenceError;
 
-/// The line of a request that an instance refuses.
+/// Returns the line of a request that an instance refuses.
 pub const fn refused(error: SilenceError) -> Refusal
     ensures { line_seen result ≡ refused_line error }
 {
@@ -27,7 +27,7 @@ pub const fn refused(error: SilenceError) -> Refusal
     }
 }
 
-/// The line of a moment before that of the last event.
+/// Returns the line of a moment before that of the last event.
 pub const fn clock_ran_back() -> Refusal
     ensures { line_seen result ≡ clock_line }
 {

@@ -1,4 +1,4 @@
--- By which calls a member is asked about itself, and which of them a request asks for.
+-- The calls by which a member is asked about itself, and the one that a request makes.
 use Rattle.std.specs.Prelude.{◌≡◌, ◌≢◌, ℕ, Bool, true, false, List, codes, Option, Some, None, Result, Ok, Err}
 use Rattle.am_http.specs.Lines.{RefusalLine, line_seen}
 use Rattle.am_http.specs.declared.refusal.Refusal.{Refusal}
@@ -6,7 +6,7 @@ use Rattle.am_api_status.specs.declared.routes.Call.{Call}
 use Rattle.am_api_status.specs.declared.routes.Resource.{Resource}
 use Rattle.am_api_status.specs.declared.routes.Resource.TheVariants.{Page, Healthy, Ready, Status, Receivers, Metrics}
 
--- the path of what is asked for: /-/healthy and /-/ready as Prometheus' servers have them, the others of API v2
+-- the path of a resource: /-/healthy and /-/ready as Prometheus' servers have them, the others as in API v2
 abbrev pub path_at : Resource → List ℕ
 path_at Page = codes "/"
 path_at Healthy = codes "/-/healthy"
@@ -15,7 +15,7 @@ path_at Status = codes "/api/v2/status"
 path_at Receivers = codes "/api/v2/receivers"
 path_at Metrics = codes "/metrics"
 
--- the path is none of these
+-- The path names none of these resources.
 pub record IsOther (path : List ℕ) : Type 0 where
   pub no_page : path ≢ path_at Page
   pub no_health : path ≢ path_at Healthy
@@ -24,12 +24,12 @@ pub record IsOther (path : List ℕ) : Type 0 where
   pub no_receivers : path ≢ path_at Receivers
   pub no_metrics : path ≢ path_at Metrics
 
--- what a path names, or that it is none of these
+-- The path names the resource, or none of these.
 abbrev pub IsNamed : List ℕ → Option Resource → Type 0
 IsNamed path (Some resource) = path ≡ path_at resource
 IsNamed path None = IsOther path
 
--- the method of a call: HEAD where the reply has its head alone, else GET (RFC 9110, sections 9.3.1 and 9.3.2)
+-- the method of a call: HEAD if the reply has its head alone, else GET (RFC 9110, sections 9.3.1 and 9.3.2)
 abbrev pub method_of : Bool → List ℕ
 method_of true = codes "HEAD"
 method_of false = codes "GET"
@@ -38,7 +38,7 @@ method_of false = codes "GET"
 abbrev pub not_allowed_line : RefusalLine
 not_allowed_line = record { status = 405; text = codes "method not allowed"; allow = Some (codes "GET, HEAD"); bare = false }
 
--- the call on what a path names that a request with this method is; or its method is neither
+-- A request with this method makes the call on the resource, or its method is neither of the two.
 abbrev pub IsCallOn : Resource → List ℕ → Result Call Refusal → Type 0
 IsCallOn resource method (Ok call) = (call.resource ≡ resource) × (method ≡ method_of call.is_bare)
 IsCallOn resource method (Err refusal) =

@@ -4,8 +4,8 @@ use Rattle.am_api_status.specs.declared.page.TheConstants.{FIELDS}
 use Rattle.am_api_status.specs.declared.replies.Format.{Format}
 use Rattle.am_api_status.specs.declared.replies.Format.TheVariants.{Plain, Html, Json, Exposition}
 
--- the fields that tell in what a body is written: plain text, the page with what a browser is to let it do, JSON, and the text
--- format 0.0.4 of Prometheus
+-- the fields that name a body's format: plain text, the page with what a browser is allowed to do, JSON, and Prometheus' text
+-- format 0.0.4
 abbrev pub fields_of : Format → List ℕ
 fields_of Plain = codes "content-type: text/plain; charset=utf-8\r\n"
 fields_of Html = FIELDS.now

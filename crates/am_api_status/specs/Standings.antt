@@ -1,4 +1,4 @@
--- What a member says of itself: `alertmanagerStatus` of API v2, as data of JSON (RFC 8259) with the keys of each object in byte order.
+-- A member's status: `alertmanagerStatus` of API v2, as data of JSON (RFC 8259) with the keys of each object in byte order.
 use Rattle.std.specs.Prelude.{ℕ, Bool, true, false, List, [], map, codes}
 use Rattle.serde_json.specs.Data.{Data, unsigned, number, string, array, object, member, no_members}
 use Rattle.serde_json.specs.View.{items_of}
@@ -10,7 +10,8 @@ use Rattle.am_api_status.specs.declared.status.Neighbor.{Neighbor}
 abbrev pub peer_data : Peer → Data
 peer_data peer = object (member (codes "address") (string peer.address) (member (codes "name") (string peer.name) no_members))
 
--- an Alertmanager beside the member: where it is asked, what it lacked when it was heard last, and how often silences weren't sent to it
+-- an Alertmanager beside the member: where it is asked, what it lacked when it was last heard, and how often silences weren't
+-- sent to it
 abbrev pub neighbor_data : Neighbor → Data
 neighbor_data n =
     object (
@@ -20,7 +21,8 @@ neighbor_data n =
     member (codes "name") (string n.name) (
     member (codes "withheld") (number (unsigned n.withheld)) no_members)))))
 
--- a member that answers requests is ready, and one that waits for its first pull, or stops, settles
+-- the word for a member's readiness: one that answers requests is ready, and one that waits for its first pull, or stops, is
+-- settling
 abbrev pub status_word : Bool → List ℕ
 status_word true = codes "ready"
 status_word false = codes "settling"
@@ -37,7 +39,7 @@ cluster_data s =
 abbrev pub config_data : List ℕ → Data
 config_data options = object (member (codes "original") (string options) no_members)
 
--- of what the program was built: versionInfo, where nothing but the version is known
+-- the versions that the program was built of: versionInfo, in which only the version is known
 abbrev pub versions_data : List ℕ → Data
 versions_data version =
     object (
@@ -48,7 +50,7 @@ versions_data version =
     member (codes "revision") (string []) (
     member (codes "version") (string version) no_members))))))
 
--- all of it, with the text of the moment of the start
+-- the whole status, with the text of the moment of the start
 unfoldable pub standing_data : MemberStatus → List ℕ → Data
 standing_data s start =
     object (

@@ -1,4 +1,4 @@
-//! What a member says of itself to tools and people: the calls, and the bytes of their replies.
+//! The calls by which tools and people ask a member about itself, and the bytes of its replies.
 #![tactic(auto)]
 
 mod page;

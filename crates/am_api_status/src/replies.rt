@@ -11,7 +11,7 @@ use am_http::Refusal;
 use am_metrics::{Family, write_families};
 use std::alloc::{AllocError, Global};
 
-/// What a body is written in.
+/// The format of a body.
 #[derive(Clone, Copy, PartialEq, Eq)]
 pub enum Format {
     /// A text for people.
@@ -24,7 +24,7 @@ pub enum Format {
 }
 
 impl Format {
-    /// The fields of the head that tell it.
+    /// Returns the fields of the head that name the format.
     const fn fields(self) -> &'static str
         ensures { result.now ≡ fields_of self }
     {
@@ -37,7 +37,7 @@ impl Format {
     }
 }
 
-/// The lines before a body of `count` bytes.
+/// Returns the lines before a body of `count` bytes.
 fn head(alloc: Global, format: Format, count: usize) -> Result<String, AllocError>
     ensures { IfOk result (λ s. string_bytes s ≡ head_bytes format count) }
 {
@@ -47,11 +47,11 @@ fn head(alloc: Global, format: Format, count: usize) -> Result<String, AllocErro
     )
 }
 
-/// The reply 200 with this body, or its head alone.
+/// Returns the reply 200 with this body, or its head alone.
 ///
 /// # Errors
 ///
-/// [`AllocError`] where memory ran out.
+/// [`AllocError`] if memory runs out.
 pub fn tell(
     alloc: Global,
     format: Format,
@@ -69,29 +69,29 @@ pub fn tell(
     Ok(bytes)
 }
 
-/// The page for people.
+/// Returns the reply with the page for people.
 ///
 /// # Errors
 ///
-/// [`AllocError`] where memory ran out.
+/// [`AllocError`] if memory runs out.
 pub fn page_reply(alloc: Global, is_bare: bool) -> Result<Vec<u8>, AllocError>
     ensures { IfOk result (λ bytes. bytes.items ≡ told_bytes formats.Html is_bare PAGE.now) }
 {
     tell(alloc, Format::Html, PAGE.as_bytes(), is_bare)
 }
 
-/// That the member runs; and, where that is what was asked, that it answers requests.
+/// Returns the reply that the member runs or, if that was asked, that it answers requests.
 ///
 /// # Errors
 ///
-/// [`AllocError`] where memory ran out.
+/// [`AllocError`] if memory runs out.
 pub fn well_reply(alloc: Global, is_bare: bool) -> Result<Vec<u8>, AllocError>
     ensures { IfOk result (λ bytes. bytes.items ≡ told_bytes formats.Plain is_bare (codes "OK")) }
 {
     tell(alloc, Format::Plain, b"OK", is_bare)
 }
 
-/// The line of the table that it answers no requests now.
+/// Returns the line of the table saying that the member answers no requests now.
 pub const fn not_ready(is_bare: bool) -> Refusal
     ensures { line_seen result ≡ record (line 503 (codes "not ready")) { bare = is_bare } }
 {
@@ -103,22 +103,22 @@ pub const fn not_ready(is_bare: bool) -> Refusal
     }
 }
 
-/// The receivers, of which a member has none.
+/// Returns the reply that lists the receivers, of which a member has none.
 ///
 /// # Errors
 ///
-/// [`AllocError`] where memory ran out.
+/// [`AllocError`] if memory runs out.
 pub fn receivers_reply(alloc: Global, is_bare: bool) -> Result<Vec<u8>, AllocError>
     ensures { IfOk result (λ bytes. bytes.items ≡ told_bytes formats.Json is_bare (codes "[]")) }
 {
     tell(alloc, Format::Json, b"[]", is_bare)
 }
 
-/// Figures.
+/// Returns the reply with a member's figures.
 ///
 /// # Errors
 ///
-/// [`AllocError`] where memory ran out.
+/// [`AllocError`] if memory runs out.
 pub fn metrics_reply(
     alloc: Global,
     families: &[Family],

@@ -8,32 +8,32 @@ ghost use Rattle.am_api_status.specs.Calls.{IsCallOn, IsNamed, not_allowed_line}
 
 use am_http::Refusal;
 
-/// What a path of these calls names.
+/// The resource that a path of these calls names.
 #[derive(Clone, Copy, Debug, PartialEq, Eq)]
 pub enum Resource {
     /// `/`: the page for people.
     Page,
-    /// `/-/healthy`: the member runs.
+    /// `/-/healthy`: whether the member runs.
     Healthy,
-    /// `/-/ready`: it answers requests.
+    /// `/-/ready`: whether the member answers requests.
     Ready,
-    /// `/api/v2/status`: who it is, and how it was started.
+    /// `/api/v2/status`: the member's name, and the options that it was started with.
     Status,
-    /// `/api/v2/receivers`: a list of none.
+    /// `/api/v2/receivers`: an empty list.
     Receivers,
-    /// `/metrics`: its figures.
+    /// `/metrics`: the member's figures.
     Metrics,
 }
 
-/// A call that asks for what a path names.
+/// A call that asks for the resource of a path.
 #[derive(Clone, Copy, Debug, PartialEq, Eq)]
 pub struct Call {
     pub resource: Resource,
-    /// The reply has its head alone, as HEAD wants it.
+    /// True if the reply has its head alone, as HEAD wants it.
     pub is_bare: bool,
 }
 
-/// The path of a target, cut at the first `?`.
+/// Returns the path of a target, cut at the first `?`.
 fn path_of(target: &str) -> &str
     ensures { result.now ≡ path_of target.now }
 {
@@ -43,7 +43,8 @@ fn path_of(target: &str) -> &str
     }
 }
 
-/// What the path of a target names, if it is one of these. All other paths are for the silences and for decisions.
+/// Returns the resource that the path of a target names, if it is one of these. All other paths are for the silences and for
+/// decisions.
 pub fn resource_of(target: &str) -> Option<Resource>
     // PROMISE: A path names one page about the member, or none.
     ensures { IsNamed (path_of target.now) result }
@@ -59,7 +60,7 @@ pub fn resource_of(target: &str) -> Option<Resource>
     }
 }
 
-/// The line of the table where another method is asked for.
+/// Returns the line of the table for any other method.
 const fn not_allowed() -> Refusal
     ensures { line_seen result ≡ not_allowed_line }
 {
@@ -71,11 +72,11 @@ const fn not_allowed() -> Refusal
     }
 }
 
-/// The call that a request with this method asks for, whose path names that.
+/// Returns the call that a request with this method makes on a resource.
 ///
 /// # Errors
 ///
-/// The line `method not allowed`, where the method is neither GET nor HEAD.
+/// The line `method not allowed` if the method is neither GET nor HEAD.
 pub fn call_of(resource: Resource, method: &str) -> Result<Call, Refusal>
     ensures { IsCallOn resource method.now result }
 {

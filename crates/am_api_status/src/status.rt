@@ -1,4 +1,4 @@
-//! What a member says of itself in JSON.
+//! A member's status in JSON.
 
 ghost use Rattle.std.specs.Prelude.{◌≡◌, ℕ, List, [], ◌∷◌, OnOk, IfOk, codes, decimal, map};
 ghost use Rattle.json.specs.Token.{key, number};
@@ -23,7 +23,7 @@ use std::alloc::{AllocError, Global};
 #[derive(Drop)]
 pub struct Peer {
     pub name: Text,
-    /// Where it listens.
+    /// The address at which the member listens.
     pub address: Text,
 }
 
@@ -31,30 +31,30 @@ pub struct Peer {
 #[derive(Drop)]
 pub struct Neighbor {
     pub name: Text,
-    /// Where it is asked.
+    /// The address at which the Alertmanager is asked.
     pub address: Text,
-    /// When all that it holds was taken last, as a moment; empty before that.
+    /// The moment when everything it holds was last taken, or an empty text before that.
     pub last_heard: Text,
-    /// How many versions it lacked then.
+    /// The number of versions that it lacked then.
     pub lacked: u64,
-    /// How often silences weren't sent to it for their hazards.
+    /// The number of times that silences weren't sent to it because of their hazards.
     pub withheld: u64,
 }
 
-/// What a member says of itself.
+/// A member's status.
 #[derive(Drop)]
 pub struct MemberStatus {
-    /// Its name among the members.
+    /// The member's name among the members.
     pub name: Text,
-    /// It answers requests.
+    /// True if the member answers requests.
     pub is_ready: bool,
-    /// All members, itself too.
+    /// All members, including this one.
     pub peers: Vec<Peer>,
-    /// The Alertmanagers beside it.
+    /// The Alertmanagers beside the member.
     pub alertmanagers: Vec<Neighbor>,
-    /// The options that it was started with.
+    /// The options that the member was started with.
     pub options: Text,
-    /// When it was started.
+    /// The moment when the member was started.
     pub start: Moment,
     /// The version of the program.
     pub version: &'static str,
@@ -93,7 +93,7 @@ fn add_peers(out: &mut Writer, peers: &[Peer]) -> Result<(), AllocError>
     Ok(())
 }
 
-/// Adds a member that is a number.
+/// Adds an object's member that is a number.
 fn add_number(out: &mut Writer, name: &str, value: u64) -> Result<(), AllocError>
     ensures { OnOk result (Adds out.old out.new (key name.now ∷ number (decimal value) ∷ [])) }
 {
@@ -138,14 +138,14 @@ fn add_neighbors(out: &mut Writer, neighbors: &[Neighbor]) -> Result<(), AllocEr
     Ok(())
 }
 
-/// The word for whether the member answers requests.
+/// Returns the word for whether the member answers requests.
 const fn status_word(is_ready: bool) -> &'static str
     ensures { result.now ≡ status_word is_ready }
 {
     if is_ready { "ready" } else { "settling" }
 }
 
-/// Adds what is said of the cluster.
+/// Adds the cluster's part of the status.
 fn add_cluster(out: &mut Writer, standing: &MemberStatus) -> Result<(), AllocError>
     ensures { OnOk result (Adds out.old out.new (key (codes "cluster") ∷ data_tokens (cluster_data standing.now))) }
 {
@@ -169,7 +169,7 @@ fn add_config(out: &mut Writer, options: &str) -> Result<(), AllocError>
     Ok(())
 }
 
-/// Adds of what the program was built.
+/// Adds the versions that the program was built of.
 fn add_versions(out: &mut Writer, version: &str) -> Result<(), AllocError>
     ensures { OnOk result (Adds out.old out.new (key (codes "versionInfo") ∷ data_tokens (versions_data version.now))) }
 {
@@ -185,7 +185,7 @@ fn add_versions(out: &mut Writer, version: &str) -> Result<(), AllocError>
     Ok(())
 }
 
-/// Adds what a member says of itself, where this is the text of its start.
+/// Adds a member's status; `start` is the text of the moment when it was started.
 fn add_standing(out: &mut Writer, standing: &MemberStatus, start: &str) -> Result<(), AllocError>
     ensures { OnOk result (Adds out.old out.new (data_tokens (standing_data standing.now start.now))) }
 {
@@ -199,7 +199,7 @@ fn add_standing(out: &mut Writer, standing: &MemberStatus, start: &str) -> Resul
     Ok(())
 }
 
-/// What a member says of itself, in JSON, where this is the text of its start.
+/// Returns a member's status in JSON; `start` is the text of the moment when it was started.
 fn write_standing(
     alloc: Global,
     standing: &MemberStatus,
@@ -212,11 +212,11 @@ fn write_standing(
     Ok(writer.into_inner())
 }
 
-/// The reply that tells what a member says of itself.
+/// Returns the reply with a member's status.
 ///
 /// # Errors
 ///
-/// [`AllocError`] where memory ran out.
+/// [`AllocError`] if memory runs out.
 pub fn status_reply(
     alloc: Global,
     standing: &MemberStatus,

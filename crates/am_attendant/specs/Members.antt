@@ -1,7 +1,7 @@
--- What a member is as its connections come and go.
+-- A member as its connections come and go.
 use Rattle.std.specs.Prelude.{◌≡◌}
 use Rattle.am_attendant.specs.declared.member.Member.{Member}
 
--- what it holds and the lock of its gates are as they were
+-- The member's instance and the lock of its gates are unchanged.
 abbrev pub IsSameMember : {A : Type 0} → Member A → Member A → Type 0
 IsSameMember old new = (new.lock ≡ old.lock) × (new.instance ≡ old.instance)

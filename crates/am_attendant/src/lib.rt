@@ -23,7 +23,7 @@ use std::rt::Clock;
 ///
 /// # Errors
 ///
-/// As [`am_living::run`].
+/// The same as those of [`am_living::run`].
 pub fn live<'a, A: Attendant, R: Net + Clock + Input>(
     alloc: Global,
     rt: &R,
@@ -32,13 +32,13 @@ pub fn live<'a, A: Attendant, R: Net + Clock + Input>(
     member: &mut Member<'a, A>,
     limits: Limits,
 ) -> io::Result<()>
-    // PROMISE: What the program's member holds comes of one life of its connections; and over each just one reply goes out: that of its own request's step, a refusal's line, or one that isn't about silences.
+    // PROMISE: What the program's member holds comes of one life of its connections; and over each just one reply goes out, behind its challenge where frames are sealed: that of its own request's step, the line of a refusal with a status from 400 on, or one that isn't about silences.
     ensures lived { (left : ℕ → Option (Line Conversation TcpStream))
         × (history : Leads ⟦<Member<'a, A> as Service>⟧.does ⟦<Member<'a, A> as Service>⟧.begins (IsCall ⟦<Member<'a, A> as Service>⟧.acts ⟦<Member<'a, A> as Service>⟧.loses
         ⟦<Member<'a, A> as Service>⟧.answers ⟦<Member<'a, A> as Service>⟧.gives ⟦<Member<'a, A> as Service>⟧.offers ⟦<Member<'a, A> as Service>⟧.asks)
         ⟦<Member<'a, A> as Service>⟧.pending ⟦<TcpStream as Stream>⟧.coming ⟦<TcpStream as Stream>⟧.gone member.old no_lines member.new left)
         × IsLived (λ (m : Member A). m.instance) (λ (dialogue : Conversation). IsInAccord (talk_of dialogue)) IsReplied member.old history.happenings member.new left }
-    // (of the links to its peers and of the exchanges with them, over what its attendant says of the bytes that it gives)
+    // (for the links to its peers and the exchanges with them, by what its attendant says of the bytes that it gives)
     ensures peered { LoopGoesFromNone ⟦<Member<'a, A> as Service>⟧.does ⟦<Member<'a, A> as Service>⟧.begins ⟦<Member<'a, A> as Service>⟧.acts ⟦<Member<'a, A> as Service>⟧.pending
         ⟦<TcpStream as Stream>⟧.coming ⟦<TcpStream as Stream>⟧.gone ⟦<Member<'a, A> as Service>⟧.loses ⟦<Member<'a, A> as Service>⟧.answers ⟦<Member<'a, A> as Service>⟧.gives
         ⟦<Member<'a, A> as Service>⟧.offers ⟦<Member<'a, A> as Service>⟧.asks member.old member.new }

@@ -1,8 +1,8 @@
-//! A member: what it holds, and who attends to it.
+//! A member: its instance, and its attendant.
 
 ghost use Rattle.std.specs.Prelude.{◌≡◌, ◌↔◌, ◌⊎◌, ◌≤◌, ℕ, List, IfSome, IsTrue, ⊤, length};
 ghost use Rattle.am_dialogue.specs.Answered.{ByItself, IsAnswered};
-ghost use Rattle.am_dialogue.specs.Talks.{Lasts, pending_of, talk_of};
+ghost use Rattle.am_dialogue.specs.Talks.{Lasts, pending_in, talk_of};
 ghost use Rattle.am_http.specs.Sessions.{SaysEnd, Spoken, name_of, over as ended_under};
 ghost use Rattle.am_living.specs.Talking.{Does, IsLetIn, IsScreened, IsTakenUp, fresh_talk};
 ghost use Rattle.am_attendant.specs.Members.{IsSameMember};
@@ -18,18 +18,18 @@ use std::time::Instant;
 /// A member that runs.
 #[derive(Drop)]
 pub struct Member<'a, A> {
-    /// What it holds.
+    /// The instance that the member holds.
     pub instance: Instance,
-    /// By what the frames of its peers are opened, where they are sealed.
+    /// The lock by which the frames of its peers are opened, if they are sealed.
     pub lock: Option<Lock<'a>>,
-    /// Who does something with what it holds.
+    /// The attendant, which acts on the instance.
     pub attendant: A,
 }
 
-/// Who attends to what a member holds. Each method is a call of [`Service`], and only one that is handed the instance to be
+/// An attendant to what a member holds. Each method is a call of [`Service`], and only one that is handed the instance to be
 /// changed makes steps of it.
 pub trait Attendant {
-    /// What it is once it gave these bytes for a peer.
+    /// The relation between the attendant before and after it gave these bytes for a peer.
     ghost offers: { Self → ℕ → List ℕ → Self → Type 0 };
 
     fn begin(&mut self, entrance: Entrance) -> Conversation
@@ -64,7 +64,7 @@ pub trait Attendant {
     fn release(&mut self, dialogue: &mut Conversation)
         ensures { Lasts (talk_of dialogue.old) (talk_of dialogue.new) };
 
-    /// The moment for which the reply of a connection waits, where one does.
+    /// Returns the moment for which the reply of a connection waits, if one does.
     fn due(&self, dialogue: &Conversation) -> Option<Instant>;
 
     fn come_due(&mut self, instance: &mut Instance, dialogue: &mut Conversation)
@@ -74,7 +74,7 @@ pub trait Attendant {
     fn hurry(&mut self, dialogue: &mut Conversation)
         ensures { Lasts (talk_of dialogue.old) (talk_of dialogue.new) };
 
-    /// What of a connection is done is counted.
+    /// Counts what is done of a connection.
     fn count_done(&mut self, dialogue: &mut Conversation)
         ensures { talk_of dialogue.new ≡ talk_of dialogue.old };
 
@@ -85,7 +85,7 @@ pub trait Attendant {
 
     fn answered(&mut self, peer: usize, answer: Vec<u8>);
 
-    fn more(&mut self, instance: &Instance, peer: usize) -> Option<Vec<u8>>;
+    fn more(&mut self, instance: &Instance, peer: usize, answer: &[u8]) -> Option<Vec<u8>>;
 
     fn lost(&mut self, config: &Config, peer: usize, fault: LinkFault);
 
@@ -100,7 +100,7 @@ pub trait Attendant {
 impl<A: Attendant> Service for Member<'_, A> {
     type Session = Conversation;
 
-    ghost pending = { λ dialogue. pending_of (talk_of dialogue).saying };
+    ghost pending = { λ dialogue. pending_in (talk_of dialogue) };
 
     ghost over = { λ dialogue. dialogue.session ≡ ended_under (name_of dialogue.session) };
 
@@ -112,7 +112,7 @@ impl<A: Attendant> Service for Member<'_, A> {
 
     ghost loses = { λ member _ _ member'. IsSameMember member member' };
 
-    ghost gives = { λ member _ _ member'. IsSameMember member member' };
+    ghost gives = { λ member _ _ _ member'. IsSameMember member member' };
 
     ghost answers = { λ member _ _ member'. IsSameMember member member' };
 
@@ -202,6 +202,10 @@ impl<A: Attendant> Service for Member<'_, A> {
         session.held()
     }
 
+    fn unread(&self, session: &Conversation) -> usize {
+        session.unread()
+    }
+
     fn outgoing(&mut self) -> Option<PeerBytes> {
         self.attendant.outgoing(self.instance.config())
     }
@@ -214,8 +218,8 @@ impl<A: Attendant> Service for Member<'_, A> {
         self.attendant.answered(peer, answer);
     }
 
-    fn more(&mut self, peer: usize) -> Option<Vec<u8>> {
-        self.attendant.more(&self.instance, peer)
+    fn more(&mut self, peer: usize, answer: &[u8]) -> Option<Vec<u8>> {
+        self.attendant.more(&self.instance, peer, answer)
     }
 
     fn lost(&mut self, peer: usize, fault: LinkFault) {
@@ -255,7 +259,7 @@ impl<'a, A: Attendant> Living for Member<'a, A> {
     ghost acts_alone = { λ member member' call.
         let alone = acts_alone member.instance member'.instance (call_alone (λ m. m.instance) ⟦<Member<'a, A> as Service>⟧.acts ⟦<Member<'a, A> as Service>⟧.loses ⟦<Member<'a, A> as Service>⟧.answers
         ⟦<Member<'a, A> as Service>⟧.gives ⟦<Member<'a, A> as Service>⟧.offers ⟦<Member<'a, A> as Service>⟧.asks (λ _ _ acts. acts.1) (λ _ _ _ _ same. same.1)
-        (λ _ _ _ _ same. same.1) (λ _ _ _ _ same. same.1) (λ _ _ _ _ offered. offered.0.1) (λ _ _ _ _ same. same.1) member member' call) in
+        (λ _ _ _ _ same. same.1) (λ _ _ _ _ _ same. same.1) (λ _ _ _ _ offered. offered.0.1) (λ _ _ _ _ same. same.1) member member' call) in
         record { deeds = alone.0; own = alone.1; life = alone.2 } };
 
     ghost does_for_one = { λ member dialogue deed member' dialogue' does connection standings passed turns accord.

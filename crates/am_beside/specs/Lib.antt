@@ -1,4 +1,5 @@
 pub mod Heard
+pub mod News
 pub mod Reading
 pub mod Sieves
 pub mod Told

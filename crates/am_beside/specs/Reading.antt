@@ -11,12 +11,12 @@ use Rattle.am_wire.specs.declared.error.WireError.{WireError}
 use Rattle.am_wire.specs.declared.reader.RowPosition.{RowPosition}
 use Rattle.am_wire.specs.declared.reader.RowPosition.TheVariants.{Before}
 
--- the best version of the key, or none where no version has it
+-- the best version of the key, or none if no version has it
 abbrev pub IsGreatest : {K X : Type 0} → (X → Version K) → List X → K → Option X → Type 0
 IsGreatest {K} {X} seen set key found = MatchOption found ((v : X) → Contains set v → (seen v).key ≢ key) (λ v. ((seen v).key ≡ key) × IsBest seen set v)
 
--- What was read since the start is a row of versions, whatever follows, behind which the reader stands, and of each key the map holds
--- the greatest of them.
+-- What was read since the start is a row of versions, whatever follows; the reader is at its end, and at each key the map holds
+-- the greatest of these versions.
 pub record IsReadFrom {K X : Type 0} (reads : ℕ → List ℕ → Result X WireError) (seen : X → Version K) (cmp : K → K → Ordering)
     (start now : Option (List ℕ)) (standing : RowPosition) (map_read : List X) : Type 0 where
   pub bytes : List ℕ

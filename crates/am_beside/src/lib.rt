@@ -21,4 +21,4 @@ pub use reports::Report;
 pub use sieve::Sieve;
 pub use sifting::sift;
 pub use tally::{Tally, Withheld};
-pub use told::{ToldRows, told_rows};
+pub use told::{Telling, ToldRows};

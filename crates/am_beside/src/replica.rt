@@ -1,25 +1,27 @@
-//! One replica: what is asked of it, and what it is told.
+//! One replica: what it is asked, and what it is told.
 
-ghost use Rattle.std.specs.Prelude.{◌≡◌};
+ghost use Rattle.std.specs.Prelude.{◌≡◌, ◌≢◌, false, true, is_some, nat_le, IsTrue, None, Ok, Some};
+ghost use Rattle.am_beside.specs.Heard.{heard_all, is_due_then, lost_all};
 
 use crate::news::News;
 use crate::rounds::Rounds;
 use am_gossip::Frame;
 use am_memberlist::request_text;
 use am_version_order::Moment;
+use am_wire::Unknown;
 use std::alloc::{AllocError, Global};
 use std::time::{Duration, Instant};
 
-/// After how many seconds it is told again that a replica wasn't heard.
+/// The number of seconds after which it is reported again that a replica wasn't heard.
 const LINE_EVERY: u64 = 60;
 
-/// What goes on with a replica.
+/// The exchange that is under way with a replica.
 #[derive(Clone, Copy, PartialEq, Eq)]
 enum Way {
     Nothing,
-    /// It is asked for all it holds.
+    /// The replica is asked for all it holds.
     Asked,
-    /// It is told something.
+    /// The replica is told something.
     Told,
 }
 
@@ -27,20 +29,20 @@ enum Way {
 #[derive(Drop)]
 pub struct Replica {
     way: Way,
-    /// It is to be asked for all it holds.
+    /// True if the replica is to be asked for all it holds.
     is_due: bool,
-    /// What it answered, which isn't looked at yet.
+    /// The replica's answer, which isn't looked at yet.
     answer: Option<Vec<u8>>,
-    /// What it answered is being looked at.
+    /// True if the replica's answer is being looked at.
     is_looked_at: bool,
     rounds: Rounds,
-    /// Before this nobody is told again that it wasn't heard.
+    /// The time before which it isn't reported again that the replica wasn't heard.
     next_line: Option<Instant>,
     pub news: News,
 }
 
 impl Replica {
-    /// One that is to be asked.
+    /// Returns a replica that is to be asked.
     pub fn new(alloc: Global) -> Replica {
         Replica {
             way: Way::Nothing,
@@ -53,26 +55,36 @@ impl Replica {
         }
     }
 
-    /// It is to be asked for all it holds, unless it is just asked, or has answered: what it lacks is found once that is looked
-    /// at.
-    pub fn want(&mut self) {
+    /// Marks the replica to be asked for all it holds, unless it is just being asked, or has answered: what it lacks is found
+    /// once that is looked at.
+    pub fn want(&mut self)
+        ensures { self.new ≡ record (self.old) { is_due = is_due_then self.old } }
+    {
         self.is_due |= self.way != Way::Asked && self.answer.is_none();
     }
 
-    /// Whether an answer waits to be looked at.
-    pub fn has_answer(&self) -> bool {
+    /// Returns whether an answer waits to be looked at.
+    pub fn has_answer(&self) -> bool
+        ensures { result ≡ is_some self.now.answer }
+    {
         self.answer.is_some()
     }
 
-    /// What it answered, which is looked at from now on.
-    pub fn take_answer(&mut self) -> Option<Vec<u8>> {
+    /// Returns the replica's answer, which is looked at from now on.
+    pub fn take_answer(&mut self) -> Option<Vec<u8>>
+        ensures taken { result ≡ self.old.answer }
+        ensures looked_at { self.new ≡ record (self.old) { answer = None; is_looked_at = is_some self.old.answer } }
+    {
         let answer = self.answer.take();
         self.is_looked_at = answer.is_some();
         answer
     }
 
-    /// All that it answered was taken, or it is at fault.
-    pub fn end_look(&mut self, is_taken: bool) {
+    /// Records that the whole answer was taken, or that it is at fault.
+    pub fn end_look(&mut self, is_taken: bool)
+        ensures heard { IsTrue is_taken → self.new ≡ record (self.old) { is_looked_at = false; rounds = heard_all self.old.rounds } }
+        ensures lost { is_taken ≡ false → self.new ≡ record (self.old) { is_looked_at = false; rounds = lost_all self.old.rounds } }
+    {
         self.is_looked_at = false;
         if is_taken {
             self.rounds.hear();
@@ -81,15 +93,18 @@ impl Replica {
         }
     }
 
-    /// The exchanges with it.
+    /// Returns the exchanges with the replica.
     pub fn rounds(&self) -> Rounds
         ensures { result ≡ self.now.rounds }
     {
         self.rounds
     }
 
-    /// Tells whether it is told now that it wasn't heard since a round: if it wasn't, and once a minute.
-    pub fn is_missed(&mut self, round: u64, now: Instant) -> bool {
+    /// Returns whether to report now that the replica wasn't heard since a round: if it wasn't, and once a minute.
+    pub fn is_missed(&mut self, round: u64, now: Instant) -> bool
+        ensures heard { nat_le round self.old.rounds.heard ≡ true → result ≡ false }
+        ensures untold { result ≡ false → self.new ≡ self.old }
+    {
         let is_early = match self.next_line {
             Some(next) => now < next,
             None => false,
@@ -101,32 +116,38 @@ impl Replica {
         true
     }
 
-    /// Adds what a frame brings, to be told. What finds no room or memory is found again once it is asked.
-    pub fn bring(&mut self, alloc: Global, frame: &Frame) {
+    /// Adds what a frame brings, read by the policy for unknown fields, to the replica's news. What finds no room or memory is
+    /// found again once the replica is asked.
+    pub fn bring(&mut self, alloc: Global, unknown: Unknown, frame: &Frame) {
         if let Frame::Delta(part) = frame
-            && !self.news.add(alloc, part)
+            && !self.news.add(alloc, unknown, part)
         {
             self.want();
         }
     }
 
-    /// Whether it is asked for all it holds next, in a round: not before what it answered last was taken.
-    fn is_asked_next(&self, round: u64) -> bool {
+    /// Returns whether the replica is asked next for all it holds, in a round: not before its last answer was taken.
+    fn is_asked_next(&self, round: u64) -> bool
+        ensures { IsTrue result → (self.now.answer ≡ None) × (self.now.is_looked_at ≡ false) }
+    {
         let is_wanted = self.is_due || self.rounds.lacks(round);
         is_wanted && self.answer.is_none() && !self.is_looked_at
     }
 
-    /// What goes to it next, in a round, if something does: nothing where something is under way.
+    /// Returns what goes to the replica next, in a round, if anything: nothing while an exchange is under way.
     ///
     /// # Errors
     ///
-    /// [`AllocError`] where memory runs out.
+    /// [`AllocError`] if memory runs out.
     pub fn question(
         &mut self,
         alloc: Global,
         now: Moment,
         round: u64,
-    ) -> Result<Option<Vec<u8>>, AllocError> {
+    ) -> Result<Option<Vec<u8>>, AllocError>
+        // PROMISE: While an exchange with an Alertmanager is under way, no other one begins.
+        ensures busy { self.old.way ≢ Way.Nothing → (result ≡ Ok None) × (self.new ≡ self.old) }
+    {
         if self.way != Way::Nothing {
             return Ok(None);
         }
@@ -144,16 +165,22 @@ impl Replica {
         Ok(message)
     }
 
-    /// It answered with these bytes. What comes back where it was told something counts for nothing.
-    pub fn answered(&mut self, answer: Vec<u8>) {
+    /// Takes the bytes that the replica answered. They are ignored if it was told something.
+    pub fn answered(&mut self, answer: Vec<u8>)
+        ensures asked { self.old.way ≡ Way.Asked → self.new ≡ record (self.old) { way = Way.Nothing; answer = Some answer } }
+        ensures told { self.old.way ≢ Way.Asked → self.new ≡ record (self.old) { way = Way.Nothing } }
+    {
         if self.way == Way::Asked {
             self.answer = Some(answer);
         }
         self.way = Way::Nothing;
     }
 
-    /// What was asked of it, or told, is lost.
-    pub fn lost(&mut self) {
+    /// Records that what was asked of the replica, or told to it, is lost.
+    pub fn lost(&mut self)
+        ensures asked { self.old.way ≡ Way.Asked → self.new ≡ record (self.old) { way = Way.Nothing; rounds = lost_all self.old.rounds } }
+        ensures told { self.old.way ≢ Way.Asked → self.new ≡ record (self.old) { way = Way.Nothing } }
+    {
         if self.way == Way::Asked {
             self.rounds.lose();
         }

@@ -13,6 +13,7 @@ use am_merge::Held;
 use am_nflog::MeshEntry;
 use am_silence::MeshSilence;
 use am_version_order::Moment;
+use am_wire::Unknown;
 use std::alloc::{AllocError, Global};
 use std::net::SocketAddr;
 use std::time::{Duration, Instant};
@@ -21,36 +22,39 @@ use std::time::{Duration, Instant};
 #[derive(Drop)]
 pub struct Replicas {
     alloc: Global,
-    /// By the places of members: none where a member isn't one.
+    /// The policy for unknown fields in what comes.
+    unknown: Unknown,
+    /// The replicas by the places of members, with `None` for a member that isn't one.
     replicas: Vec<Option<Replica>>,
-    /// There is none.
+    /// True if there are none.
     is_empty: bool,
-    /// How often each is asked for all it holds.
+    /// The time between two questions to each replica for all it holds.
     every: Duration,
-    /// When they are asked next.
+    /// The time of their next questions.
     next: Option<Instant>,
-    /// Whose answer is looked at, and how far it is.
+    /// The replica whose answer is looked at, and the progress of that.
     work: Option<(usize, Work)>,
-    /// Of which silences it is told that they aren't sent.
+    /// The reports of silences that aren't sent.
     reports: Reports,
 }
 
-/// What came of a stretch of work on the answer of the replica at a place.
+/// The result of a stretch of work on the answer of the replica at a place.
 #[derive(Drop)]
 pub enum Came {
-    /// There was nothing to be done.
+    /// There was nothing to do.
     Nothing,
-    /// Nothing that the member is to take.
+    /// There is nothing for the member to take.
     Stretch,
     /// A frame.
     Frame(usize, Frame),
-    /// The last: all that the replica holds has come, this frame too, where there is one. It lacked so many versions.
+    /// The last part: all that the replica holds has come, including this frame, if there is one. The number is that of the
+    /// versions that the replica lacked.
     Whole(usize, Option<Frame>, u64),
-    /// A fault. Nothing more of the answer comes.
+    /// A fault, after which nothing more of the answer comes.
     Fault(usize, AnswerError),
 }
 
-/// The replica at a place.
+/// Returns the replica at a place.
 fn replica_at(replicas: &mut [Option<Replica>], place: usize) -> Option<&mut Replica> {
     match replicas.get_mut(place) {
         Some(Some(replica)) => Some(replica),
@@ -58,7 +62,7 @@ fn replica_at(replicas: &mut [Option<Replica>], place: usize) -> Option<&mut Rep
     }
 }
 
-/// Tells whether an exchange with a replica is over that began in a round or later, if there is a replica.
+/// Returns whether an exchange with a replica that began in a round or later is over, or there is no replica.
 fn is_over(replica: &Option<Replica>, round: u64) -> bool
     ensures { result ≡ is_over_at round replica.now }
 {
@@ -69,15 +73,17 @@ fn is_over(replica: &Option<Replica>, round: u64) -> bool
 }
 
 impl Replicas {
-    /// The replicas at the places that have an address, which are asked at once, and then every so often.
+    /// Returns the replicas at the places that have an address, which are asked at once, and then at each interval; what they
+    /// tell, and what they are to be told, is read by the policy for unknown fields.
     ///
     /// # Errors
     ///
-    /// [`AllocError`] where memory runs out.
+    /// [`AllocError`] if memory runs out.
     pub fn new(
         alloc: Global,
         addresses: &[Option<SocketAddr>],
         every: Duration,
+        unknown: Unknown,
     ) -> Result<Replicas, AllocError> {
         let mut replicas = Vec::with_capacity(alloc, addresses.len())?;
         for address in addresses {
@@ -89,6 +95,7 @@ impl Replicas {
         }
         Ok(Replicas {
             alloc,
+            unknown,
             replicas,
             every,
             is_empty: addresses.iter().all(|address| address.is_none()),
@@ -98,7 +105,7 @@ impl Replicas {
         })
     }
 
-    /// Tells whether an exchange is over with each replica that began in a round or later.
+    /// Returns whether, with each replica, an exchange that began in a round or later is over.
     pub fn are_over(&self, round: u64) -> bool
         // PROMISE: Who waits to hear the replicas since a round waits on while an exchange with one isn't over that began since.
         ensures { result ≡ list_all (is_over_at round) self.now.replicas.items }
@@ -106,8 +113,8 @@ impl Replicas {
         self.replicas.iter().all(|replica| is_over(replica, round))
     }
 
-    /// Tells whether it is told now that the replica at a place, if there is one, wasn't heard since a round: if it wasn't, and once a
-    /// minute.
+    /// Returns whether to report now that the replica at a place, if there is one, wasn't heard since a round: if it wasn't, and
+    /// once a minute.
     pub fn is_missed(&mut self, place: usize, round: u64, now: Instant) -> bool {
         match replica_at(&mut self.replicas, place) {
             Some(replica) => replica.is_missed(round, now),
@@ -115,7 +122,7 @@ impl Replicas {
         }
     }
 
-    /// The next silence that isn't sent for its hazard, and isn't reported yet, with the place of the replica.
+    /// Returns the next silence that isn't sent because of its hazard, and isn't reported yet, with the place of the replica.
     pub fn next_report(&mut self) -> Option<Report> {
         for place in 0..self.replicas.len() {
             if let Some(replica) = replica_at(&mut self.replicas, place)
@@ -127,12 +134,26 @@ impl Replicas {
         None
     }
 
-    /// Whether a replica is at a place.
+    /// Returns the place of a replica whose matchers, receivers and moments lost fields since this was last called, and their
+    /// number.
+    pub fn next_dropped(&mut self) -> Option<(usize, u64)> {
+        for place in 0..self.replicas.len() {
+            if let Some(replica) = replica_at(&mut self.replicas, place) {
+                let count = replica.news.take_dropped();
+                if count > 0 {
+                    return Some((place, count));
+                }
+            }
+        }
+        None
+    }
+
+    /// Returns whether a replica is at a place.
     pub fn is_at(&self, place: usize) -> bool {
         matches!(self.replicas.get(place), Some(Some(_)))
     }
 
-    /// Has each replica be asked, where that is due.
+    /// Marks each replica to be asked, if that is due.
     pub fn want_due(&mut self, now: Instant) {
         let is_early = match self.next {
             Some(next) => now < next,
@@ -145,7 +166,7 @@ impl Replicas {
         self.want_all();
     }
 
-    /// Has each replica be asked.
+    /// Marks each replica to be asked.
     pub fn want_all(&mut self) {
         for replica in self.replicas.iter_mut() {
             if let Some(replica) = replica {
@@ -154,7 +175,7 @@ impl Replicas {
         }
     }
 
-    /// How long it is until something is to be done.
+    /// Returns the time until something is to be done.
     pub fn left(&self, now: Instant) -> Option<Duration> {
         if self.work.is_some() || self.answered_place().is_some() {
             return Some(Duration::ZERO);
@@ -162,7 +183,7 @@ impl Replicas {
         Some(self.next?.saturating_duration_since(now))
     }
 
-    /// The first replica whose answer waits.
+    /// Returns the place of the first replica whose answer waits.
     fn answered_place(&self) -> Option<usize> {
         self.replicas.iter().position(|replica| match replica {
             Some(replica) => replica.has_answer(),
@@ -170,20 +191,20 @@ impl Replicas {
         })
     }
 
-    /// Has the replica at a place be told what frames bring.
+    /// Adds what frames bring to the news of the replica at a place.
     pub fn bring(&mut self, place: usize, frames: &[Frame]) {
         if let Some(replica) = replica_at(&mut self.replicas, place) {
             for frame in frames {
-                replica.bring(self.alloc, frame);
+                replica.bring(self.alloc, self.unknown, frame);
             }
         }
     }
 
-    /// What goes to a replica next, in a round, and to which.
+    /// Returns what goes to a replica next, in a round, and to which replica.
     ///
     /// # Errors
     ///
-    /// [`AllocError`] where memory runs out.
+    /// [`AllocError`] if memory runs out.
     pub fn question(
         &mut self,
         now: Moment,
@@ -199,21 +220,21 @@ impl Replicas {
         Ok(None)
     }
 
-    /// The replica at a place answered with these bytes.
+    /// Takes the bytes that the replica at a place answered.
     pub fn answered(&mut self, place: usize, answer: Vec<u8>) {
         if let Some(replica) = replica_at(&mut self.replicas, place) {
             replica.answered(answer);
         }
     }
 
-    /// What was asked of the replica at a place, or told, is lost.
+    /// Records that what was asked of the replica at a place, or told to it, is lost.
     pub fn lost(&mut self, place: usize) {
         if let Some(replica) = replica_at(&mut self.replicas, place) {
             replica.lost();
         }
     }
 
-    /// Does a stretch more, beside a member that holds these.
+    /// Does another stretch of work, beside a member that holds these versions.
     pub fn go_on(
         &mut self,
         silences: &Held<MeshSilence>,
@@ -226,7 +247,14 @@ impl Replicas {
         let Some(replica) = replica_at(&mut self.replicas, place) else {
             return Came::Nothing;
         };
-        match work.go_on(self.alloc, silences, entries, &mut replica.news, now) {
+        match work.go_on(
+            self.alloc,
+            self.unknown,
+            silences,
+            entries,
+            &mut replica.news,
+            now,
+        ) {
             Ok(stretch) => self.keep(place, stretch),
             Err(fault) => {
                 self.end_look(place, false);
@@ -235,7 +263,7 @@ impl Replicas {
         }
     }
 
-    /// The work that is to go on: what is begun, or else an answer that waits.
+    /// Returns the work to go on with: what was begun, or otherwise an answer that waits.
     fn next_work(&mut self) -> Option<(usize, Work)> {
         if let Some(begun) = self.work.take() {
             return Some(begun);
@@ -245,7 +273,8 @@ impl Replicas {
         Some((place, Work::new(self.alloc, answer)))
     }
 
-    /// All that the replica at a place answered was taken, or it is at fault. Answers how many versions it lacked.
+    /// Records that the whole answer of the replica at a place was taken, or that it is at fault. Returns the number of versions
+    /// that the replica lacked.
     fn end_look(&mut self, place: usize, is_taken: bool) -> u64 {
         match replica_at(&mut self.replicas, place) {
             Some(replica) => {

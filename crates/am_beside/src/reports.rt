@@ -1,4 +1,6 @@
-//! Silences that aren't sent for their hazards: each version is told once.
+//! Reports of silences that aren't sent because of their hazards, with each version reported once.
+
+ghost use Rattle.std.specs.Prelude.{◌≡◌, ◌≤◌, [], length, IsTrue};
 
 use crate::tally::Withheld;
 use am_matcher::Hazard;
@@ -6,7 +8,7 @@ use am_version_order::Moment;
 use am_wire::Text;
 use std::alloc::Global;
 
-/// How many versions are kept in mind that were told. Where there are more, the oldest is forgotten, and told again.
+/// The maximum number of versions that are remembered as reported. Beyond them, the oldest is forgotten, and reported again.
 const MOST_TOLD: usize = 4_096;
 
 /// A silence that isn't sent to a replica.
@@ -16,19 +18,19 @@ pub struct Report {
     pub place: usize,
     pub id: Text,
     pub hazard: Hazard,
-    /// This version wasn't told before.
+    /// True if this version wasn't reported before.
     pub is_first: bool,
 }
 
-/// Which versions were told.
+/// The versions that were reported.
 #[derive(Drop)]
 pub struct Reports {
-    /// The marks of those that were, and from here on the oldest ones.
+    /// The marks of the reported versions; the oldest ones are from `oldest` on.
     told: Vec<u64>,
     oldest: usize,
 }
 
-/// A number that two versions of silences hardly share: FNV-1a of the identifier, and then of the update.
+/// Returns a number that two versions of silences hardly ever share: FNV-1a of the identifier followed by the time of the update.
 fn mark_of(id: &[u8], updated: Moment) -> u64 {
     let mut mark: u64 = 0xCBF2_9CE4_8422_2325;
     for byte in id {
@@ -40,16 +42,25 @@ fn mark_of(id: &[u8], updated: Moment) -> u64 {
 }
 
 impl Reports {
-    /// None was told.
-    pub fn new(alloc: Global) -> Reports {
+    /// Returns the reports before any version was told.
+    pub fn new(alloc: Global) -> Reports
+        ensures { result.told.items ≡ [] }
+    {
         Reports {
             told: Vec::new(alloc),
             oldest: 0,
         }
     }
 
-    /// The report of a silence that is withheld from the replica at a place.
-    pub fn report(&mut self, place: usize, withheld: Withheld<Text>) -> Report {
+    /// Returns the report of a silence that is withheld from the replica at a place.
+    pub fn report(&mut self, place: usize, withheld: Withheld<Text>) -> Report
+        ensures place { result.place ≡ place }
+        ensures id { result.id ≡ withheld.key }
+        ensures hazard { result.hazard ≡ withheld.hazard }
+        ensures told { ¬ IsTrue result.is_first → self.new ≡ self.old }
+        // PROMISE: Of the silences that aren't sent, at most 4,096 versions are kept in mind as told.
+        ensures bounded { length self.old.told.items ≤ MOST_TOLD → length self.new.told.items ≤ MOST_TOLD }
+    {
         let Withheld {
             key,
             updated,
@@ -68,8 +79,10 @@ impl Reports {
         }
     }
 
-    /// Keeps a mark in mind, in place of the oldest one where there are enough. Where memory runs out, it is told again.
-    fn keep(&mut self, mark: u64) {
+    /// Remembers a mark, in place of the oldest one if there are enough. If memory runs out, the version is reported again.
+    fn keep(&mut self, mark: u64)
+        ensures { length self.old.told.items ≤ MOST_TOLD → length self.new.told.items ≤ MOST_TOLD }
+    {
         if self.told.len() < MOST_TOLD {
             let _ = self.told.push(mark);
         } else if let Some(oldest) = self.told.get_mut(self.oldest) {

@@ -1,4 +1,4 @@
-//! One state of an answer: it is read, what the member lacks of it comes in, and what the replica is given is gathered; all in
+//! One state of an answer: it is read, what the member lacks of it comes in, and what the replica is given is gathered, all in
 //! stretches.
 
 use crate::reading::{begin_row, read_some};
@@ -9,28 +9,36 @@ use am_gossip::{Part, StateKey};
 use am_memberlist::AnswerError;
 use am_mend::Handed;
 use am_merge::{Held, Iter};
+use am_report::{Losses, MessageKind};
 use am_snapshot::RowPiece;
 use am_version_order::{Moment, Version};
-use am_wire::{Message, RowFault, RowReader};
+use am_wire::{Message, RowFault, RowReader, Unknown};
 use std::alloc::{AllocError, Global};
 use std::mem;
 
-/// The most versions that are read, or compared with what the member holds, in a stretch.
+/// The maximum number of versions that are compared with what the member holds in a stretch.
 const COUNT: usize = 1_000;
 
-/// The most versions that are judged in a stretch for what the replica is given: patterns of those that it lacks are compiled.
+/// The number of versions that are read between two looks at how many bytes they have.
+const COUNT_OF_GROUP: usize = 8;
+
+/// The maximum number of such groups in a stretch.
+const MOST_GROUPS: usize = 125;
+
+/// The maximum number of versions judged in a stretch for what the replica is given: patterns of those that it lacks are
+/// compiled.
 const MOST_JUDGED: usize = 100;
 
-/// How many bytes of rows end a stretch.
+/// The number of bytes of rows that ends a stretch.
 const MOST_OF_STRETCH: usize = 1_048_576;
 
-/// How far a state is.
+/// The progress of a state.
 #[derive(Drop)]
 enum Stage<K> {
     Reading,
-    /// What the member lacks comes in, of the keys from this one on, or of all.
+    /// The versions that the member lacks come in, from this key on, or from the first if there is none.
     Taking(Option<K>),
-    /// What the replica is given is gathered.
+    /// The versions that the replica is given are gathered, likewise.
     Giving(Option<K>),
     Done,
 }
@@ -43,17 +51,30 @@ where
 {
     key: StateKey,
     rows: RowReader<V>,
-    /// How many bytes of its row are read.
+    /// The number of bytes of the row that were read.
     read: usize,
-    /// What the replica holds, as far as it is read.
+    /// The versions of the replica that have been read.
     held: Held<V>,
     stage: Stage<V::Key>,
     given: Vec<u8>,
-    /// What came of the versions that the replica would be given, since it was last taken.
+    /// The tally of the versions that the replica would be given, since it was last taken.
     tally: Tally<V::Key>,
+    /// The number of smaller messages that lost fields, since it was last taken.
+    dropped: u64,
 }
 
-/// The versions of a map that are left, from a key on where there is one.
+/// Returns the number of matchers, receivers and moments in the versions of a row that have fields which aren't known.
+fn count_dropped(alloc: Global, key: StateKey, row: &[u8]) -> Result<u64, AllocError> {
+    let kind = match key {
+        StateKey::Sil => MessageKind::Silence,
+        StateKey::Nfl => MessageKind::Entry,
+    };
+    let mut losses = Losses::none(alloc);
+    losses.add_row(kind, row)?;
+    Ok(losses.parts.messages())
+}
+
+/// Returns the versions of a map that are left, from a key on if there is one.
 fn left_of<'a, V: Version>(held: &'a Held<V>, from: Option<&V::Key>) -> Iter<'a, V> {
     match from {
         Some(key) => held.iter_from(key),
@@ -65,7 +86,7 @@ impl<V: Handed + Message> Side<V>
 where
     V::Key: Drop,
 {
-    /// A state of which nothing is read yet.
+    /// Returns a state of which nothing is read yet.
     pub fn new(alloc: Global, key: StateKey) -> Side<V> {
         let (rows, held) = begin_row(alloc);
         Side {
@@ -76,25 +97,32 @@ where
             stage: Stage::Reading,
             given: Vec::new(alloc),
             tally: Tally::new(alloc),
+            dropped: 0,
         }
     }
 
-    /// What came of the versions that the replica would be given, since it was last taken.
+    /// Returns the tally of the versions that the replica would be given, since it was last taken.
     pub fn take_tally(&mut self, alloc: Global) -> Tally<V::Key> {
         mem::replace(&mut self.tally, Tally::new(alloc))
     }
 
-    /// Whether nothing is left to be done.
+    /// Returns the number of smaller messages that lost fields since this was last called.
+    pub fn take_dropped(&mut self) -> u64 {
+        mem::replace(&mut self.dropped, 0)
+    }
+
+    /// Returns whether nothing is left to do.
     pub fn is_done(&self) -> bool {
         matches!(self.stage, Stage::Done)
     }
 
-    /// The row of what the replica is given, which is gathered from nothing again.
+    /// Takes the row of what the replica is given, which is then gathered anew.
     pub fn take_given(&mut self, alloc: Global) -> (StateKey, Vec<u8>) {
         (self.key, mem::replace(&mut self.given, Vec::new(alloc)))
     }
 
-    /// Does a stretch more of the state whose row this is, beside a member that holds these, and gives what comes in.
+    /// Does another stretch of the state with this row, read by the policy for unknown fields, beside a member that holds these
+    /// versions, and returns what comes in.
     ///
     /// # Errors
     ///
@@ -102,13 +130,14 @@ where
     pub fn go_on(
         &mut self,
         alloc: Global,
+        unknown: Unknown,
         row: &[u8],
         own: &Held<V>,
         now: Moment,
     ) -> Result<Option<Part>, AnswerError> {
         match mem::replace(&mut self.stage, Stage::Done) {
             Stage::Reading => {
-                self.read_on(row)?;
+                self.read_on(alloc, unknown, row)?;
                 Ok(None)
             }
             Stage::Taking(from) => Ok(self.take_on(alloc, own, from)?),
@@ -121,20 +150,49 @@ where
     }
 
     /// Reads a stretch of the row.
-    fn read_on(&mut self, row: &[u8]) -> Result<(), AnswerError> {
-        let mut left = row.get(self.read..).unwrap_or(&[]);
-        let has_ended = match read_some(&mut self.rows, &mut left, &mut self.held, COUNT) {
+    fn read_on(&mut self, alloc: Global, unknown: Unknown, row: &[u8]) -> Result<(), AnswerError> {
+        let begun = self.read;
+        self.stage = Stage::Reading;
+        for _ in 0..MOST_GROUPS {
+            if self.read_group(alloc, unknown, row)? {
+                self.stage = Stage::Taking(None);
+                break;
+            }
+            if self.read.saturating_sub(begun) >= MOST_OF_STRETCH {
+                break;
+            }
+        }
+        Ok(())
+    }
+
+    /// Reads the next versions of the row, and returns whether it has ended.
+    fn read_group(
+        &mut self,
+        alloc: Global,
+        unknown: Unknown,
+        row: &[u8],
+    ) -> Result<bool, AnswerError> {
+        let all = row.get(self.read..).unwrap_or(&[]);
+        let mut left = all;
+        let has_ended = match read_some(
+            unknown,
+            &mut self.rows,
+            &mut left,
+            &mut self.held,
+            COUNT_OF_GROUP,
+        ) {
             Ok(has_ended) => has_ended,
             Err(RowFault::Memory) => return Err(AnswerError::Memory),
             Err(fault) => return Err(AnswerError::Row(fault)),
         };
         self.read = row.len().saturating_sub(left.len());
-        self.stage = if has_ended {
-            Stage::Taking(None)
-        } else {
-            Stage::Reading
-        };
-        Ok(())
+        if unknown == Unknown::Keep
+            && let Some(read) = all.get(..all.len().saturating_sub(left.len()))
+        {
+            let count = count_dropped(alloc, self.key, read)?;
+            self.dropped = self.dropped.saturating_add(count);
+        }
+        Ok(has_ended)
     }
 
     /// Looks for what the member lacks.

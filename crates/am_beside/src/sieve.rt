@@ -1,6 +1,6 @@
-//! Which versions go from one side to the other.
+//! The choice of versions that go from one side to the other.
 
-ghost use Rattle.std.specs.Prelude.{◌≡◌, IfOk};
+ghost use Rattle.std.specs.Prelude.{◌≡◌, IfOk, OnErr};
 ghost use Rattle.am_beside.specs.Sieves.{IsHanded, Passes, Withholds, WithholdsBy};
 
 use crate::tally::{Tally, Withheld};
@@ -9,12 +9,12 @@ use am_merge::Held;
 use am_version_order::{Moment, Version};
 use std::alloc::{AllocError, Global};
 
-/// Which versions pass, by what the other side holds.
+/// The condition by which versions pass, given what the other side holds.
 #[derive(Clone, Copy)]
 pub enum Sieve<'a, V: Version> {
-    /// Those that this map lacks, as a member's does.
+    /// Versions that this map, a member's, lacks.
     Lacked(&'a Held<V>),
-    /// Those without a hazard that a replica which holds these is given at a moment.
+    /// Versions without a hazard that a replica with these versions is given at a moment.
     Given(&'a Held<V>, Moment),
 }
 
@@ -22,12 +22,12 @@ impl<V: Handed> Sieve<'_, V>
 where
     V::Key: Drop,
 {
-    /// Tells whether a version passes. A hazard is looked for only in one that the replica would be given; one that has a hazard is
-    /// noted in the tally.
+    /// Returns whether a version passes. A hazard is looked for only in a version that the replica would be given; one with a
+    /// hazard is recorded in the tally.
     ///
     /// # Errors
     ///
-    /// [`AllocError`] where memory runs out.
+    /// [`AllocError`] if memory runs out; nothing is recorded then.
     pub fn passes(
         &self,
         alloc: Global,
@@ -37,6 +37,8 @@ where
         ensures passes { IfOk result (Passes V.seen V.Key.cmp V.is_hazard self.now version.now) }
         // PROMISE: A version that isn't handed to a replica for its hazard is noted with it, and no other one.
         ensures noted { IfOk result (λ _. Withholds V.seen V.Key.cmp V.is_hazard self.now version.now tally.old.withheld.items tally.new.withheld.items) }
+        ensures unnoted { OnErr result (tally.new.withheld.items ≡ tally.old.withheld.items) }
+        ensures passed { tally.new.passed ≡ tally.old.passed }
     {
         match self {
             Sieve::Lacked(held) => Ok(is_lacked(held, version)),
@@ -45,8 +47,8 @@ where
     }
 }
 
-/// Tells whether a replica that holds these is given a version at a moment, and the version has no hazard. One that it is given but
-/// for its hazard is noted in the tally.
+/// Returns whether a replica that holds these versions is given a version at a moment, and the version has no hazard. A version
+/// that only its hazard keeps from the replica is recorded in the tally.
 fn is_handed<V: Handed>(
     alloc: Global,
     held: &Held<V>,
@@ -58,6 +60,8 @@ where
     V::Key: Drop,
     ensures handed { IfOk result (IsHanded V.seen V.Key.cmp V.is_hazard now held.now version.now) }
     ensures noted { IfOk result (λ _. WithholdsBy V.seen V.Key.cmp V.is_hazard now held.now version.now tally.old.withheld.items tally.new.withheld.items) }
+    ensures unnoted { OnErr result (tally.new.withheld.items ≡ tally.old.withheld.items) }
+    ensures passed { tally.new.passed ≡ tally.old.passed }
 {
     if !is_given(held, version, now) {
         return Ok(false);

@@ -1,7 +1,7 @@
 //! Versions that pass a sieve, looked for in stretches.
 
-ghost use Rattle.std.specs.Prelude.{◌≡◌, IfOk};
-ghost use Rattle.am_beside.specs.Sieves.{IsSifted, Passes};
+ghost use Rattle.std.specs.Prelude.{◌≡◌, IfOk, OnErr};
+ghost use Rattle.am_beside.specs.Sieves.{IsSifted, IsTallied, Passes, Withholds};
 
 use crate::sieve::Sieve;
 use crate::tally::Tally;
@@ -12,14 +12,14 @@ use am_wire::Bytes;
 use am_wire::writing::append_delimited;
 use std::alloc::{AllocError, Global};
 
-/// Returns the row of those of the first versions that pass, and the key of the first one that wasn't looked at. It looks at no more
-/// than `count` versions, and at none once the row has `most` bytes. The tally counts those that pass, and notes those that are
-/// withheld.
+/// Returns the row of the first versions that pass, and the key of the first one that wasn't looked at. It looks at no more than
+/// `count` versions, and at none once the row has `most` bytes. The tally counts the versions that pass, and records those that
+/// are withheld.
 ///
 /// # Errors
 ///
-/// [`AllocError`] where memory runs out.
-#[tactic(auto, using(crate::proofs::Sifted::sifting_begins))]
+/// [`AllocError`] if memory runs out; the tally is that of the versions that were looked at.
+#[tactic(auto, using(crate::proofs::Sifted::sifting_begins, crate::proofs::Sifted::tallied_so_far))]
 pub fn sift<V: Handed>(
     alloc: Global,
     sieve: &Sieve<'_, V>,
@@ -31,7 +31,11 @@ pub fn sift<V: Handed>(
 where
     V::Key: Drop,
     // PROMISE: Just the versions that pass go to the other side, in the order of their keys, each once.
-    ensures { IfOk result (IsSifted V.seen (Passes V.seen V.Key.cmp V.is_hazard sieve.now) versions.entry) }
+    ensures sifted { IfOk result (IsSifted V.seen (Passes V.seen V.Key.cmp V.is_hazard sieve.now)
+        (Withholds V.seen V.Key.cmp V.is_hazard sieve.now) versions.entry tally.old tally.new) }
+    // PROMISE: The tally counts just the versions that pass, and notes those that are withheld, be it up to where memory runs out.
+    ensures tallied { OnErr result (IsTallied (Passes V.seen V.Key.cmp V.is_hazard sieve.now)
+        (Withholds V.seen V.Key.cmp V.is_hazard sieve.now) versions.entry tally.old tally.new) }
 {
     let mut row = Vec::new(alloc);
     let mut room = count;
@@ -46,8 +50,8 @@ where
         room -= 1;
         let passes = sieve.passes(alloc, version, tally)?;
         if passes {
-            append_delimited(&mut row, version.canonical())?;
             tally.passed = tally.passed.saturating_add(1);
+            append_delimited(&mut row, version.canonical())?;
         }
     }
     Ok(RowPiece {

@@ -1,19 +1,21 @@
-//! What came of versions at a sieve.
+//! The tally of versions at a sieve.
+
+ghost use Rattle.std.specs.Prelude.{◌≡◌, []};
 
 use am_matcher::Hazard;
 use am_version_order::Moment;
 use std::alloc::Global;
 
-/// A version that isn't handed to a replica, since it has a hazard.
+/// A version that isn't handed to a replica because it has a hazard.
 #[derive(Drop)]
 pub struct Withheld<K> {
     pub key: K,
-    /// When the version was made.
+    /// The moment at which the version was made.
     pub updated: Moment,
     pub hazard: Hazard,
 }
 
-/// What came of versions at a sieve: how many passed, and which ones were withheld.
+/// The tally of versions at a sieve: the number of those that passed, and those that were withheld.
 #[derive(Drop)]
 pub struct Tally<K> {
     pub passed: u64,
@@ -21,8 +23,11 @@ pub struct Tally<K> {
 }
 
 impl<K: Drop> Tally<K> {
-    /// Nothing came.
-    pub fn new(alloc: Global) -> Tally<K> {
+    /// Returns the tally before any version came.
+    pub fn new(alloc: Global) -> Tally<K>
+        ensures passed { result.passed ≡ 0 }
+        ensures withheld { result.withheld.items ≡ [] }
+    {
         Tally {
             passed: 0,
             withheld: Vec::new(alloc),

@@ -1,8 +1,8 @@
-//! What is made of an answer, a stretch at a time.
+//! The work on an answer, a stretch at a time.
 
 use crate::news::News;
 use crate::side::Side;
-use crate::told::told_rows;
+use crate::told::{Telling, ToldRows};
 use am_gossip::{Frame, FullState, Part, StateKey};
 use am_memberlist::{Answer, AnswerError};
 use am_mend::Handed;
@@ -10,43 +10,48 @@ use am_merge::Held;
 use am_nflog::MeshEntry;
 use am_silence::MeshSilence;
 use am_version_order::Moment;
-use am_wire::Message;
+use am_wire::{Message, Unknown};
 use std::alloc::{AllocError, Global};
 
-/// The most bytes to which an answer is unpacked.
+/// The maximum number of bytes to which an answer is unpacked.
 const MOST_UNPACKED: usize = 67_108_864;
 
-/// How many codes are unpacked in a stretch.
+/// The number of codes that are unpacked in a stretch.
 const CODES: usize = 4_096;
 
-/// How far an answer is.
+/// The number of bytes of the states in which rows are searched for in a stretch.
+const SEARCHED: usize = 65_536;
+
+/// The progress of the work on an answer.
 #[derive(Drop)]
 pub enum Work {
-    /// It is being unpacked.
+    /// The answer is being unpacked.
     Answer(Answer),
-    /// The silences of the message are looked at.
-    Silences(Vec<u8>, Side<MeshSilence>),
-    /// The log of the message is looked at.
+    /// The rows of both states are searched for in the message.
+    Rows(Telling),
+    /// The silences are looked at. The row of the log waits.
+    Silences(ToldRows, Side<MeshSilence>),
+    /// The log with this row is looked at.
     Entries(Vec<u8>, Side<MeshEntry>),
 }
 
-/// What came of a stretch.
+/// The result of a stretch.
 #[derive(Drop)]
 pub struct Stretch {
-    /// What the member is to take.
+    /// The frame for the member to take.
     pub frame: Option<Frame>,
-    /// What is left; nothing once all is done.
+    /// The work that is left, or `None` once all is done.
     pub left: Option<Work>,
 }
 
-/// A frame that brings one part.
+/// Returns a frame that brings one part.
 fn frame_of(alloc: Global, part: Part) -> Result<Frame, AllocError> {
     let mut parts = Vec::with_capacity(alloc, 1)?;
     parts.push(part)?;
     Ok(Frame::Pull(FullState::new(parts)))
 }
 
-/// A frame that brings a part, if there is one.
+/// Returns a frame that brings a part, if there is one.
 fn some_frame(alloc: Global, part: Option<Part>) -> Result<Option<Frame>, AllocError> {
     match part {
         Some(part) => Ok(Some(frame_of(alloc, part)?)),
@@ -55,12 +60,13 @@ fn some_frame(alloc: Global, part: Option<Part>) -> Result<Option<Frame>, AllocE
 }
 
 impl Work {
-    /// All that is to be done of an answer.
+    /// Returns all the work on an answer.
     pub fn new(alloc: Global, answer: Vec<u8>) -> Work {
         Work::Answer(Answer::new(alloc, answer, MOST_UNPACKED))
     }
 
-    /// Does a stretch more, beside a member that holds these. What the replica is given goes to its news.
+    /// Does another stretch, by the policy for unknown fields, beside a member that holds these versions. What the replica is
+    /// given goes to its news.
     ///
     /// # Errors
     ///
@@ -68,6 +74,7 @@ impl Work {
     pub fn go_on(
         self,
         alloc: Global,
+        unknown: Unknown,
         silences: &Held<MeshSilence>,
         entries: &Held<MeshEntry>,
         news: &mut News,
@@ -75,11 +82,12 @@ impl Work {
     ) -> Result<Stretch, AnswerError> {
         match self {
             Work::Answer(answer) => unpack_on(alloc, answer),
-            Work::Silences(message, side) => {
-                go_on_silences(alloc, message, side, silences, news, now)
+            Work::Rows(telling) => search_on(alloc, telling),
+            Work::Silences(rows, side) => {
+                go_on_silences(alloc, unknown, rows, side, silences, news, now)
             }
-            Work::Entries(message, side) => {
-                go_on_entries(alloc, message, side, entries, news, now)
+            Work::Entries(row, side) => {
+                go_on_entries(alloc, unknown, row, side, entries, news, now)
             }
         }
     }
@@ -88,12 +96,20 @@ impl Work {
 /// Unpacks a stretch of an answer.
 fn unpack_on(alloc: Global, answer: Answer) -> Result<Stretch, AnswerError> {
     Ok(goes_on(match answer.go_on(alloc, CODES)? {
-        Answer::Message(message) => Work::Silences(message, Side::new(alloc, StateKey::Sil)),
+        Answer::Message(message) => Work::Rows(Telling::begin(alloc, &message)?),
         answer => Work::Answer(answer),
     }))
 }
 
-/// Nothing comes in, and this is left.
+/// Searches on for the rows of a message.
+fn search_on(alloc: Global, telling: Telling) -> Result<Stretch, AnswerError> {
+    Ok(goes_on(match telling.go_on(alloc, SEARCHED)? {
+        Telling::Told(rows) => Work::Silences(rows, Side::new(alloc, StateKey::Sil)),
+        telling => Work::Rows(telling),
+    }))
+}
+
+/// Returns a stretch in which nothing comes in and this work is left.
 fn goes_on(work: Work) -> Stretch {
     Stretch {
         frame: None,
@@ -101,10 +117,11 @@ fn goes_on(work: Work) -> Stretch {
     }
 }
 
-/// Looks at a stretch of the state whose row this is, and gives a frame that brings what comes in. What the replica is given
-/// goes to its news in the end.
+/// Looks at a stretch of the state with this row, and returns a frame that brings what comes in. What the replica is given goes
+/// to its news in the end.
 fn look_at<V: Handed + Message>(
     alloc: Global,
+    unknown: Unknown,
     side: &mut Side<V>,
     row: &[u8],
     own: &Held<V>,
@@ -114,7 +131,8 @@ fn look_at<V: Handed + Message>(
 where
     V::Key: Drop,
 {
-    let part = side.go_on(alloc, row, own, now)?;
+    let part = side.go_on(alloc, unknown, row, own, now)?;
+    news.count_dropped(side.take_dropped());
     let frame = some_frame(alloc, part)?;
     if side.is_done() {
         let (key, given) = side.take_given(alloc);
@@ -126,20 +144,20 @@ where
 /// Looks at a stretch of the silences.
 fn go_on_silences(
     alloc: Global,
-    message: Vec<u8>,
+    unknown: Unknown,
+    rows: ToldRows,
     side: Side<MeshSilence>,
     own: &Held<MeshSilence>,
     news: &mut News,
     now: Moment,
 ) -> Result<Stretch, AnswerError> {
     let mut side = side;
-    let row = told_rows(alloc, &message)?.silences;
-    let frame = look_at(alloc, &mut side, row, own, news, now)?;
+    let frame = look_at(alloc, unknown, &mut side, &rows.silences, own, news, now)?;
     news.count(side.take_tally(alloc))?;
     let left = if side.is_done() {
-        Work::Entries(message, Side::new(alloc, StateKey::Nfl))
+        Work::Entries(rows.entries, Side::new(alloc, StateKey::Nfl))
     } else {
-        Work::Silences(message, side)
+        Work::Silences(rows, side)
     };
     Ok(Stretch {
         frame,
@@ -150,20 +168,20 @@ fn go_on_silences(
 /// Looks at a stretch of the log.
 fn go_on_entries(
     alloc: Global,
-    message: Vec<u8>,
+    unknown: Unknown,
+    row: Vec<u8>,
     side: Side<MeshEntry>,
     own: &Held<MeshEntry>,
     news: &mut News,
     now: Moment,
 ) -> Result<Stretch, AnswerError> {
     let mut side = side;
-    let row = told_rows(alloc, &message)?.entries;
-    let frame = look_at(alloc, &mut side, row, own, news, now)?;
+    let frame = look_at(alloc, unknown, &mut side, &row, own, news, now)?;
     news.lack(side.take_tally(alloc).passed);
     let left = if side.is_done() {
         None
     } else {
-        Some(Work::Entries(message, side))
+        Some(Work::Entries(row, side))
     };
     Ok(Stretch { frame, left })
 }

@@ -1,4 +1,4 @@
-//! Requests for decisions that come to a member: what they ask, and what is answered.
+//! Requests for decisions that come to a member: what they ask, and how they are answered.
 
 use crate::members::print_held;
 use am_api_decisions::{
@@ -12,18 +12,18 @@ use am_part_cases::common::{Case, Fault, cut, phrase};
 use am_part_cases::put;
 use am_version_order::Moment;
 
-/// How a request is answered.
+/// The way that a request is answered.
 #[derive(Clone, Copy)]
 struct Calling {
     /// The moment of the first alerts' steps, or of the only one.
     now: Moment,
-    /// The moment of the steps behind those.
+    /// The moment of the steps after those.
     then: Moment,
-    /// So many alerts or entries come first.
+    /// The number of alerts or entries that come first.
     most: usize,
 }
 
-/// An answer with which nothing is sent.
+/// Returns an answer with which nothing is sent.
 fn quiet(case: &Case, reply: ReplyBytes) -> PendingAnswer {
     PendingAnswer {
         making: PendingReply::Whole(reply),
@@ -31,15 +31,15 @@ fn quiet(case: &Case, reply: ReplyBytes) -> PendingAnswer {
     }
 }
 
-/// What a request is told that is refused.
+/// Returns the reply to a refused request.
 fn refused(case: &Case, refusal: &Refusal) -> ReplyBytes {
     refuse(case.alloc, refusal).making.finish(case.alloc)
 }
 
-/// How many seconds a turn has of a member that `new` begins.
+/// The seconds of a turn of a member that `new` begins.
 const TURN_SECONDS: u64 = 15;
 
-/// What is decided: the first alerts are asked, and then the others.
+/// Returns the decision: the first alerts are asked, and then the others.
 fn decided(
     case: &Case,
     instance: &mut Instance,
@@ -60,14 +60,14 @@ fn decided(
     }
 }
 
-/// The live entries of the log: the first ones, and then the others.
+/// Returns the live entries of the log: the first ones, and then the others.
 fn told(case: &Case, instance: &Instance, calling: Calling) -> Result<ReplyBytes, Refusal> {
     let writing = begin_log(case.alloc, instance, calling.now)?;
     let writing = writing.go_on(case.alloc, calling.most)?;
     Ok(writing.finish(case.alloc))
 }
 
-/// What a request is answered.
+/// Returns the answer to a request.
 fn answered(
     case: &Case,
     instance: &mut Instance,
@@ -94,7 +94,7 @@ fn answered(
     }
 }
 
-/// The request that a text is, of which the body stands in the case where it is posted to a target.
+/// Returns the request that a text spells. If it is posted to a target, the text is only its body.
 fn request_in(case: &Case, phrases: &str, text: &str) -> Option<Request> {
     let bytes = case.unescaped(text);
     let target = phrase(phrases, "post ");
@@ -117,7 +117,7 @@ fn request_in(case: &Case, phrases: &str, text: &str) -> Option<Request> {
     None
 }
 
-/// `call at T, then T, first N, post TARGET: TEXT`
+/// Answers `call at T, then T, first N, post TARGET: TEXT`.
 pub fn call(case: &Case, instance: &mut Instance, rest: &str) {
     let (phrases, text) = cut(rest, ": ");
     let Some(request) = request_in(case, phrases, text) else {

@@ -1,4 +1,4 @@
-//! Clusters, new and behind each line of a schedule; schedules that are played; and what frames carry.
+//! Clusters, new and after each line of a schedule; schedules that are played; and the contents of frames.
 
 use crate::events::{fed, schedule_of};
 use crate::members::{name_at, print_held, say_config, times};
@@ -10,6 +10,7 @@ use am_replay::{OutputLine, Refusal, ReplayError, append_line, run};
 use am_schedule::Line;
 use am_silence::SilenceError::{BadPattern, Memory, NoMatcher, TooLarge};
 use am_steps::carried::{AnyVersion, SplitVersions, versions_in_frame};
+use am_wire::Unknown;
 
 fn made(case: &Case, words: &str) -> Option<Cluster> {
     let (retention, peer_timeout) = times(case)?;
@@ -18,7 +19,7 @@ fn made(case: &Case, words: &str) -> Option<Cluster> {
     case.got(cluster, ConfigError::Memory)
 }
 
-/// `cluster NAME ..`: each member, and what is told of the cluster; or why there is none.
+/// Answers `cluster NAME ..` with each member and the reports of the cluster, or with the reason that there is none.
 pub fn cluster(case: &Case, rest: &str) {
     given!(cluster = made(case, rest));
     for place in 0..u64::MAX {
@@ -39,7 +40,8 @@ fn say_timely(case: &Case, cluster: &Cluster) {
     say!(case; "timely ", cluster.timely(time, time));
 }
 
-/// `settle MOMENT ..: NAME ..`: what such a cluster answers to a settle at each moment, and whether its run is timely then.
+/// Answers `settle MOMENT ..: NAME ..` with the answer of such a cluster to a settle at each moment, and whether its run is
+/// then timely.
 pub fn settle(case: &Case, rest: &str) {
     let (moments, names) = cut(rest, ":");
     given!(mut cluster = made(case, names));
@@ -52,7 +54,7 @@ pub fn settle(case: &Case, rest: &str) {
     say_timely(case, &cluster);
 }
 
-/// `steps LINE; ..`: how the members of a schedule's cluster stand behind each of its lines.
+/// Answers `steps LINE; ..` with the states of the members of a schedule's cluster after each of its lines.
 pub fn steps(case: &Case, rest: &str) {
     given!(schedule = schedule_of(case, rest));
     let mut names = Vec::new(case.alloc);
@@ -66,7 +68,7 @@ pub fn steps(case: &Case, rest: &str) {
     }
 }
 
-/// Makes a line, and says how the members stand then; twice where it finds no memory.
+/// Makes a line, and prints the states of the members after it; if memory runs out, prints them and tries once more.
 fn play_line(case: &Case, cluster: &mut Cluster, line: &Line, number: u64) {
     if finds_no_memory(cluster, line, number) {
         case.put("no memory at ");
@@ -122,7 +124,7 @@ impl Call for Playing {
     }
 }
 
-/// `replay PHRASES: TEXT`
+/// Answers `replay PHRASES: TEXT`.
 pub fn replay(case: &Case, rest: &str) {
     let (phrases, text) = cut(rest, ":");
     let text = case.unescaped(text.strip_prefix(' ').unwrap_or(text));
@@ -130,7 +132,7 @@ pub fn replay(case: &Case, rest: &str) {
     case.say_text(writer.taken.as_slice());
 }
 
-/// `refused`: the lines of refusals that no schedule reaches.
+/// Answers `refused` with the lines of refusals that no schedule reaches.
 pub fn refused(case: &Case) {
     let mut text = String::new(case.alloc);
     for error in [NoMatcher, BadPattern, TooLarge, Memory] {
@@ -140,7 +142,8 @@ pub fn refused(case: &Case) {
     case.put(text);
 }
 
-/// `carried BYTES` and `carried first COUNT of BYTES`: the versions that a frame carries, or the first so many, by state.
+/// Answers `carried BYTES` and `carried first COUNT of BYTES` with the versions that a frame carries, or the first `COUNT` of
+/// them, by state.
 pub fn carried(case: &Case, rest: &str) {
     let (count, digits) = match rest.strip_prefix("first ") {
         Some(rest) => cut(rest, " of "),
@@ -148,7 +151,7 @@ pub fn carried(case: &Case, rest: &str) {
     };
     given!(fed = fed(case, digits));
     for frame in &fed.frames {
-        given!(versions = case.made(versions_in_frame(case.alloc, frame)));
+        given!(versions = case.made(versions_in_frame(case.alloc, Unknown::Drop, frame)));
         say_first(case, versions, case.number(count) as usize);
     }
 }

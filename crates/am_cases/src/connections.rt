@@ -1,4 +1,4 @@
-//! Requests and connections that come to a member, and what is sent to a peer.
+//! Requests and connections that come to a member, and the bytes that are sent to a peer.
 
 use crate::events::fed;
 use crate::members::{copied, name_at, print_held};
@@ -19,13 +19,13 @@ struct Coming<'a> {
     instance: &'a Instance,
     now: Moment,
     bits: u128,
-    /// One request comes. No more is told than the reply where nothing else comes of it.
+    /// True if only one request comes. Then nothing but the reply is printed if the request has no other effect.
     is_request: bool,
-    /// The status is told too.
+    /// True if the status is printed, too.
     has_status: bool,
 }
 
-/// What is told of a connection beside the reply.
+/// The outcome of a connection beside the reply.
 #[derive(Drop)]
 struct Seen {
     ended: Ended,
@@ -54,7 +54,7 @@ fn served(served: Served) -> Seen {
 }
 
 impl Coming<'_> {
-    /// Comes to the member.
+    /// Makes the connection to the member.
     fn come<R: Read>(
         &self,
         case: &Case,
@@ -94,7 +94,7 @@ impl Coming<'_> {
     }
 }
 
-/// Fails where memory ran out for a step, for frames to peers, or for the reply.
+/// Notes a fault if memory ran out for a step, for frames to peers, or for the reply.
 fn fail_without_memory(case: &Case, seen: &Seen, reply: &[u8]) {
     let is_memory = match seen.ended.fault {
         Some(Cause::Frame(FrameError::Memory) | Cause::Step(StepError::Memory { .. })) => true,
@@ -119,7 +119,7 @@ impl Call for Coming<'_> {
     }
 }
 
-/// `ask PHRASES: TEXT` and `connect PHRASES: TEXT` with a text, and `hear PHRASES: BYTES`.
+/// Answers `ask PHRASES: TEXT` and `connect PHRASES: TEXT` with a text, and `hear PHRASES: BYTES`.
 pub fn connect(case: &Case, instance: &mut Instance, is_whole: bool, verb: &str, rest: &str) {
     let (phrases, text) = cut(rest, ":");
     let text = text.strip_prefix(' ').unwrap_or(text);
@@ -163,7 +163,7 @@ fn post(case: &Case, body: &str) -> Vec<u8> {
     case.unescaped(text.unwrap_or(String::new(case.alloc)).as_str())
 }
 
-/// What a copy of the member answers, and how it stands then.
+/// Returns the answer of a copy of the member, and the copy after it.
 fn tried<R: Read>(
     case: &Case,
     coming: &Coming<'_>,
@@ -189,7 +189,8 @@ fn tried<R: Read>(
     Some((part.into_text(), member))
 }
 
-/// Says where copies answer otherwise to the bytes in two pieces, or byte by byte (place 0); over 600 bytes at a few places.
+/// Prints where copies answer differently if the bytes come in two pieces, or byte by byte (place 0). Of more than 600 bytes
+/// only a few places are tried.
 fn say_differences(case: &Case, coming: &Coming<'_>, how: &How<'_>, whole: &str) {
     let bytes = how.input;
     let few = bytes.len() / 7;
@@ -206,7 +207,7 @@ fn say_differences(case: &Case, coming: &Coming<'_>, how: &How<'_>, whole: &str)
     }
 }
 
-/// Says the bytes that go out to a peer.
+/// A call that sends bytes to a peer.
 #[derive(Clone, Copy)]
 struct Sending<'a> {
     name: &'a str,
@@ -225,7 +226,7 @@ impl Call for Sending<'_> {
     }
 }
 
-/// `send NAME: FRAMES` and `send NAME, PHRASES: FRAMES`
+/// Answers `send NAME: FRAMES` and `send NAME, PHRASES: FRAMES`.
 pub fn say_sent(case: &Case, rest: &str) {
     let (phrases, digits) = cut(rest, ": ");
     let (name, phrases) = cut(phrases, ", ");

@@ -1,4 +1,4 @@
-//! What happens to a member, in words, and what a schedule's line asks of it.
+//! The events of a member, in words, and the events that a schedule's line asks for.
 
 use am_gossip::{Fed, Feeder, Frame, FrameError};
 use am_instance::{Config, Event, Place, Request};
@@ -12,7 +12,7 @@ use am_silence::Posted;
 use am_steps::{Asked, to_event};
 use am_wire::{Bytes, Text};
 
-/// The event of words.
+/// Returns the event that words spell.
 pub fn event(case: &Case, config: &Config, verb: &str, rest: &str) -> Option<Event> {
     match verb {
         "pull" => Some(Event::PullFrom(place(case, config, rest))),
@@ -44,7 +44,7 @@ fn request(case: &Case, verb: &str, rest: &str) -> Option<Request> {
     }
 }
 
-/// The place of a member, by its name; another place is a number.
+/// Returns the place of a member by its name; another place is given as a number.
 pub fn place(case: &Case, config: &Config, word: &str) -> Place {
     match config.place_named(word) {
         Some(place) => place,
@@ -52,7 +52,7 @@ pub fn place(case: &Case, config: &Config, word: &str) -> Place {
     }
 }
 
-/// `post ID BITS START END MATCHER ..`, without author and comment. No identifier is `-`.
+/// Reads `post ID BITS START END MATCHER ..`, without author and comment. If there is no identifier, it is `-`.
 fn post(case: &Case, text: &str) -> Request {
     let (id, text) = first(text);
     let (bits, text) = first(text);
@@ -70,7 +70,8 @@ fn post(case: &Case, text: &str) -> Request {
     Request::Post { posted, bits }
 }
 
-/// `GROUP RECEIVER FIRING RESOLVED REPEAT`, as `g r/w/0 1,2 - 60`: what is told of a group, or asked.
+/// Reads `GROUP RECEIVER FIRING RESOLVED REPEAT`, such as `g r/w/0 1,2 - 60`, as a notification of a group or a question about
+/// it.
 fn of_group(case: &Case, text: &str, wanted: Option<bool>) -> Option<Event> {
     let (group, text) = first(text);
     let (name, text) = first(text);
@@ -99,7 +100,7 @@ fn of_group(case: &Case, text: &str, wanted: Option<bool>) -> Option<Event> {
     })
 }
 
-/// The key of a group; a long one is a number and a letter, as `3*g`.
+/// Reads the key of a group; a long one is a number and a letter, such as `3*g`.
 fn group_key(case: &Case, word: &str) -> Bytes {
     let key = match word.split_once('*') {
         Some((times, text)) => {
@@ -111,21 +112,21 @@ fn group_key(case: &Case, word: &str) -> Bytes {
     Bytes::new(key.unwrap_or(Vec::new(case.alloc)))
 }
 
-/// What a feeder makes of the bytes that digits spell.
+/// Returns what a feeder makes of the bytes that digits spell.
 pub fn fed(case: &Case, digits: &str) -> Option<Fed> {
     let stream = case.bytes(digits);
     let fed = Feeder::new(case.alloc).feed(stream.as_slice());
     case.sound(fed, FrameError::Memory)
 }
 
-/// The schedule of lines with `; ` between them.
+/// Returns the schedule of lines with `; ` between them.
 pub fn schedule_of(case: &Case, text: &str) -> Option<Schedule> {
     let lines = case.made(text.replace(case.alloc, "; ", "\n"))?;
     let schedule = parse(case.alloc, lines.as_bytes()).map_err(|error| error.kind);
     case.sound(schedule, FaultKind::Memory)
 }
 
-/// `asks LINE; ..`: what the last line of a schedule asks of a member.
+/// Answers `asks LINE; ..` with what the last line of a schedule asks of a member.
 pub fn asks(case: &Case, config: &Config, text: &str) {
     given!(schedule = schedule_of(case, text));
     if let Some((Line::Step(step), _)) = schedule.lines.as_slice().last()
@@ -149,7 +150,7 @@ fn say_asked(case: &Case, asked: &Asked) {
     }
 }
 
-/// Says an event.
+/// Prints an event.
 pub fn say_event(case: &Case, event: &Event) {
     match event {
         Event::Request(request) => say_request(case, request),

@@ -8,13 +8,14 @@ use crate::members::{begin, hold, say_config, say_state};
 use crate::steps::happen;
 use am_api_silences::{Read, read_request, to_bytes, to_event};
 use am_instance::{Instance, Reply};
+use am_lines::{TickVerdict, judge_tick};
 use am_part_cases::common::{Case, Fault, Printed, cut};
 use am_part_cases::{given, parts, say, say_some};
 use am_peers::{AddressWord, address_of, later_moment, number_within, peer_of, port_of};
 use am_silence::SilenceError;
 use std::time::Duration;
 
-/// Answers a case: of the member that stands, where there is one, or of none.
+/// Answers a case about the current member, if there is one, or about none.
 pub fn answer(case: &Case, member: &mut Option<Instance>, is_whole: bool, verb: &str, rest: &str) {
     if verb == "new" {
         return begin(case, member, rest);
@@ -64,17 +65,18 @@ fn alone(case: &Case, verb: &str, rest: &str) {
             say_some!(case; address = address_of(rest); address, ", as ", AddressWord(address)),
         "number" => say_number(case, rest),
         "clock" => say_clock(case, rest),
+        "tick" => say_tick(case, rest),
         _ => parts::answer(case, verb, rest),
     }
 }
 
-/// Says the bytes of a reply.
+/// Prints the bytes of a reply.
 fn say_reply(case: &Case, reply: &Reply) {
     given!(bytes = case.made(to_bytes(case.alloc, Ok(reply))));
     case.say_text(bytes.as_slice());
 }
 
-/// `event TEXT`: what a request that is whole asks of a member, by bits 0, or why it is refused.
+/// Answers `event TEXT` with what a whole request asks of a member, with bits 0, or why it is refused.
 fn say_asked_by(case: &Case, text: &str) {
     let bytes = case.unescaped(text);
     let request = match read_request(case.alloc, bytes.as_slice(), true) {
@@ -89,7 +91,7 @@ fn say_asked_by(case: &Case, text: &str) {
     }
 }
 
-/// `number LEAST to MOST: WORD`
+/// Answers `number LEAST to MOST: WORD`.
 fn say_number(case: &Case, rest: &str) {
     let (bounds, word) = cut(rest, ":");
     let (least, most) = cut(bounds, " to ");
@@ -97,11 +99,26 @@ fn say_number(case: &Case, rest: &str) {
     say!(case; ?number_within(case.number(least), case.number(most), word));
 }
 
-/// `clock TIME, last MOMENT`, where a time since 1970 is seconds, or seconds `and` nanoseconds.
+/// Reads a time in seconds, or in seconds `and` nanoseconds.
+fn time_of(case: &Case, text: &str) -> Duration {
+    let (seconds, nanos) = text.split_once(" and ").unwrap_or((text, "0"));
+    let time = Duration::from_secs(case.number(seconds));
+    time.saturating_add(Duration::from_nanos(case.number(nanos)))
+}
+
+/// Answers `clock TIME, last MOMENT`, where a time since 1970 is seconds, or seconds `and` nanoseconds.
 fn say_clock(case: &Case, rest: &str) {
     let (clock, last) = cut(rest, ", last ");
-    let (seconds, nanos) = clock.split_once(" and ").unwrap_or((clock, "0"));
-    let time = Duration::from_secs(case.number(seconds));
-    let time = time.saturating_add(Duration::from_nanos(case.number(nanos)));
-    say!(case; @later_moment(time, case.moment(last)));
+    say!(case; @later_moment(time_of(case, clock), case.moment(last)));
+}
+
+/// Answers `tick ahead TIME, retention TIME` with the outcome of a Tick whose moment is this far ahead of the time that has
+/// passed.
+fn say_tick(case: &Case, rest: &str) {
+    let (_, times) = cut(rest, "ahead ");
+    let (ahead, retention) = cut(times, ", retention ");
+    match judge_tick(time_of(case, ahead), time_of(case, retention)) {
+        TickVerdict::Made => say!(case; "made"),
+        TickVerdict::HeldBack => say!(case; "held back"),
+    }
 }

@@ -1,4 +1,4 @@
-//! Answers cases: reads them from standard input, a line each, and prints each with its answer below it (docs/CASES.md).
+//! Answers cases: reads them from standard input, one per line, and prints each with its answer below it (docs/CASES.md).
 #![tactic(auto)]
 
 mod calls;
@@ -34,7 +34,7 @@ fn input(rt: &HostRuntime) -> Option<Vec<u8>> {
     Some(text)
 }
 
-/// Appends a piece; where no memory is there, says so, and tries once more.
+/// Appends a piece; if memory runs out, says so, and tries once more.
 fn append(rt: &HostRuntime, text: &mut Vec<u8>, piece: &[u8]) -> Option<()> {
     if text.extend_from_slice(piece).is_err() {
         println!(rt; "! Memory").ok()?;
@@ -43,7 +43,8 @@ fn append(rt: &HostRuntime, text: &mut Vec<u8>, piece: &[u8]) -> Option<()> {
     Some(())
 }
 
-/// Answers the cases of a text by one member; whether all is printed. Behind `whole` connections are not tried in pieces.
+/// Answers the cases of a text by one member, and returns whether everything was printed. After `whole`, connections aren't
+/// tried in pieces.
 fn answer_all(rt: &HostRuntime, text: &[u8]) -> bool {
     let (mut member, mut is_whole) = (None, false);
     for line in str::from_utf8(text).unwrap_or("no text").lines() {
@@ -55,7 +56,7 @@ fn answer_all(rt: &HostRuntime, text: &[u8]) -> bool {
     true
 }
 
-/// Prints a case and its answer, and where no memory is there for it, once more; whether all is printed.
+/// Prints a case and its answer, and answers it once more if memory runs out; returns whether everything was printed.
 fn answer(rt: &HostRuntime, member: &mut Option<Instance>, is_whole: bool, line: &str) -> bool {
     let mut is_printed = println!(rt; "> {line}").is_ok();
     for _ in 0..2 {

@@ -1,4 +1,4 @@
-//! The member that the cases go through: how it begins, and what it holds.
+//! The member that the cases go through: its start, and what it holds.
 
 use am_instance::{Config, ConfigError, Instance};
 use am_merge::Held;
@@ -7,12 +7,12 @@ use am_part_cases::{given, put, say, say_some};
 use am_version_order::Interval;
 use am_wire::Text;
 
-/// How long members keep versions after their end, 100 s, and how long they wait for one another, 15 s.
+/// Returns how long members keep versions after their end, 100 s, and how long they wait for one another, 15 s.
 pub fn times(case: &Case) -> Option<(Interval, Interval)> {
     Some((case.seconds("100")?, case.seconds("15")?))
 }
 
-/// `new at MOMENT NAME PEER ..`: a member that holds nothing; says its configuration, or why there is none.
+/// Answers `new at MOMENT NAME PEER ..`: begins a member that holds nothing, and prints its configuration or why there is none.
 pub fn begin(case: &Case, member: &mut Option<Instance>, text: &str) {
     let (now, names) = first(first(text).1);
     let (own, peers) = first(names);
@@ -28,7 +28,7 @@ pub fn begin(case: &Case, member: &mut Option<Instance>, text: &str) {
     }
 }
 
-/// The same member, which holds the same.
+/// Returns a copy of a member, which holds the same.
 pub fn copied(case: &Case, instance: &Instance) -> Option<Instance> {
     let config = case.made(instance.config().try_clone())?;
     let silences = case.made(instance.silences().try_clone())?;
@@ -36,7 +36,7 @@ pub fn copied(case: &Case, instance: &Instance) -> Option<Instance> {
     Some(Instance::start(config, silences, log, instance.last()))
 }
 
-/// `hold at MOMENT SILENCES / ENTRIES`: the member begins anew, with these versions.
+/// Answers `hold at MOMENT SILENCES / ENTRIES`: begins the member anew, with these versions.
 pub fn hold(case: &Case, instance: &mut Instance, text: &str) {
     let (now, versions) = first(first(text).1);
     let (silences, log) = cut(versions, " / ");
@@ -48,7 +48,8 @@ pub fn hold(case: &Case, instance: &mut Instance, text: &str) {
     }
 }
 
-/// Says place and names of the members, how long versions are kept, and when the member is due that began to wait at 0 s.
+/// Prints the place and the names of the members, how long versions are kept, and when a member is due that began to wait at 0
+/// s.
 pub fn say_config(case: &Case, config: &Config) {
     put!(case; "place ", config.place(), " of");
     for name in config.members() {
@@ -58,7 +59,7 @@ pub fn say_config(case: &Case, config: &Config) {
     say_some!(case; due = config.due_from(case.moment("0")); @due);
 }
 
-/// The name of the member at a place.
+/// Returns the name of the member at a place.
 pub fn name_at(config: &Config, place: u64) -> &str {
     match config.members().get(place as usize) {
         Some(name) => name.as_str(),
@@ -66,7 +67,7 @@ pub fn name_at(config: &Config, place: u64) -> &str {
     }
 }
 
-/// Says all that is held.
+/// Prints everything that is held.
 pub fn say_state(case: &Case, instance: &Instance) {
     for version in instance.silences().iter() {
         say!(case; @version);
@@ -78,7 +79,7 @@ pub fn say_state(case: &Case, instance: &Instance) {
     case.put("\n");
 }
 
-/// Prints a text, how many silences and entries are held, and the moment of the last event.
+/// Prints a text, the numbers of silences and entries that are held, and the moment of the last event.
 pub fn print_held(case: &Case, before: &str, instance: &Instance) {
     put!(case; before, instance.silences().len(), " ", instance.log().len());
     put!(case; " at ", @instance.last());

@@ -1,4 +1,4 @@
-//! Steps of a member, and what comes of them.
+//! Steps of a member, and their outcomes.
 
 use crate::events::{event, fed, place};
 use crate::members::{name_at, print_held};
@@ -11,7 +11,7 @@ use am_part_cases::{given, put, say};
 use am_silence::{MeshSilence, SilenceError, State};
 use am_version_order::Moment;
 
-/// `at MOMENT` and what happens.
+/// Answers `at MOMENT` and an event.
 pub fn happen(case: &Case, instance: &mut Instance, text: &str) {
     let (now, text) = first(text);
     let now = case.moment(now);
@@ -24,7 +24,7 @@ pub fn happen(case: &Case, instance: &mut Instance, text: &str) {
     }
 }
 
-/// `from PEER BYTES`: each frame that comes from a peer is a step.
+/// Answers `from PEER BYTES`: makes a step of each frame that comes from a peer.
 fn hear(case: &Case, instance: &mut Instance, text: &str, now: Moment) {
     let (peer, digits) = first(text);
     let sender = place(case, instance.config(), peer);

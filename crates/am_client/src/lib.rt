@@ -1,5 +1,6 @@
-//! A client of clusters: what a program that makes their steps may say of the replies. Each function makes a call or two, and
-//! what it promises follows from public clauses of am_cluster: of the call, of the cluster's own reports, and of a law.
+//! A client of clusters: the promises that a program which steps a cluster gets about its replies. Each function makes one or
+//! two calls, and its promise follows from public clauses of am_cluster: those of the call, of the cluster's own reports, and
+//! of a law.
 #![tactic(auto)]
 
 ghost use Rattle.std.specs.Prelude.{◌≡◌, ◌≢◌, ◌↔◌, ◌≤◌, ℕ, IfOk, IsTrue, Some, length, true};
@@ -29,22 +30,22 @@ use am_instance::{Place, Reply};
 use am_schedule::Step;
 use am_version_order::Interval;
 
-/// What a step was answered, and whether the member that was asked had been calm before.
+/// The reply to a step, and whether the member that was asked had been calm before.
 #[derive(Drop)]
 pub struct Asked {
     pub calm: bool,
     pub reply: Result<Reply, ClusterError>,
 }
 
-/// What a step was answered, and whether the run was timely with it.
+/// The reply to a step, and whether the run was timely with it.
 #[derive(Drop)]
 pub struct Timed {
     pub timely: bool,
     pub reply: Result<Reply, ClusterError>,
 }
 
-/// Makes a step. Where it asks a calm member for a list, a single silence, a decision, both views or the mutes of an alert,
-/// the reply is that of the bare sets of all versions that were delivered to the member.
+/// Makes a step. If it asks a calm member for a list, a single silence, a decision, both views or the mutes of an alert, the
+/// reply is that of the bare sets of all versions that were delivered to the member.
 pub fn ask(cluster: &mut Cluster, place: Place, step: &Step, line: u64) -> Asked
     // PROMISE: A client that asks a calm member of a cluster gets the reply of everything that was delivered to it.
     ensures { IsTrue result.calm → IfOk result.reply (λ reply. (replica : Replica) (event : Event) (now : ℕ) →
@@ -58,8 +59,8 @@ pub fn ask(cluster: &mut Cluster, place: Place, step: &Step, line: u64) -> Asked
     Asked { calm, reply }
 }
 
-/// Whether two members are calm. Where the same was delivered to both, in any order and however often, what the one replies
-/// from its views alone is what the other replies.
+/// Returns whether two members are both calm. If they are, and the same was delivered to both, in any order and however often,
+/// then every reply that one gives from its views alone is also the other's.
 pub fn both_calm(cluster: &Cluster, place: Place, peer: Place) -> bool
     // PROMISE: Of two calm members that were delivered the same, a client gets the same replies.
     ensures { IsTrue result → HaveSame (silences_taken cluster.now place) (silences_taken cluster.now peer) →
@@ -74,8 +75,9 @@ pub fn both_calm(cluster: &Cluster, place: Place, peer: Place) -> bool
     one && two
 }
 
-/// Makes a step, and says whether the run was timely with it. If so every member is calm, and when the step began members that
-/// ran showed the same of each identifier, and of each key of the log, of which every version is a spread old.
+/// Makes a step, and returns its reply with whether the run was timely. If it was, every member is calm, and when the step
+/// began, all members that ran showed the same of each identifier and of each key of the log, if every version of it is a
+/// spread old.
 pub fn step_in_time(
     cluster: &mut Cluster,
     step: &Step,
@@ -98,8 +100,8 @@ pub fn step_in_time(
     Timed { timely, reply }
 }
 
-/// Makes a step. Where it asks a calm member whether a group is notified, that is for the first time exactly where something
-/// fires, and of all entries of the group that were delivered to the member none is best and live.
+/// Makes a step. If it asks a calm member whether a group is notified, the group is notified for the first time exactly if
+/// something fires and none of the group's entries that were delivered to the member is best and live.
 pub fn decide(cluster: &mut Cluster, place: Place, step: &Step, line: u64) -> Asked
     ensures { IsTrue result.calm → IfOk result.reply (λ reply. (replica : Replica) (question : Question) (now : ℕ) →
         Asks cluster.old step.now place replica (asks question) now →

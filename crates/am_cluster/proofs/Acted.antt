@@ -1,4 +1,5 @@
 -- What is known of the step of an instance, for writing it down.
+use Rattle.am_wire.specs.declared.unknown.Unknown.TheVariants.{Drop}
 use Rattle.std.proofs.Common.{◌≡◌, ◌⊎◌, inl, inr, arith, ℕ, Bool, true, false, cond, eqb, ltb, List, [], Result, Ok, Err, refl, sym, subst, length, not, IfOk, ◌<◌, ◌∙◌}
 use Rattle.std.specs.Prelude.{All, Contains, IfSome, None, ◌≤◌}
 use Rattle.std.proofs.lemmas.List.Elements.{All-nil, All-weaker, All-contains, All-contains_itself}
@@ -18,14 +19,15 @@ use Rattle.am_instance.specs.Configs.{Settings, is_peer}
 use Rattle.am_instance.specs.Deliveries.{first_fault, rows_in, parts_of}
 use Rattle.am_instance.specs.Laws.{HasMaps}
 use Rattle.am_instance.specs.Replies.{IsNothing}
-use Rattle.am_instance.specs.InstanceStates.{InstanceState}
+use Rattle.am_instance.specs.InstanceStates.{InstanceState, HoldsWhole}
 use Rattle.am_instance.specs.Steps.{IsAccepted, brought, delivers}
 use Rattle.am_instance.specs.OneStep.{IsStep}
 use Rattle.am_runs.specs.declared.step.Source.{Source}
 use Rattle.am_runs.specs.Steps.{RunStep}
 use Rattle.am_steps.specs.BothStates.{StateOf}
 use Rattle.am_steps.specs.Contents.{IsValue}
-use Rattle.am_steps.specs.Recorded.{AreInFlight, AreValues}
+use Rattle.am_runs.specs.Runs.{IsPossible}
+use Rattle.am_steps.specs.Recorded.{AreInFlight, AreValues, HasSource, event_step}
 use Rattle.am_steps.specs.StepLaws.{StepsArePossible}
 use Rattle.am_cluster.specs.Acting.{CanHappenIn}
 use Rattle.am_cluster.specs.declared.error.ClusterError.{ClusterError}
@@ -70,7 +72,7 @@ brings_nothing before stand events.Tick now outcome each step brings = absurd cc
 brings_nothing before stand (events.PullFrom place) now outcome each step brings = absurd cc
 
 -- what is no frame brings none
-pub nothing_brought : (event : Event) → ((sender : ℕ) (frame : Frame) → event ≡ events.Frame sender frame → ⊥) → brought event ≡ []
+pub nothing_brought : (event : Event) → ((sender : ℕ) (frame : Frame) → event ≡ events.Frame sender frame → ⊥) → brought Drop event ≡ []
 nothing_brought (events.Request request) no_frame = refl
 nothing_brought (events.Frame sender frame) no_frame = absurd (no_frame sender frame refl)
 nothing_brought (events.Notified group_key receiver firing resolved repeat) no_frame = refl
@@ -81,9 +83,9 @@ nothing_brought events.Tick no_frame = refl
 nothing_brought (events.PullFrom place) no_frame = refl
 
 pub values_known : (event : Event) (stand : InstanceState) (answer : Result Outcome StepError) →
-    ((made : Made) → All IsMesh made.silences.items → IfSome made.log IsLogMesh → All IsValue (delivers event made)) →
+    ((made : Made) → All IsMesh made.silences.items → IfSome made.log IsLogMesh → All IsValue (delivers Drop event made)) →
     IfOk answer (λ outcome. All IsMesh outcome.made.silences.items) → IfOk answer (λ outcome. IfSome outcome.made.log IsLogMesh) →
-    All IsMesh stand.silences → All IsLogMesh stand.log → HasMaps stand → IfOk answer (λ outcome. AreValues event outcome stand)
+    All IsMesh stand.silences → All IsLogMesh stand.log → HasMaps stand → IfOk answer (λ outcome. AreValues Drop event outcome stand)
 values_known event stand (Ok outcome) each silences log held_silences held_log maps = record { delivered = each outcome.made silences log; silences = held_silences; log = held_log; maps = maps }
 values_known event stand (Err e) each silences log held_silences held_log maps = tt
 
@@ -126,7 +128,7 @@ turned a b other = elim (eqb_tells b a) [ inl same ↦ absurd (eqb-false a b oth
 
 -- a peer is another member
 pub peer_flies : (settings : Settings) (members place : ℕ) (frame : ℕ × Frame) → settings.place ≡ place → length settings.members ≡ members →
-    first_fault (rows_in (parts_of frame.1)) ≡ None → is_peer settings frame.0 ≡ true → CanFly members place frame
+    first_fault (rows_in Drop (parts_of frame.1)) ≡ None → is_peer settings frame.0 ≡ true → CanFly members place frame
 peer_flies settings members place frame own all sound peer =
     let parts = and_parts (ltb frame.0 (length settings.members)) (not (eqb frame.0 settings.place)) peer in record {
       no_fault = sound;
@@ -135,15 +137,27 @@ peer_flies settings members place frame own all sound peer =
     }
 
 pub all_fly_from : (settings : Settings) (members place : ℕ) (frames : List (ℕ × Frame)) → settings.place ≡ place → length settings.members ≡ members →
-    All (λ frame. first_fault (rows_in (parts_of frame.1)) ≡ None) frames → All (λ frame. is_peer settings frame.0 ≡ true) frames → All (CanFly members place) frames
+    All (λ frame. first_fault (rows_in Drop (parts_of frame.1)) ≡ None) frames → All (λ frame. is_peer settings frame.0 ≡ true) frames → All (CanFly members place) frames
 all_fly_from settings members place frames own all sound peers =
     All-weaker (Contains frames) (CanFly members place)
     (λ frame within. peer_flies settings members place frame own all
-    (All-contains (λ f. first_fault (rows_in (parts_of f.1)) ≡ None) frames frame sound within) (All-contains (λ f. is_peer settings f.0 ≡ true) frames frame peers within))
+    (All-contains (λ f. first_fault (rows_in Drop (parts_of f.1)) ≡ None) frames frame sound within) (All-contains (λ f. is_peer settings f.0 ≡ true) frames frame peers within))
     frames (All-contains_itself frames)
 
 -- the step of an instance, to which an event can come, can come next in a run
 pub can_be_next : {K X : Type 0} (state : StateOf K X) → StepsArePossible state → (members : ℕ) (steps : List (RunStep X)) (entry : Entry) (event : Event) (old new : InstanceState) (answer : Result Outcome StepError) →
-    CanHappenIn state members steps entry event old → IsStep old event entry.moment answer new → IfOk answer (λ outcome. AreValues event outcome new) → CanBeNext state members steps entry event answer
-can_be_next state law members steps entry event old new answer can step values = λ frames flying.
-    law members entry.place entry.moment steps entry.source old new event answer frames (λ counts. can.runs) can.gone step can.from flying values
+    CanHappenIn state members steps entry event old → old.config.unknown ≡ Drop → HoldsWhole old → IsStep old event entry.moment answer new →
+    IfOk answer (λ outcome. AreValues Drop event outcome new) → CanBeNext state members steps entry event answer
+can_be_next state law members steps entry event old new answer can drops whole step values = λ frames flying.
+    subst (λ u. IsPossible state.seen state.cmp members steps (event_step state u entry.place entry.moment entry.source event answer frames)) drops
+    (law members entry.place entry.moment steps entry.source old new event answer frames (λ counts. can.runs) can.gone step
+    (subst (λ u. HasSource state u members steps entry.moment event entry.source) (sym drops) can.from) whole flying
+    (subst (λ u. IfOk answer (λ outcome. AreValues u event outcome new)) (sym drops) values))
+
+-- nothing in what a member that drops unknown fields sent is at fault
+pub all_sound : (old new : InstanceState) (event : Event) (outcome : Outcome) → old.config.unknown ≡ Drop →
+    (AreValues old.config.unknown event outcome new → All (λ frame. first_fault (rows_in old.config.unknown (parts_of frame.1)) ≡ None) outcome.frames.items) →
+    AreValues Drop event outcome new → All (λ frame. first_fault (rows_in Drop (parts_of frame.1)) ≡ None) outcome.frames.items
+all_sound old new event outcome drops law known =
+    subst (λ u. All (λ frame. first_fault (rows_in u (parts_of frame.1)) ≡ None) outcome.frames.items) drops
+    (law (subst (λ u. AreValues u event outcome new) (sym drops) known))

@@ -1,5 +1,6 @@
 -- What an answered step was.
-use Rattle.std.proofs.Common.{◌≡◌, ◌⊎◌, inl, inr, ◌∙◌, ◌<◌, ◌≤◌, ℕ, Bool, true, false, List, [], Some, None, Option, Result, Ok, Err, ap, refl, sym, subst, length}
+use Rattle.am_wire.specs.declared.unknown.Unknown.TheVariants.{Drop}
+use Rattle.std.proofs.Common.{◌≡◌, inl, inr, ◌∙◌, ◌<◌, ◌≤◌, ℕ, Bool, true, false, List, [], Some, None, Option, Result, Ok, Err, ap, refl, sym, subst, length}
 use Rattle.std.specs.Prelude.{option_and_then, if◌then◌else◌}
 use Rattle.std.specs.Str.{bytes_eq}
 use Rattle.std.proofs.lemmas.List.Quantifiers.{position-Some}
@@ -60,7 +61,7 @@ either_moment false now one other a b = b
 
 -- an event is written down with its moment
 pub event_moment : {K X : Type 0} (state : StateOf K X) (place now : ℕ) (source : Source) (e : Event) (answer : Result Outcome StepError) (frames : List (ℕ × Frame)) →
-    moment (event_step state place now source e answer frames) ≡ Some now
+    moment (event_step state Drop place now source e answer frames) ≡ Some now
 event_moment state place now source e (Ok outcome) frames = either_moment (collects e) now _ _ refl refl
 event_moment state place now source e (Err (step_errors.Memory taken)) frames = refl
 event_moment state place now source e (Err (step_errors.MomentBack last)) frames = refl
@@ -77,13 +78,13 @@ module _ (old new : World) (at line place : ℕ) (replica : Replica) (reply : Re
     goes = record {
       members = ap (λ w. length w.replicas) has.world ∙ set_length old.replicas place _;
       silences = record {
-        step = event_step silence_state place at source e has.answer has.frames;
+        step = event_step silence_state Drop place at source e has.answer has.frames;
         rest = [];
         parts = ap (λ w. w.silences) has.world;
         begins = event_moment silence_state place at source e has.answer has.frames;
       };
       log = record {
-        step = event_step log_state place at source e has.answer has.frames;
+        step = event_step log_state Drop place at source e has.answer has.frames;
         rest = [];
         parts = ap (λ w. w.log) has.world;
         begins = event_moment log_state place at source e has.answer has.frames;

@@ -1,4 +1,5 @@
 -- What a line asks comes from where it says.
+use Rattle.am_wire.specs.declared.unknown.Unknown.TheVariants.{Drop}
 use Rattle.std.proofs.Common.{◌≡◌, ℕ, ◌≤◌, List, [], ◌∷◌, Option, Some, None, Result, Ok, Err, IfOk, refl, sym, subst}
 use Rattle.std.specs.Prelude.{All}
 use Rattle.std.proofs.lemmas.List.Elements.{All-nil, All-cons, All-head, All-tail}
@@ -30,8 +31,8 @@ all_entries sent (OfEntry e ∷ ds) all = All-cons (λ w. sent ≤ (entry_versio
 from_fits : (o : Option ℕ) (versions : Versions) → IsSentBefore (from o versions) (versions_of versions) → Brings (from o versions) (versions_of versions) → Fits (from o versions)
 from_fits None versions sent brings = tt
 from_fits (Some sender) versions sent brings = λ members now. (
-  λ before. subst (λ ds. All (λ v. sent_at (versions_of versions) ≤ (mesh_version v).updated) (silences_in ds)) (sym brings) (all_silences (sent_at (versions_of versions)) (versions_of versions) sent),
-  λ before. subst (λ ds. All (λ e. sent_at (versions_of versions) ≤ (entry_version e).updated) (entries_in ds)) (sym brings) (all_entries (sent_at (versions_of versions)) (versions_of versions) sent),
+  λ before. subst (λ ds. All (λ v. sent_at (versions_of versions) ≤ (mesh_version v).updated) (silences_in ds)) (sym (brings Drop)) (all_silences (sent_at (versions_of versions)) (versions_of versions) sent),
+  λ before. subst (λ ds. All (λ e. sent_at (versions_of versions) ≤ (entry_version e).updated) (entries_in ds)) (sym (brings Drop)) (all_entries (sent_at (versions_of versions)) (versions_of versions) sent),
 )
 
 pull_fits : (o : Option ℕ) → Fits (pull o)

@@ -8,6 +8,8 @@ use Rattle.std.proofs.lemmas.List.Sorted.{Contains-permutation, IsPermutation-sy
 use Rattle.std.proofs.lemmas.Option.{get_or_from_slice_get, slice_get_cases}
 use Rattle.am_silence.specs.Mesh.{Mesh}
 use Rattle.am_nflog.specs.Mesh.{Mesh as LogMesh}
+use Rattle.std.proofs.lemmas.List.Elements.{All-nil}
+use Rattle.am_wire.specs.declared.unknown.Unknown.TheVariants.{Drop}
 use Rattle.am_matcher.specs.declared.dialect.Dialect.TheVariants.{Regex}
 use Rattle.am_instance.specs.Configs.{HasTwice, IsEmptyName, IsLongName, Settings}
 use Rattle.am_instance.specs.InstanceStates.{InstanceState}
@@ -39,21 +41,24 @@ born_names [] q replica settings there each = absurd cc
 born_names (first ∷ others) q replica settings there each = sym (ap (λ r. r.stand.config.members) (each 0 first refl))
 
 born_member : (replicas : List Replica) (q room : ℕ) (settings : Settings) → ltb q (length replicas) ≡ true → length settings.members ≡ length replicas →
-    settings.members ≡ names_of (slice_get replicas 0) →
+    settings.members ≡ names_of (slice_get replicas 0) → settings.unknown ≡ Drop →
     IsMember (record { replicas = replicas; silences = []; log = []; lines = []; flights = []; room = room }) q (newborn settings q)
-born_member replicas q room settings inside members names = record {
+born_member replicas q room settings inside members names unknown = record {
   silences = born_tied silence_state (length replicas) q inside;
   log = born_tied log_state (length replicas) q inside;
   place = refl;
   members = members;
   names = names;
+  unknown = unknown;
+  whole = record { silences = All-nil _; log = All-nil _ };
+  saved_whole = record { silences = All-nil _; log = All-nil _ };
 }
 
 born_here : (replicas : List Replica) (room : ℕ) → AreUnborn replicas → IsWorld (record { replicas = replicas; silences = []; log = []; lines = []; flights = []; room = room })
 born_here replicas room are = record {
   members = λ q replica there.
-      subst (IsMember (record { replicas = replicas; silences = []; log = []; lines = []; flights = []; room = room }) q) (sym (are.2 q replica there))
-      (born_member replicas q room are.0 (got_within replicas q replica there) are.1 (born_names replicas q replica are.0 there are.2));
+      subst (IsMember (record { replicas = replicas; silences = []; log = []; lines = []; flights = []; room = room }) q) (sym (are.3 q replica there))
+      (born_member replicas q room are.0 (got_within replicas q replica there) are.2 (born_names replicas q replica are.0 there are.3) are.1);
   flights = λ flight there. absurd (nothing flight there);
   numbers = tt;
 } where
@@ -79,8 +84,8 @@ born_more settings own place r old new before config stand runs silences log pus
     with_config c = record { config = c; silences = []; log = []; last = 0 }
 
 -- the members of a configuration are as a cluster begins with them
-pub unborn : (settings : Settings) (members : List Replica) → members ≡ newborns settings → AreUnborn members
-unborn settings members born = (settings, sym count, λ place replica there. sym (get_or_from_slice_get members place replica replica there) ∙ (ap (λ ms. get_or ms place replica) born ∙ one place replica there)) where
+pub unborn : (settings : Settings) (members : List Replica) → settings.unknown ≡ Drop → members ≡ newborns settings → AreUnborn members
+unborn settings members drops born = (settings, drops, sym count, λ place replica there. sym (get_or_from_slice_get members place replica replica there) ∙ (ap (λ ms. get_or ms place replica) born ∙ one place replica there)) where
   count : length members ≡ length settings.members
   count = ap length born ∙ length-map-range_with_len (newborn settings) 0 (length settings.members)
 
@@ -95,15 +100,16 @@ unborn settings members born = (settings, sym count, λ place replica there. sym
 
 -- where there is none, too
 pub none_unborn : (members : List Replica) → members ≡ [] → AreUnborn members
-none_unborn members none = subst AreUnborn (sym none) (record { members = []; place = 0; retention = 0; peer_timeout = 0; dialect = Regex }, refl, λ place replica there. absurd cc)
+none_unborn members none = subst AreUnborn (sym none) (record { members = []; place = 0; retention = 0; peer_timeout = 0; dialect = Regex; unknown = Drop }, refl, refl, λ place replica there. absurd cc)
 
 -- they are told by all of it but its own place
-pub newborns_are : (s : Settings) (retention peer_timeout : ℕ) → s.retention ≡ retention → s.peer_timeout ≡ peer_timeout → s.dialect ≡ Regex →
-    newborns s ≡ newborns (record { members = s.members; place = 0; retention = retention; peer_timeout = peer_timeout; dialect = Regex })
-newborns_are s retention peer_timeout a b d =
-    ap (λ x. newborns (record { members = s.members; place = 0; retention = x; peer_timeout = s.peer_timeout; dialect = s.dialect })) a
-    ∙ ap (λ y. newborns (record { members = s.members; place = 0; retention = retention; peer_timeout = y; dialect = s.dialect })) b
-    ∙ ap (λ z. newborns (record { members = s.members; place = 0; retention = retention; peer_timeout = peer_timeout; dialect = z })) d
+pub newborns_are : (s : Settings) (retention peer_timeout : ℕ) → s.retention ≡ retention → s.peer_timeout ≡ peer_timeout → s.dialect ≡ Regex → s.unknown ≡ Drop →
+    newborns s ≡ newborns (record { members = s.members; place = 0; retention = retention; peer_timeout = peer_timeout; dialect = Regex; unknown = Drop })
+newborns_are s retention peer_timeout a b d u =
+    ap (λ x. newborns (record { members = s.members; place = 0; retention = x; peer_timeout = s.peer_timeout; dialect = s.dialect; unknown = s.unknown })) a
+    ∙ ap (λ y. newborns (record { members = s.members; place = 0; retention = retention; peer_timeout = y; dialect = s.dialect; unknown = s.unknown })) b
+    ∙ ap (λ z. newborns (record { members = s.members; place = 0; retention = retention; peer_timeout = peer_timeout; dialect = z; unknown = s.unknown })) d
+    ∙ ap (λ x. newborns (record { members = s.members; place = 0; retention = retention; peer_timeout = peer_timeout; dialect = Regex; unknown = x })) u
 
 any_moved : (P : List ℕ → Type 0) (xs ys : List (List ℕ)) → IsPermutation xs ys → Any P xs → Any P ys
 any_moved P xs ys moved any = let there = Contains-permutation xs ys any.1 moved (any.0, any.2, any.3) in (there.0, any.1, there.1, there.2, any.4)

@@ -1,9 +1,11 @@
 -- A frame in flight as it arrives.
+use Rattle.am_wire.specs.declared.unknown.Unknown.TheVariants.{Drop}
 use Rattle.std.proofs.Common.{◌≡◌, ◌⊎◌, inl, ℕ, ◌+◌, ◌-◌, List, Option, Some, None, Result, refl, sym, ap, ◌∙◌, subst, slice_get, slice_index_or, length, option_map, arith}
 use Rattle.std.specs.Prelude.{All, Contains, IsSomeAnd, MatchOption}
 use Rattle.std.proofs.lemmas.List.Elements.{All-contains_itself}
 use Rattle.std.proofs.lemmas.Option.{get_or_from_slice_get, slice_get-get_or, slice_get_within}
 use Rattle.am_instance.specs.Configs.{is_peer}
+use Rattle.am_instance.specs.Deliveries.{first_fault, parts_of, rows_in}
 use Rattle.am_gossip.specs.Answers.{frame_fault}
 use Rattle.am_instance.specs.declared.event.Event.{Event}
 use Rattle.am_instance.specs.declared.event.Event.TheVariants as events
@@ -24,7 +26,7 @@ use Rattle.am_cluster.specs.Lives.{OfMember}
 use Rattle.am_cluster.specs.Losing.{IsNumberedAt}
 use Rattle.am_cluster.specs.Refusals.{IsRefused, IsUnmade, event_refusal, mark_of}
 use Rattle.am_cluster.specs.Ties.{IsFlying, IsSentIn, IsWorld}
-use Rattle.am_cluster.specs.Worlds.{Replica, World}
+use Rattle.am_cluster.specs.Worlds.{Replica, World, replica_at}
 use Rattle.am_cluster.proofs.Goes.{sent_there}
 use Rattle.am_cluster.proofs.Lost.{place_within}
 use Rattle.am_cluster.proofs.Places.{some_is}
@@ -53,6 +55,7 @@ arrival_of w v number place g same is at read =
       place_is = refl;
       sender_is = refl;
       index_is = (let number_is : g.number ≡ flying.index + 1 = flying.number in omega arith);
+      unknown = λ replica found. (is.members g.addressee replica found).unknown;
     })
 
 some_and : {A : Type 0} (o : Option A) (x : A) (P : A → Type 0) → o ≡ Some x → P x → IsSomeAnd o P
@@ -60,9 +63,9 @@ some_and o x P e p = subst (λ y. IsSomeAnd y P) (sym e) p
 
 module _ (w : World) (number : ℕ) (a : Arrival) (is : IsArrival w number a) where
   arrives : {K X : Type 0} (run : RunOf K X) → IsSentIn run w is.flying.index is.flight is.flying.handed →
-      IsSomeAnd (slice_get (flights_of (run.steps w)) a.index) (λ f. All (Contains f.versions) (run.state.versions_in (carries is.flight.frame)))
+      IsSomeAnd (slice_get (flights_of (run.steps w)) a.index) (λ f. All (Contains f.versions) (run.state.versions_in (carries Drop is.flight.frame)))
   arrives run sent_in =
-      let versions = run.state.versions_in (carries is.flight.frame) in
+      let versions = run.state.versions_in (carries Drop is.flight.frame) in
       some_and (slice_get (flights_of (run.steps w)) a.index) _ (λ f. All (Contains f.versions) versions)
       (ap (slice_get (flights_of (run.steps w))) is.index_is ∙ sent_there run.state (length w.replicas) (run.steps w) is.flying.index is.flight is.flying.handed sent_in)
       (All-contains_itself versions)
@@ -72,15 +75,17 @@ module _ (w : World) (number : ℕ) (a : Arrival) (is : IsArrival w number a) wh
     pub copy_is : event ≡ events.Frame is.flight.sender is.flight.frame
     copy_is = copied is.flight is.there ∙ ap (λ s. events.Frame s is.flight.frame) is.sender_is
 
-    pub silences_from : (now : ℕ) → HasSource silence_state (length w.replicas) w.silences now event (Arrived a.index)
-    silences_from now = subst (λ e. HasSource silence_state (length w.replicas) w.silences now e (Arrived a.index)) (sym copy_is) (arrives silence_run is.flying.silences)
+    pub silences_from : (now : ℕ) → HasSource silence_state Drop (length w.replicas) w.silences now event (Arrived a.index)
+    silences_from now = subst (λ e. HasSource silence_state Drop (length w.replicas) w.silences now e (Arrived a.index)) (sym copy_is) (arrives silence_run is.flying.silences)
 
-    pub log_from : (now : ℕ) → HasSource log_state (length w.replicas) w.log now event (Arrived a.index)
-    log_from now = subst (λ e. HasSource log_state (length w.replicas) w.log now e (Arrived a.index)) (sym copy_is) (arrives log_run is.flying.log)
+    pub log_from : (now : ℕ) → HasSource log_state Drop (length w.replicas) w.log now event (Arrived a.index)
+    log_from now = subst (λ e. HasSource log_state Drop (length w.replicas) w.log now e (Arrived a.index)) (sym copy_is) (arrives log_run is.flying.log)
 
     pub arrives_at : (now : ℕ) → OfMember w a.place (λ replica. event_refusal (is_peer replica.stand.config a.sender) replica now ≡ None) → OfMember w a.place (λ replica. CanHave replica event now)
     arrives_at now none replica found = subst (λ e. CanHave replica e now) (sym copy_is)
-        (can_have now replica (events.Frame is.flight.sender is.flight.frame) (ap (option_map frame_fault) is.flying.sound)
+        (can_have now replica (events.Frame is.flight.sender is.flight.frame)
+        (subst (λ u. option_map frame_fault (first_fault (rows_in u (parts_of is.flight.frame))) ≡ None)
+        (sym (is.unknown replica (subst (λ p. replica_at w p ≡ Some replica) is.place_is found))) (ap (option_map frame_fault) is.flying.sound))
         (subst (λ s. event_refusal (is_peer replica.stand.config s) replica now ≡ None) is.sender_is (none replica found)))
 
   -- the addressee is told by the place

@@ -1,6 +1,7 @@
 -- Every step and every settle extends both runs by steps of its moment, in its line, or leaves them as they are.
-use Rattle.std.proofs.Common.{◌≡◌, ◌⊎◌, inl, inr, ◌+◌, ◌∙◌, ℕ, List, [], ◌∷◌, ◌++◌, Option, Some, None, Result, Ok, Err, refl, sym, ap, length, map, append-nil, append_assoc, length-append}
-use Rattle.std.specs.Prelude.{All, MatchOption}
+use Rattle.am_wire.specs.declared.unknown.Unknown.TheVariants.{Drop}
+use Rattle.std.proofs.Common.{◌≡◌, inl, inr, ◌+◌, ◌∙◌, ℕ, List, [], ◌∷◌, ◌++◌, Option, Some, None, Result, Ok, Err, refl, sym, ap, length, map, append-nil, append_assoc, length-append}
+use Rattle.std.specs.Prelude.{All}
 use Rattle.std.proofs.lemmas.List.{length-map, map-append}
 use Rattle.std.proofs.lemmas.List.Elements.{All-append, All-cons, All-nil}
 use Rattle.am_silence.specs.Mesh.{Mesh}
@@ -107,7 +108,7 @@ mark_moment X errors.Memory place now = refl
 
 module _ (old new : World) (at line place : ℕ) (replica : Replica) (result : Result Reply ClusterError) where
   pub happened_extends : (e : Event) (source : Source) → HasHappened old place replica e source at line result new → Extends old new (Some at) line
-  happened_extends e source h = by_one (Some at) line old new (event_step silence_state place at source e h.answer h.frames) (event_step log_state place at source e h.answer h.frames)
+  happened_extends e source h = by_one (Some at) line old new (event_step silence_state Drop place at source e h.answer h.frames) (event_step log_state Drop place at source e h.answer h.frames)
       (ap (λ w. length w.replicas) h.world ∙ set_length old.replicas place _) (ap (λ w. w.silences) h.world) (ap (λ w. w.log) h.world) (ap (λ w. w.lines) h.world)
       (event_moment silence_state place at source e h.answer h.frames) (event_moment log_state place at source e h.answer h.frames)
 

@@ -1,10 +1,11 @@
 -- A cluster hangs together as steps go on.
+use Rattle.am_wire.specs.declared.unknown.Unknown.TheVariants.{Drop}
 use Rattle.std.proofs.Common.{◌≡◌, ◌≢◌, ◌⊎◌, inl, inr, ℕ, zero, suc, ◌+◌, ◌<◌, true, false, eqb, List, [], ◌∷◌, ◌++◌, Some, refl, sym, ap, ◌∙◌, subst, append_assoc, slice_get, length, set, arith}
 use Rattle.std.proofs.lemmas.Bool.Decides.{eqb_tells}
 use Rattle.std.proofs.lemmas.Grind.{flat_map-append}
 use Rattle.am_silence.specs.Mesh.{Mesh}
 use Rattle.am_nflog.specs.Mesh.{Mesh as LogMesh}
-use Rattle.am_instance.specs.InstanceStates.{kept_silences, kept_log}
+use Rattle.am_instance.specs.InstanceStates.{HoldsWhole, kept_silences, kept_log}
 use Rattle.am_runs.specs.Steps.{RunStep, flights_by, flights_of, is_at}
 use Rattle.am_runs.specs.Members.{Member, stepped, member_of}
 use Rattle.am_steps.specs.BothStates.{StateOf, log_state, silence_state}
@@ -12,7 +13,7 @@ use Rattle.am_steps.specs.Contents.{carries}
 use Rattle.am_steps.specs.Recorded.{HasGoneThrough}
 use Rattle.am_cluster.specs.declared.flight.Flight.{Flight}
 use Rattle.am_cluster.specs.Worlds.{Replica, World, replica_at, with_replica, written}
-use Rattle.am_cluster.specs.Ties.{IsTied, IsMember, IsFlying, IsWorld, WasHandedOut, WasSent, names_of}
+use Rattle.am_cluster.specs.Ties.{IsTied, IsMember, IsFlying, IsWorld, WasHandedOut, WasSent, names_of, saved_stand}
 use Rattle.am_cluster.proofs.Places.{got_before, got_set, got_other, set_length, some_is}
 use Rattle.am_cluster.proofs.Tied.{tied_elsewhere, tied_idle}
 
@@ -23,7 +24,7 @@ got_behind (x ∷ xs) ys n y e = let more : length (x ∷ xs) + n ≡ suc (lengt
 
 -- a frame that was sent stands at its place among all that were
 pub sent_there : {K X : Type 0} (state : StateOf K X) (members : ℕ) (steps : List (RunStep X)) (index : ℕ) (flight : Flight) (handed : WasHandedOut flight) → WasSent state members steps index flight handed →
-    slice_get (flights_of steps) index ≡ Some (record { sent = flight.sent; versions = state.versions_in (carries flight.frame) })
+    slice_get (flights_of steps) index ≡ Some (record { sent = flight.sent; versions = state.versions_in (carries Drop flight.frame) })
 sent_there state members steps index flight handed was =
     ap (λ ss. slice_get (flights_of ss) index) was.parts
     ∙ (ap (λ fs. slice_get fs index) (flat_map-append flights_by was.before (was.step ∷ was.rest))
@@ -85,14 +86,17 @@ module _ (old : World) (place : ℕ) (was will : Replica) (s : RunStep Mesh) (l 
     place = is.place;
     members = is.members ∙ sym same_length;
     names = is.names ∙ sym names;
+    unknown = is.unknown;
+    whole = is.whole;
+    saved_whole = is.saved_whole;
   }
 
   pub goes_on_at : IsWorld old → replica_at old place ≡ Some was →
       ((q : ℕ) → place ≢ q → is_at q s ≡ false) → ((q : ℕ) → place ≢ q → is_at q l ≡ false) →
       IsTied silence_state (member_of (length old.replicas) place (old.silences ++ s ∷ [])) will.runs (kept_silences will.stand) will.saved_silences →
       IsTied log_state (member_of (length old.replicas) place (old.log ++ l ∷ [])) will.runs (kept_log will.stand) will.saved_log →
-      will.stand.config ≡ was.stand.config → IsWorld changed_at
-  goes_on_at is found not_s not_l silences log config = record {
+      will.stand.config ≡ was.stand.config → HoldsWhole will.stand → HoldsWhole (saved_stand will) → IsWorld changed_at
+  goes_on_at is found not_s not_l silences log config whole saved_whole = record {
     members = λ q replica there. member q replica there (eqb_tells place q);
     flights = λ flight there. still_flying old s l line (set old.replicas place will) flight same_length (is.flights flight there);
     numbers = is.numbers;
@@ -107,6 +111,9 @@ module _ (old : World) (place : ℕ) (was will : Replica) (s : RunStep Mesh) (l 
       place = ap (λ c. c.place) config ∙ (is.members place was found).place;
       members = ap (λ c. length c.members) config ∙ ((is.members place was found).members ∙ sym same_length);
       names = ap (λ c. c.members) config ∙ ((is.members place was found).names ∙ sym names);
+      unknown = ap (λ c. c.unknown) config ∙ (is.members place was found).unknown;
+      whole = whole;
+      saved_whole = saved_whole;
     }
 
     member : (q : ℕ) (replica : Replica) → replica_at changed_at q ≡ Some replica → ((eqb place q ≡ true) × (place ≡ q)) ⊎ ((eqb place q ≡ false) × (place ≢ q)) → IsMember changed_at q replica
@@ -127,6 +134,9 @@ module _ (old : World) (s : RunStep Mesh) (l : RunStep LogMesh) (line : ℕ) whe
       place = m.place;
       members = m.members;
       names = m.names;
+      unknown = m.unknown;
+      whole = m.whole;
+      saved_whole = m.saved_whole;
     };
     flights = λ flight there. still_flying old s l line old.replicas flight refl (is.flights flight there);
     numbers = is.numbers;

@@ -1,4 +1,5 @@
 -- A cluster hangs together after an event of a member.
+use Rattle.am_wire.specs.declared.unknown.Unknown.TheVariants.{Drop}
 use Rattle.std.proofs.Common.{◌≡◌, ◌⊎◌, inl, inr, ℕ, suc, ◌+◌, ◌<◌, ◌≤◌, Bool, true, false, cond, eqb, List, [], ◌∷◌, ◌++◌, Some, Result, Ok, Err, refl, sym, ap, ◌∙◌, subst, append-nil, slice_get, length, option_map, arith}
 use Rattle.std.specs.Prelude.{Contains, All}
 use Rattle.std.specs.List.{AllByRecursion}
@@ -12,6 +13,10 @@ use Rattle.am_instance.specs.declared.event.Event.{Event}
 use Rattle.am_refusals.specs.declared.error.StepError.{StepError}
 use Rattle.am_refusals.specs.declared.error.StepError.TheVariants.{Memory, MomentBack, UnknownPeer, Frame as FrameFault}
 use Rattle.am_instance.specs.declared.reply.Outcome.{Outcome}
+use Rattle.am_wire.specs.Unknown.{StaysWhole}
+use Rattle.am_silence.specs.Mesh.{without_unknown}
+use Rattle.am_nflog.specs.Mesh.{without_unknown as entry_without_unknown}
+use Rattle.am_instance.specs.Configs.{Settings}
 use Rattle.am_instance.specs.InstanceStates.{InstanceState}
 use Rattle.am_instance.specs.Steps.{collects, delivers}
 use Rattle.am_instance.specs.OneStep.{IsStep}
@@ -63,9 +68,9 @@ got_of_all P xs n x all there = All-contains P xs x all (n, slice_get_within xs 
 
 -- so far as it sends something it is a step of the member at the place
 sends_own : {K X : Type 0} (state : StateOf K X) (place now : ℕ) (source : Source) (event : Event) (answer : Result Outcome StepError) (frames : List (ℕ × Frame)) (nth : ℕ) (f : ℕ × Frame) →
-    AreInFlight answer frames → slice_get frames nth ≡ Some f → is_at place (event_step state place now source event answer frames) ≡ true
+    AreInFlight answer frames → slice_get frames nth ≡ Some f → is_at place (event_step state Drop place now source event answer frames) ≡ true
 sends_own state place now source event (Ok outcome) frames nth f flying there = by (collects event) where
-  by : (collecting : Bool) → is_at place (cond collecting (Ticked place now) (Took place now source (state.versions_in (delivers event outcome.made)) (sent_in state frames))) ≡ true
+  by : (collecting : Bool) → is_at place (cond collecting (Ticked place now) (Took place now source (state.versions_in (delivers Drop event outcome.made)) (sent_in state Drop frames))) ≡ true
   by true = own_place place
   by false = own_place place
 sends_own state place now source event (Err e) frames nth f flying there = absurd (let none = ap (λ fs. slice_get fs nth) flying in cc)
@@ -110,9 +115,9 @@ pub record Sends {K X : Type 0} (run : RunOf K X) (w new : World) (place now : �
   pub parts : run.steps new ≡ run.steps w ++ step ∷ []
   pub members : length new.replicas ≡ length w.replicas
   pub stood : HasGoneThrough run.state (member_in run w place).past (run.state.kept hands.stand)
-  pub is : step ≡ event_step run.state place now hands.source hands.event hands.answer frames
+  pub is : step ≡ event_step run.state Drop place now hands.source hands.event hands.answer frames
   pub own : (nth : ℕ) (frame : ℕ × Frame) → slice_get frames nth ≡ Some frame → is_at place step ≡ true
-  pub flights : flights_by step ≡ flights_in run.state now frames
+  pub flights : flights_by step ≡ flights_in run.state Drop now frames
 
 -- in one of the runs, what is sent now is sent behind what was sent before
 sent_behind : {K X : Type 0} (run : RunOf K X) (w new : World) (place now count nth : ℕ) (frames : List (ℕ × Frame)) (frame : ℕ × Frame) (hands : HandsOut place now frames) →
@@ -129,12 +134,12 @@ sent_behind run w new place now count nth frames frame hands sends same there = 
   is =
       let found = answered_with hands.answer frames nth frame hands.flying there in
       sends.is
-      ∙ (ap (λ a. event_step run.state place now hands.source hands.event a frames) found.1
-      ∙ ap (λ fs. event_step run.state place now hands.source hands.event (Ok found.0) fs) found.2);
+      ∙ (ap (λ a. event_step run.state Drop place now hands.source hands.event a frames) found.1
+      ∙ ap (λ fs. event_step run.state Drop place now hands.source hands.event (Ok found.0) fs) found.2);
   own = sends.own nth frame there;
   index_is = ap (λ n. n + nth) same;
   sent = ap (λ fs. slice_get fs nth) sends.flights
-      ∙ (slice_get-map (λ f. record { sent = now; versions = run.state.versions_in (carries f.1) }) frames nth ∙ ap (option_map (λ f. record { sent = now; versions = run.state.versions_in (carries f.1) })) there);
+      ∙ (slice_get-map (λ f. record { sent = now; versions = run.state.versions_in (carries Drop f.1) }) frames nth ∙ ap (option_map (λ f. record { sent = now; versions = run.state.versions_in (carries Drop f.1) })) there);
 }
 
 module _ (w new : World) (place now : ℕ) (frames : List (ℕ × Frame)) (hands : HandsOut place now frames) where
@@ -198,7 +203,7 @@ pub sent_world : (w new : World) (place now : ℕ) (frames : List (ℕ × Frame)
     length (flights_of w.silences) ≡ length (flights_of w.log) → length new.replicas ≡ length w.replicas → place < length w.replicas → All (CanFly (length w.replicas) place) frames →
     IsWorld (record new { flights = w.flights ++ sent_on (length (flights_of w.silences)) place now frames })
 sent_world w new place now frames hands was is kept silences log same members inside can = record {
-  members = λ q replica there. let m = is.members q replica there in record { silences = m.silences; log = m.log; place = m.place; members = m.members; names = m.names };
+  members = λ q replica there. let m = is.members q replica there in record { silences = m.silences; log = m.log; place = m.place; members = m.members; names = m.names; unknown = m.unknown; whole = m.whole; saved_whole = m.saved_whole };
   flights = λ flight within. again flight (one flight (Contains-append_cases w.flights (sent_on (length (flights_of w.silences)) place now frames) flight within));
   numbers =
       ascend_behind (length (flights_of w.silences)) w.flights _
@@ -215,34 +220,34 @@ sent_world w new place now frames hands was is kept silences log same members in
 -- ---- a member's own event
 
 module _ {K X : Type 0} (state : StateOf K X) (place now : ℕ) (source : Source) (event : Event) (frames : List (ℕ × Frame)) where
-  runs_kept_by : (m : Member X) (collecting : Bool) (vs : List X) → (stepped m (cond collecting (Ticked place now) (Took place now source vs (sent_in state frames)))).runs ≡ m.runs
+  runs_kept_by : (m : Member X) (collecting : Bool) (vs : List X) → (stepped m (cond collecting (Ticked place now) (Took place now source vs (sent_in state Drop frames)))).runs ≡ m.runs
   runs_kept_by m true vs = refl
   runs_kept_by m false vs = refl
 
-  saved_kept_by : (m : Member X) (collecting : Bool) (vs : List X) → (stepped m (cond collecting (Ticked place now) (Took place now source vs (sent_in state frames)))).saved ≡ m.saved
+  saved_kept_by : (m : Member X) (collecting : Bool) (vs : List X) → (stepped m (cond collecting (Ticked place now) (Took place now source vs (sent_in state Drop frames)))).saved ≡ m.saved
   saved_kept_by m true vs = refl
   saved_kept_by m false vs = refl
 
-  pub runs_kept : (m : Member X) (answer : Result Outcome StepError) → (stepped m (event_step state place now source event answer frames)).runs ≡ m.runs
-  runs_kept m (Ok outcome) = runs_kept_by m (collects event) (state.versions_in (delivers event outcome.made))
+  pub runs_kept : (m : Member X) (answer : Result Outcome StepError) → (stepped m (event_step state Drop place now source event answer frames)).runs ≡ m.runs
+  runs_kept m (Ok outcome) = runs_kept_by m (collects event) (state.versions_in (delivers Drop event outcome.made))
   runs_kept m (Err (Memory taken)) = refl
   runs_kept m (Err (MomentBack last)) = refl
   runs_kept m (Err UnknownPeer) = refl
   runs_kept m (Err (FrameFault fault)) = refl
 
-  pub saved_kept : (m : Member X) (answer : Result Outcome StepError) → (stepped m (event_step state place now source event answer frames)).saved ≡ m.saved
-  saved_kept m (Ok outcome) = saved_kept_by m (collects event) (state.versions_in (delivers event outcome.made))
+  pub saved_kept : (m : Member X) (answer : Result Outcome StepError) → (stepped m (event_step state Drop place now source event answer frames)).saved ≡ m.saved
+  saved_kept m (Ok outcome) = saved_kept_by m (collects event) (state.versions_in (delivers Drop event outcome.made))
   saved_kept m (Err (Memory taken)) = refl
   saved_kept m (Err (MomentBack last)) = refl
   saved_kept m (Err UnknownPeer) = refl
   saved_kept m (Err (FrameFault fault)) = refl
 
-  not_at_by : (q : ℕ) → eqb place q ≡ false → (collecting : Bool) (vs : List X) → is_at q (cond collecting (Ticked place now) (Took place now source vs (sent_in state frames))) ≡ false
+  not_at_by : (q : ℕ) → eqb place q ≡ false → (collecting : Bool) (vs : List X) → is_at q (cond collecting (Ticked place now) (Took place now source vs (sent_in state Drop frames))) ≡ false
   not_at_by q apart true vs = apart
   not_at_by q apart false vs = apart
 
-  pub not_at : (q : ℕ) → eqb place q ≡ false → (answer : Result Outcome StepError) → is_at q (event_step state place now source event answer frames) ≡ false
-  not_at q apart (Ok outcome) = not_at_by q apart (collects event) (state.versions_in (delivers event outcome.made))
+  pub not_at : (q : ℕ) → eqb place q ≡ false → (answer : Result Outcome StepError) → is_at q (event_step state Drop place now source event answer frames) ≡ false
+  not_at q apart (Ok outcome) = not_at_by q apart (collects event) (state.versions_in (delivers Drop event outcome.made))
   not_at q apart (Err (Memory taken)) = apart
   not_at q apart (Err (MomentBack last)) = apart
   not_at q apart (Err UnknownPeer) = refl
@@ -251,10 +256,10 @@ module _ {K X : Type 0} (state : StateOf K X) (place now : ℕ) (source : Source
   -- the state of the member after it, where the map has gone on
   tied_after : (members : ℕ) (before : List (RunStep X)) (runs : Bool) (old new : Kept X) (saved : List X) (answer : Result Outcome StepError) →
       IsTied state (member_of members place before) runs old saved →
-      HasGoneThrough state (stepped (member_of members place before) (event_step state place now source event answer frames)).past new →
-      IsTied state (member_of members place (before ++ event_step state place now source event answer frames ∷ [])) runs new saved
+      HasGoneThrough state (stepped (member_of members place before) (event_step state Drop place now source event answer frames)).past new →
+      IsTied state (member_of members place (before ++ event_step state Drop place now source event answer frames ∷ [])) runs new saved
   tied_after members before runs old new saved answer tied gone =
-      subst (λ m. IsTied state m runs new saved) (sym (own_member_changes state members place now source before event answer frames)) (record {
+      subst (λ m. IsTied state m runs new saved) (sym (own_member_changes state Drop members place now source before event answer frames)) (record {
         runs = runs_kept (member_of members place before) answer ∙ tied.runs;
         held = gone;
         saved = λ key. tied.saved key ∙ ap (λ m. map_of state.seen state.cmp m key) (sym (saved_kept (member_of members place before) answer));
@@ -262,40 +267,49 @@ module _ {K X : Type 0} (state : StateOf K X) (place now : ℕ) (source : Source
 
 module _ (w : World) (place : ℕ) (r : Replica) (stand : InstanceState) (event : Event) (source : Source) (now line : ℕ) (answer : Result Outcome StepError) (frames : List (ℕ × Frame)) where
   abbrev pub after_event : World
-  after_event = written (with_replica w place (with_stand r stand)) (event_step silence_state place now source event answer frames) (event_step log_state place now source event answer frames) line
+  after_event = written (with_replica w place (with_stand r stand)) (event_step silence_state Drop place now source event answer frames) (event_step log_state Drop place now source event answer frames) line
 
   -- the member in one of the runs
-  tied_next : {K X : Type 0} (run : RunOf K X) → IsStateOf run.state → IsTiedIn run w place r → IsStep r.stand event now answer stand →
-      IsTied run.state (member_of (length w.replicas) place (run.steps w ++ event_step run.state place now source event answer frames ∷ [])) r.runs (run.state.kept stand) (run.saved r)
-  tied_next run facts tied step =
+  tied_next : {K X : Type 0} (run : RunOf K X) → IsStateOf run.state → r.stand.config.unknown ≡ Drop → IsTiedIn run w place r → IsStep r.stand event now answer stand →
+      IsTied run.state (member_of (length w.replicas) place (run.steps w ++ event_step run.state Drop place now source event answer frames ∷ [])) r.runs (run.state.kept stand) (run.saved r)
+  tied_next run facts drops tied step =
       tied_after run.state place now source event frames (length w.replicas) (run.steps w) r.runs (run.state.kept r.stand) (run.state.kept stand) (run.saved r) answer tied
-      (members_go_on facts (member_in run w place) place now source r.stand stand event answer frames tied.held step)
+      (subst (λ u. HasGoneThrough run.state (stepped (member_in run w place) (event_step run.state u place now source event answer frames)).past (run.state.kept stand)) drops
+      (members_go_on facts (member_in run w place) place now source r.stand stand event answer frames tied.held step))
 
   -- the cluster after it, but for the frames that fly now
   world_stepped : IsWorld w → replica_at w place ≡ Some r → IsStep r.stand event now answer stand → IsWorld after_event
   world_stepped is found step =
-      goes_on_at w place r (with_stand r stand) (event_step silence_state place now source event answer frames) (event_step log_state place now source event answer frames) line is found
+      goes_on_at w place r (with_stand r stand) (event_step silence_state Drop place now source event answer frames) (event_step log_state Drop place now source event answer frames) line is found
       (λ q apart. not_at silence_state place now source event frames q (elsewhere place q apart) answer)
       (λ q apart. not_at log_state place now source event frames q (elsewhere place q apart) answer)
-      (tied_next silence_run of_silences (is.members place r found).silences step)
-      (tied_next log_run of_log (is.members place r found).log step)
+      (tied_next silence_run of_silences (is.members place r found).unknown (is.members place r found).silences step)
+      (tied_next log_run of_log (is.members place r found).unknown (is.members place r found).log step)
       step.config
+      (step.kept (is.members place r found).whole)
+      (record {
+        silences = subst (λ (c : Settings). All (StaysWhole without_unknown c.unknown) r.saved_silences) (sym step.config) (is.members place r found).saved_whole.silences;
+        log = subst (λ (c : Settings). All (StaysWhole entry_without_unknown c.unknown) r.saved_log) (sym step.config) (is.members place r found).saved_whole.log;
+      })
 
   -- what it sends
   hands_now : IsStep r.stand event now answer stand → r.stand.config.place ≡ place → AreInFlight answer frames → HandsOut place now frames
   hands_now step own flying = record { stand = r.stand; event = event; source = source; answer = answer; after = stand; step = step; own_place = own; flying = flying }
 
-  sends_now : {K X : Type 0} (run : RunOf K X) (new : World) → run.steps new ≡ run.steps w ++ event_step run.state place now source event answer frames ∷ [] → (step : IsStep r.stand event now answer stand) →
-      (own : r.stand.config.place ≡ place) (flying : AreInFlight answer frames) → length new.replicas ≡ length w.replicas → IsTiedIn run w place r → Sends run w new place now frames (hands_now step own flying)
+  sends_now : {K X : Type 0} (run : RunOf K X) (new : World) → run.steps new ≡ run.steps w ++ event_step run.state Drop place now source event answer frames ∷ [] → (step : IsStep r.stand event now answer stand) →
+      (own : r.stand.config.place ≡ place) (flying : AreInFlight answer frames) → length new.replicas ≡ length w.replicas → r.stand.config.unknown ≡ Drop → IsTiedIn run w place r →
+      Sends run w new place now frames (hands_now step own flying)
   unfolding hands_now
-  sends_now run new parts step own flying members tied = record {
-    step = event_step run.state place now source event answer frames;
+  sends_now run new parts step own flying members drops tied = record {
+    step = event_step run.state Drop place now source event answer frames;
     parts = parts;
     members = members;
     stood = tied.held;
     is = refl;
     own = λ nth frame there. sends_own run.state place now source event answer frames nth frame flying there;
-    flights = sym (append-nil (flights_by (event_step run.state place now source event answer frames))) ∙ frames_are_flights run.state place now [] source r.stand stand event answer frames step flying;
+    flights = sym (append-nil (flights_by (event_step run.state Drop place now source event answer frames)))
+        ∙ subst (λ u. flights_of (event_step run.state u place now source event answer frames ∷ []) ≡ flights_in run.state u now frames) drops
+        (frames_are_flights run.state place now [] source r.stand stand event answer frames step flying);
   }
 
   -- and with them
@@ -304,7 +318,8 @@ module _ (w : World) (place : ℕ) (r : Replica) (stand : InstanceState) (event 
       IsWorld (record after_event { flights = w.flights ++ sent_on (length (flights_of w.silences)) place now frames })
   world_happened is found step flying same can =
       let own = (is.members place r found).place in
+      let drops = (is.members place r found).unknown in
       let members = set_length w.replicas place (with_stand r stand) in
       sent_world w after_event place now frames (hands_now step own flying) is (world_stepped is found step) refl
-      (sends_now silence_run after_event refl step own flying members (is.members place r found).silences) (sends_now log_run after_event refl step own flying members (is.members place r found).log)
+      (sends_now silence_run after_event refl step own flying members drops (is.members place r found).silences) (sends_now log_run after_event refl step own flying members drops (is.members place r found).log)
       same (set_length w.replicas place (with_stand r stand)) (slice_get_within w.replicas place r found) can

@@ -42,19 +42,21 @@ module _ (w : World) (place : ℕ) (r : Replica) (line : ℕ) (is : IsWorld w) (
   world_saved = goes_on_at w place r (saved r) (Saved place) (Saved place) line is found (elsewhere place) (elsewhere place)
       (tied_here silence_state (length w.replicas) place w.silences (Saved place) r.runs (kept_silences r.stand) r.stand.silences (own_place place) (tied_saved silence_state _ place 0 r.runs (kept_silences r.stand) r.saved_silences silences_tied))
       (tied_here log_state (length w.replicas) place w.log (Saved place) r.runs (kept_log r.stand) r.stand.log (own_place place) (tied_saved log_state _ place 0 r.runs (kept_log r.stand) r.saved_log log_tied))
-      refl
+      refl (is.members place r found).whole (record { silences = (is.members place r found).whole.silences; log = (is.members place r found).whole.log })
 
   pub world_stopped : IsWorld (written (with_replica w place (stopped r)) (Stopped place) (Stopped place) line)
   world_stopped = goes_on_at w place r (stopped r) (Stopped place) (Stopped place) line is found (elsewhere place) (elsewhere place)
       (tied_here silence_state (length w.replicas) place w.silences (Stopped place) false (kept_silences r.stand) r.saved_silences (own_place place) (tied_stopped silence_state _ place 0 r.runs (kept_silences r.stand) r.saved_silences silences_tied))
       (tied_here log_state (length w.replicas) place w.log (Stopped place) false (kept_log r.stand) r.saved_log (own_place place) (tied_stopped log_state _ place 0 r.runs (kept_log r.stand) r.saved_log log_tied))
-      refl
+      refl (is.members place r found).whole (is.members place r found).saved_whole
 
   pub world_started : (now : ℕ) → IsWorld (written (with_replica w place (started r now)) (Started place now) (Started place now) line)
   world_started now = goes_on_at w place r (started r now) (Started place now) (Started place now) line is found (elsewhere place) (elsewhere place)
       (tied_here silence_state (length w.replicas) place w.silences (Started place now) true _ r.saved_silences (own_place place) (tied_started silence_state _ place now r.runs (kept_silences r.stand) r.saved_silences silences_tied))
       (tied_here log_state (length w.replicas) place w.log (Started place now) true _ r.saved_log (own_place place) (tied_started log_state _ place now r.runs (kept_log r.stand) r.saved_log log_tied))
       refl
+      (record { silences = (is.members place r found).saved_whole.silences; log = (is.members place r found).saved_whole.log })
+      (record { silences = (is.members place r found).saved_whole.silences; log = (is.members place r found).saved_whole.log })
 
 pub same_world : (rs others : List Replica) (ss ss2 : List (RunStep Mesh)) (ls ls2 : List (RunStep LogMesh)) (ns ns2 : List ℕ) (fs : List Flight) (m m2 : ℕ) →
     rs ≡ others → ss ≡ ss2 → ls ≡ ls2 → ns ≡ ns2 → m ≡ m2 →
@@ -123,7 +125,7 @@ told_not a b t is fails = let told : is_lt (nat_cmp a b) ≡ false = sym is ∙ 
 -- room changes nothing else of a cluster
 pub roomy_world : (w : World) (n : ℕ) → IsWorld w → IsWorld (record w { room = n })
 roomy_world w n is = record {
-  members = λ q replica there. let m = is.members q replica there in record { silences = m.silences; log = m.log; place = m.place; members = m.members; names = m.names };
+  members = λ q replica there. let m = is.members q replica there in record { silences = m.silences; log = m.log; place = m.place; members = m.members; names = m.names; unknown = m.unknown; whole = m.whole; saved_whole = m.saved_whole };
   flights = λ flight there. let f = is.flights flight there in record {
     index = f.index;
     number = f.number;

@@ -82,7 +82,7 @@ module _ (w : World) (is : IsWorld w) (before : List Flight) (f : Flight) (after
 
   pub world_lost : IsWorld rest
   world_lost = record {
-    members = λ q replica there. let m = is.members q replica there in record { silences = m.silences; log = m.log; place = m.place; members = m.members; names = m.names };
+    members = λ q replica there. let m = is.members q replica there in record { silences = m.silences; log = m.log; place = m.place; members = m.members; names = m.names; unknown = m.unknown; whole = m.whole; saved_whole = m.saved_whole };
     flights = λ flight there. let one = is.flights flight (subst (λ fs. Contains fs flight) (sym parts) (flew_before before f after flight there)) in record {
       index = one.index;
       number = one.number;

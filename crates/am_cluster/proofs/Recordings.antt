@@ -1,5 +1,6 @@
 -- What is known of an answer is what writing it down asks for.
-use Rattle.std.proofs.Common.{◌≡◌, ◌⊎◌, inl, inr, ℕ, Bool, true, false, cond, List, [], ◌∷◌, ◌++◌, Option, Some, None, Result, Ok, Err, append-nil, refl, sym, ap, ◌∙◌, subst, length, map, take}
+use Rattle.am_wire.specs.declared.unknown.Unknown.TheVariants.{Drop}
+use Rattle.std.proofs.Common.{◌≡◌, ◌⊎◌, inl, inr, ℕ, Bool, true, false, cond, List, [], ◌∷◌, ◌++◌, Result, Ok, Err, append-nil, refl, sym, ap, ◌∙◌, subst, map, take}
 use Rattle.am_gossip.specs.declared.frame.Frame.{Frame}
 use Rattle.am_instance.specs.declared.event.Event.{Event}
 use Rattle.am_instance.specs.declared.event.Event.TheVariants as events
@@ -57,23 +58,23 @@ module _ (account : Account) (entry : Entry) (event : Event) where
   pub can_tick : (outcome : Outcome) → CanRecord account entry event (Ok outcome) → kind_of event ≡ kinds.Collects →
       IsPossibleForSilences account.members account.silences (Ticked entry.place entry.moment)
   can_tick outcome can kind =
-      subst (λ b. IsPossibleForSilences account.members account.silences (cond b (Ticked entry.place entry.moment) (Took entry.place entry.moment entry.source (silences_in (delivers event outcome.made)) [])))
+      subst (λ b. IsPossibleForSilences account.members account.silences (cond b (Ticked entry.place entry.moment) (Took entry.place entry.moment entry.source (silences_in (delivers Drop event outcome.made)) [])))
       (kind_collects event kind) (can.silences [] (inr refl))
 
   pub can_send : (outcome : Outcome) (delivered : Delivered) (frames : List (ℕ × Frame)) → CanRecord account entry event (Ok outcome) → collects event ≡ false → AreDelivered event outcome.made delivered → AreInFlight (Ok outcome) frames → CanWrite account entry delivered frames
   can_send outcome delivered frames can kind are flying = record {
     room_for_it = can.room_for_it;
     silences =
-        subst (λ vs. IsPossibleForSilences account.members account.silences (Took entry.place entry.moment entry.source vs (sent_in silence_state frames))) (sym are.silences)
-        (subst (λ b. IsPossibleForSilences account.members account.silences (cond b (Ticked entry.place entry.moment) (Took entry.place entry.moment entry.source (silences_in (delivers event outcome.made)) (sent_in silence_state frames))))
+        subst (λ vs. IsPossibleForSilences account.members account.silences (Took entry.place entry.moment entry.source vs (sent_in silence_state Drop frames))) (sym are.silences)
+        (subst (λ b. IsPossibleForSilences account.members account.silences (cond b (Ticked entry.place entry.moment) (Took entry.place entry.moment entry.source (silences_in (delivers Drop event outcome.made)) (sent_in silence_state Drop frames))))
         kind (can.silences frames flying));
     log =
-        subst (λ vs. IsPossibleForLog account.members account.log (Took entry.place entry.moment entry.source vs (sent_in log_state frames))) (sym are.log)
-        (subst (λ b. IsPossibleForLog account.members account.log (cond b (Ticked entry.place entry.moment) (Took entry.place entry.moment entry.source (entries_in (delivers event outcome.made)) (sent_in log_state frames))))
+        subst (λ vs. IsPossibleForLog account.members account.log (Took entry.place entry.moment entry.source vs (sent_in log_state Drop frames))) (sym are.log)
+        (subst (λ b. IsPossibleForLog account.members account.log (cond b (Ticked entry.place entry.moment) (Took entry.place entry.moment entry.source (entries_in (delivers Drop event outcome.made)) (sent_in log_state Drop frames))))
         kind (can.log frames flying));
   }
 
-  pub can_stop : (versions : List AnyVersion) (taken : ℕ) (delivered : Delivered) → CanRecord account entry event (Err (Memory taken)) → map delivery_of versions ≡ brought event →
+  pub can_stop : (versions : List AnyVersion) (taken : ℕ) (delivered : Delivered) → CanRecord account entry event (Err (Memory taken)) → map delivery_of versions ≡ brought Drop event →
       delivered.silences.items ≡ silences_in (take taken (map delivery_of versions)) → delivered.log.items ≡ entries_in (take taken (map delivery_of versions)) → CanWrite account entry delivered []
   can_stop versions taken delivered can came silences log = record {
     room_for_it = can.room_for_it;
@@ -95,10 +96,10 @@ recorded_alone old new flights after entry event outcome delivered result other 
   members = written.members;
   silences = written.silences ∙ ap (λ s. old.silences ++ s ∷ [])
       (ap (λ vs. Took entry.place entry.moment entry.source vs []) are.silences
-      ∙ ap (λ b. cond b (Ticked entry.place entry.moment) (Took entry.place entry.moment entry.source (silences_in (delivers event outcome.made)) [])) (sym other));
+      ∙ ap (λ b. cond b (Ticked entry.place entry.moment) (Took entry.place entry.moment entry.source (silences_in (delivers Drop event outcome.made)) [])) (sym other));
   log = written.log ∙ ap (λ s. old.log ++ s ∷ [])
       (ap (λ vs. Took entry.place entry.moment entry.source vs []) are.log
-      ∙ ap (λ b. cond b (Ticked entry.place entry.moment) (Took entry.place entry.moment entry.source (entries_in (delivers event outcome.made)) [])) (sym other));
+      ∙ ap (λ b. cond b (Ticked entry.place entry.moment) (Took entry.place entry.moment entry.source (entries_in (delivers Drop event outcome.made)) [])) (sym other));
   lines = written.lines;
   room = written.room;
   flights_are = same ∙ sym (append-nil flights);

@@ -1,4 +1,5 @@
 -- What a settle leaves: the join of what all members held that was live, everywhere.
+use Rattle.am_wire.specs.declared.unknown.Unknown.TheVariants.{Drop}
 use Rattle.std.proofs.Common.{◌≡◌, ◌≢◌, ◌⊎◌, inl, inr, ℕ, zero, suc, ◌+◌, ◌-◌, ◌<◌, ◌≤◌, Bool, true, false, cond, eqb, List, [], ◌∷◌, ◌++◌, Option, Some, None, Result, Ok, Err, refl, sym, ap, ◌∙◌, subst, slice_get, length, map, set, arith, append-nil}
 use Rattle.std.specs.Prelude.{All, OnOk}
 use Rattle.std.specs.List.{range_with_len}
@@ -251,10 +252,10 @@ swept_told source before after now (Err (Memory taken)) frames reply step told =
 swept_told source before after now (Err (FrameFault fault)) frames reply step told = absurd told
 
 -- what comes with the maps of another is those maps
-lent_whole : (lender now : ℕ) (before lent : InstanceState) (outcome : Outcome) (after : InstanceState) → CanLend lent → IsStep before (loan lender lent) now (Ok outcome) after → delivers (loan lender lent) outcome.made ≡ held_in lent.silences lent.log
+lent_whole : (lender now : ℕ) (before lent : InstanceState) (outcome : Outcome) (after : InstanceState) → CanLend lent → IsStep before (loan lender lent) now (Ok outcome) after → delivers before.config.unknown (loan lender lent) outcome.made ≡ held_in lent.silences lent.log
 lent_whole lender now before lent outcome after can step =
-    ap (λ ds. brought (loan lender lent) ++ ds) (frame_makes_nothing outcome.made step.reply.1)
-    ∙ (append-nil (brought (loan lender lent)) ∙ whole_carries lent.silences lent.log can.silences can.log)
+    ap (λ ds. brought before.config.unknown (loan lender lent) ++ ds) (frame_makes_nothing outcome.made step.reply.1)
+    ∙ (append-nil (brought before.config.unknown (loan lender lent)) ∙ whole_carries before.config.unknown lent.silences lent.log (can.silences before.config.unknown) (can.log before.config.unknown))
 
 -- what a settle has to know of a state: what a sweep leaves of it, and that what is lent of it are values, told apart by what is seen
 record CanBeSettled {K X : Type 0} (state : StateOf K X) (is_value : X → Type 0) : Type 0 where
@@ -268,7 +269,7 @@ silences_settle = record {
   facts = of_silences;
   exact = silences_exact;
   sweep = λ now before after swept. swept.silences;
-  values = λ lent can k v within. (All-unmap IsReadable OfSilence lent.silences can.silences k v within).value;
+  values = λ lent can k v within. (All-unmap (IsReadable Drop) OfSilence lent.silences (can.silences Drop) k v within).value;
 }
 
 log_settle : CanBeSettled log_state IsLogMesh
@@ -276,7 +277,7 @@ log_settle = record {
   facts = of_log;
   exact = entries_exact;
   sweep = λ now before after swept. swept.log;
-  values = λ lent can k e within. (All-unmap IsReadable OfEntry lent.log can.log k e within).value;
+  values = λ lent can k e within. (All-unmap (IsReadable Drop) OfEntry lent.log (can.log Drop) k e within).value;
 }
 
 module _ {K X : Type 0} {state : StateOf K X} {is_value : X → Type 0} (can_be : CanBeSettled state is_value) where
@@ -288,7 +289,7 @@ module _ {K X : Type 0} {state : StateOf K X} {is_value : X → Type 0} (can_be 
       let held : K → Option X = at state.seen state.cmp (state.kept before).held in
       let came = ap state.versions_in (lent_whole lender now before lent outcome after can step) ∙ can_be.facts.parted lent in
       (can_be.facts.left before after (loan lender lent) now (Ok outcome) step).map key
-      ∙ (ap (λ f. f key) (can_be.facts.lift now held (delivers (loan lender lent) outcome.made))
+      ∙ (ap (λ f. f key) (can_be.facts.lift now held (delivers before.config.unknown (loan lender lent) outcome.made))
       ∙ (ap (λ vs. after_all state.seen state.cmp held (takings now vs) key) came
       ∙ taken_all state.seen state.cmp can_be.facts.keys held now (state.kept lent).held key (can_be.facts.maps lent can.maps)))
   lent_joined source lender now before lent after can (Err (MomentBack last)) frames reply step told key = absurd told

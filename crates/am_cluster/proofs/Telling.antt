@@ -1,4 +1,5 @@
 -- What came of an event at a member, for the cluster.
+use Rattle.am_wire.specs.declared.unknown.Unknown.TheVariants.{Drop}
 use Rattle.std.proofs.Common.{◌≡◌, inr, ℕ, ◌-◌, max, true, List, [], ◌∷◌, ◌++◌, Some, Result, sym, ap, ◌∙◌, subst, length, set}
 use Rattle.std.specs.Prelude.{All}
 use Rattle.am_silence.specs.Mesh.{Mesh}
@@ -53,8 +54,8 @@ module _ (w : World) (a : Account) (tells : Tells a w) (place now line : ℕ) (r
   abbrev Ready : ℕ → List (RunStep Mesh) → List (RunStep LogMesh) → Type 0
   Ready members silences log = CanHappen (record a { members = members; silences = silences; log = log }) entry event r.stand
 
-  pub can_act : r.runs ≡ true → HasSource silence_state (length w.replicas) w.silences now event source →
-      HasSource log_state (length w.replicas) w.log now event source → IsAccepted r.stand event now → CanHappen a entry event r.stand
+  pub can_act : r.runs ≡ true → HasSource silence_state Drop (length w.replicas) w.silences now event source →
+      HasSource log_state Drop (length w.replicas) w.log now event source → IsAccepted r.stand event now → CanHappen a entry event r.stand
   can_act runs from_silences from_log accepted =
       let m = is.members place r found in
       subst (λ n. Ready n a.silences a.log) (sym tells.members) (subst (λ ss. Ready (length w.replicas) ss a.log) (sym tells.silences) (subst (λ ls. Ready (length w.replicas) w.silences ls) (sym tells.log) (record {
@@ -63,19 +64,21 @@ module _ (w : World) (a : Account) (tells : Tells a w) (place now line : ℕ) (r
         accepted = accepted;
         own_place = m.place;
         all_members = m.members;
+        unknown = m.unknown;
+        whole = m.whole;
       })))
 
   module _ (result : Result Reply ClusterError) (new : Account) (after : List Flight) (stand : InstanceState) (acted : HasActed a w.flights entry event r.stand result new after stand) where
     abbrev pub event_world : World
     event_world =
         written (with_flights (with_replica w place (with_stand r stand)) place now acted.recorded.frames)
-        (event_step silence_state place now source event acted.answer acted.recorded.frames) (event_step log_state place now source event acted.answer acted.recorded.frames) line
+        (event_step silence_state Drop place now source event acted.answer acted.recorded.frames) (event_step log_state Drop place now source event acted.answer acted.recorded.frames) line
 
     -- what the journal, the frames in flight and the members are after it
     pub world_is : ◌≡◌ {A = World} (record { replicas = set w.replicas place (with_stand r stand); silences = new.silences; log = new.log; lines = new.lines; flights = after; room = new.room }) event_world
     world_is =
-        let one = acted.recorded.silences ∙ ap (λ ss. ss ++ event_step silence_state place now source event acted.answer acted.recorded.frames ∷ []) tells.silences in
-        let other = acted.recorded.log ∙ ap (λ ls. ls ++ event_step log_state place now source event acted.answer acted.recorded.frames ∷ []) tells.log in
+        let one = acted.recorded.silences ∙ ap (λ ss. ss ++ event_step silence_state Drop place now source event acted.answer acted.recorded.frames ∷ []) tells.silences in
+        let other = acted.recorded.log ∙ ap (λ ls. ls ++ event_step log_state Drop place now source event acted.answer acted.recorded.frames ∷ []) tells.log in
         let third = acted.recorded.lines ∙ ap (λ ns. ns ++ line ∷ []) tells.lines in
         let fourth = acted.recorded.flights_are ∙ ap (λ ss. w.flights ++ sent_on (length (flights_of ss)) place now acted.recorded.frames) tells.silences in
         let fifth = acted.recorded.room ∙ (ap (λ n. n - 1) tells.room ∙ room_spent w.room) in

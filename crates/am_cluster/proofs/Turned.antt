@@ -136,7 +136,7 @@ last_by before now true ds = refl
 last_by before now false ds = last_arrivals to_silences now ds
 
 last_is : (before after : InstanceState) (event : Event) (now : ℕ) (outcome : Outcome) → IsStep before event now (Ok outcome) after → after.last ≡ now
-last_is before after event now outcome step = step.silences.last ∙ last_by before.last now (collects event) (delivers event outcome.made)
+last_is before after event now outcome step = step.silences.last ∙ last_by before.last now (collects event) (delivers before.config.unknown event outcome.made)
 
 told_last : (source : Source) (before after : InstanceState) (event : Event) (now : ℕ) (answer : Result Outcome StepError) (frames : List (ℕ × Frame)) (reply : Reply) →
     IsStep before event now answer after → IsTold source answer frames (Ok reply) → after.last ≡ now

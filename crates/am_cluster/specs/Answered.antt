@@ -1,4 +1,4 @@
--- What an answered step was.
+-- The steps that were answered.
 use Rattle.std.specs.Prelude.{◌≡◌, ◌≤◌, ℕ, true, List, [], Option, Some, None}
 use Rattle.am_instance.specs.declared.event.Event.{Event}
 use Rattle.am_instance.specs.declared.reply.Made.{Made}
@@ -14,7 +14,7 @@ use Rattle.am_cluster.specs.Replicas.{GoesOnAt}
 use Rattle.am_cluster.specs.Steps.{place_in}
 use Rattle.am_cluster.specs.Worlds.{Replica, World, replica_at}
 
--- the moment of a step that has one
+-- the moment of a step, if it has one
 abbrev pub moment_of : Action → Option ℕ
 moment_of (actions.Event at name event) = Some at
 moment_of (actions.Deliver at frame) = Some at

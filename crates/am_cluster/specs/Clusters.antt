@@ -1,4 +1,4 @@
--- What holds of every cluster, whatever steps it made.
+-- Laws of every cluster, whatever steps it made.
 use Rattle.std.specs.Prelude.{◌≡◌, All, length}
 use Rattle.am_silence.specs.Mesh.{IsMesh}
 use Rattle.am_nflog.specs.Mesh.{IsMesh as IsLogMesh}

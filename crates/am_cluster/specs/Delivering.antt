@@ -1,5 +1,6 @@
--- How a frame in flight is delivered.
+-- The delivery of a frame in flight.
 use Rattle.std.specs.Prelude.{◌≡◌, ◌⊎◌, ℕ, ◌+◌, Some, Result, slice_get, Contains}
+use Rattle.am_wire.specs.declared.unknown.Unknown.TheVariants.{Drop}
 use Rattle.am_instance.specs.declared.event.Event.TheVariants as events
 use Rattle.am_instance.specs.declared.reply.Reply.{Reply}
 use Rattle.am_runs.specs.declared.step.Source.TheVariants.{Arrived}
@@ -11,12 +12,13 @@ use Rattle.am_cluster.specs.declared.error.ClusterError.TheVariants as errors
 use Rattle.am_cluster.specs.declared.flight.Flight.{Flight}
 use Rattle.am_cluster.specs.declared.journal.mark.Mark.TheVariants as marks
 use Rattle.am_cluster.specs.Doing.{IsDone}
+use Rattle.am_cluster.specs.Lives.{OfMember}
 use Rattle.am_cluster.specs.Losing.{IsNoNumber}
 use Rattle.am_cluster.specs.Refusals.{IsRefused}
 use Rattle.am_cluster.specs.Ties.{IsFlying}
 use Rattle.am_cluster.specs.Worlds.{Replica, World, replica_at}
 
--- a frame in flight of this number, as it is about to arrive
+-- the arrival is that of a frame in flight of this number, which is about to come to a member that drops unknown fields
 pub record IsArrival (world : World) (number : ℕ) (arrival : Arrival) : Type 0 where
   pub flight : Flight
   pub there : slice_get world.flights arrival.position ≡ Some flight
@@ -25,25 +27,26 @@ pub record IsArrival (world : World) (number : ℕ) (arrival : Arrival) : Type 0
   pub place_is : arrival.place ≡ flight.addressee
   pub sender_is : arrival.sender ≡ flight.sender
   pub index_is : arrival.index ≡ flying.index
+  pub unknown : OfMember world flight.addressee (λ replica. replica.stand.config.unknown ≡ Drop)
 
--- what the frame of this index asks of its addressee
+-- the step that the frame of this index asks of its addressee
 abbrev pub delivery : Flight → ℕ → Asked
 delivery flight index = asked.Event (events.Frame flight.sender flight.frame) (Arrived index)
 
 -- the frame of this number comes to its addressee, as an event there; it stays in flight
 pub record IsDelivered (old : World) (number now line : ℕ) (result : Result Reply ClusterError) (new : World) : Type 0 where
-  -- it is in flight
+  -- the frame is in flight
   pub flight : Flight
   pub there : Contains old.flights flight
   pub bears : flight.number ≡ number
-  -- it has this place among all that were ever sent
+  -- the frame has this place among all that were ever sent
   pub index : ℕ
   pub index_is : flight.number ≡ index + 1
-  -- what it brings is done at its addressee
+  -- what the frame brings is done at its addressee
   pub done : (replica : Replica) → replica_at old flight.addressee ≡ Some replica →
       IsDone old flight.addressee replica (delivery flight index) now line result new
 
--- what came of delivering the frame of a number: where none in flight has it the step is refused
+-- the frame of a number is delivered, or the step is refused if none in flight has the number
 abbrev pub IsDelivery : World → ℕ → ℕ → ℕ → Result Reply ClusterError → World → Type 0
 IsDelivery old number now line result new =
     (IsNoNumber old.flights number × IsRefused errors.NoFrame (marks.Refused now) old line result new)

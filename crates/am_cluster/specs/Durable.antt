@@ -8,7 +8,7 @@ use Rattle.am_runs.specs.Steps.{RunStep, EachStep, delivered_in, moment}
 use Rattle.am_runs.specs.Steps.RunStep.{Took, Ticked, Back, Refused, Saved, Stopped, Started}
 use Rattle.am_runs.specs.Timely.{HasCaughtUp, IsOnward, IsSwift}
 
--- a step starts a member
+-- whether a step starts a member
 abbrev pub starts : {X : Type 0} → ℕ → RunStep X → Bool
 starts q (Took place now source versions frames) = false
 starts q (Ticked place now) = false
@@ -18,7 +18,7 @@ starts q (Saved place) = false
 starts q (Stopped place) = false
 starts q (Started place now) = place == q
 
--- a step saves a member
+-- whether a step saves a member
 abbrev pub saves : {X : Type 0} → ℕ → RunStep X → Bool
 saves q (Took place now source versions frames) = false
 saves q (Ticked place now) = false
@@ -33,7 +33,7 @@ abbrev pub came_by : {X : Type 0} → ℕ → RunStep X → List X
 came_by q (Took place now source versions frames) = if place == q then versions else []
 came_by q _ = []
 
--- all that ever came to a member, whatever it lost since
+-- all versions that ever came to a member, whatever it has lost since
 abbrev pub came : {X : Type 0} → ℕ → List (RunStep X) → List X
 came q steps = flat_map (came_by q) steps
 
@@ -55,7 +55,7 @@ module _ {K X : Type 0} (seen : X → Version K) where
   abbrev pub IsSaved : ℕ → List (RunStep X) → Type 0
   IsSaved q steps = (v : X) (coming : CameLive q steps v) → list_any (saves q) coming.rest ≡ true
 
-  -- The member is durable: it is started only where it is so saved.
+  -- The member is durable: it is started only when it is saved like that.
   abbrev pub IsDurable : ℕ → List (RunStep X) → Type 0
   IsDurable q steps = EachStep steps (λ before step. starts q step ≡ true → IsSaved q before)
 
@@ -66,13 +66,13 @@ module _ {K X : Type 0} (seen : X → Version K) where
     pub same_key : (seen version).key ≡ (seen v).key
     pub not_below : is_below (seen version) (seen v) ≡ false
 
-  -- each version made a spread before this moment or earlier, or a greater one of its key, once came to every member that runs
+  -- each version made a spread before this moment or earlier, or a greater one of its key, has once come to every member that runs
   abbrev pub HaveCome : ℕ → ℕ → List X → List (RunStep X) → ℕ → Type 0
   HaveCome spread members all before now =
       (v : X) → Contains all v → (seen v).updated + spread ≤ now →
       (q : ℕ) → (member_of members q before).runs ≡ true → HasCaughtUp seen (came q before) v
 
-  -- The run keeps the spread and the flight time as if no start lost anything: what counts is that a version came, once.
+  -- The run keeps the spread and the flight time as if no start lost anything: it only counts that a version came once.
   pub record IsTimelyByWhatCame (spread flight members : ℕ) (steps : List (RunStep X)) : Type 0 where
     pub onward : EachStep steps IsOnward
     pub lasting : All (λ v. ((seen v).updated + spread) + flight ≤ (seen v).expires) (delivered_in steps)

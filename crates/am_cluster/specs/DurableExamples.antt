@@ -6,7 +6,7 @@ use Rattle.am_runs.specs.Examples.{spreading}
 use Rattle.am_runs.specs.Steps.{RunStep}
 use Rattle.am_runs.specs.Steps.RunStep.{Took, Saved, Stopped, Started}
 
--- the run `behind`, but that member 0 is saved when the version has come to it
+-- the run `behind`, except that member 0 is saved after the version has come to it
 abbrev pub saved_behind : List (RunStep (Version ℕ))
 saved_behind =
     Took 0 10 (Written 10) (spreading ∷ []) []

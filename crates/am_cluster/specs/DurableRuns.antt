@@ -1,4 +1,4 @@
--- What is said of durable members of a cluster.
+-- Laws of durable members of a cluster.
 use Rattle.std.specs.Prelude.{◌≡◌, ◌++◌, ℕ, List, Contains, length}
 use Rattle.am_silence.specs.Mesh.{Mesh, mesh_version}
 use Rattle.am_nflog.specs.Mesh.{Mesh as LogMesh, mesh_version as entry_version}
@@ -22,7 +22,7 @@ AreTimelyByWhatCame spread flight members silences log =
     IsTimelyByWhatCame mesh_version spread flight members silences × IsTimelyByWhatCame entry_version spread flight members log
 
 module _ {K X : Type 0} (run : RunOf K X) where
-  -- all that ever came to the member at a place
+  -- all versions that ever came to the member at a place
   abbrev pub came_in : World → ℕ → List X
   came_in world place = came place (run.steps world)
 
@@ -40,7 +40,7 @@ module _ {K X : Type 0} (run : RunOf K X) where
       OfMember world place (λ replica. IsCalmBy world place replica now →
       IsViewAt run.state.seen (came_in world place) now key (shown_by run replica now key))
 
-  -- and in a timely run none does
+  -- in a timely run nothing comes too late
   abbrev pub ComeInTime : World → Type 0
   ComeInTime world = (spread flight place : ℕ) → AreTimely spread flight (length world.replicas) world.silences world.log →
       (v : X) → Contains (came_in world place) v → HasComeLive run.state.seen place (run.steps world) v

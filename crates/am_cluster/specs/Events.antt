@@ -1,4 +1,5 @@
--- What an event of a member does to the cluster.
+-- The effects of a member's event on the cluster.
+use Rattle.am_wire.specs.declared.unknown.Unknown.TheVariants.{Drop}
 use Rattle.std.specs.Prelude.{◌≡◌, ◌⊎◌, ℕ, ◌<◌, Bool, true, false, List, [], Result, Ok, Err, length, if◌then◌else◌}
 use Rattle.am_gossip.specs.declared.frame.Frame.{Frame}
 use Rattle.am_instance.specs.declared.event.Event.{Event}
@@ -27,12 +28,12 @@ drops _ = false
 abbrev pub flown : Source → List (ℕ × Frame) → List (ℕ × Frame)
 flown source frames = if drops source then [] else frames
 
--- a frame was to be sent, which found no memory, or may still find none to fly
+-- the outcome was to send a frame that found no memory, or has frames that may still find none to fly
 abbrev pub SendsFrames : Outcome → Type 0
 SendsFrames outcome = (0 < outcome.unsent.memory) ⊎ (0 < length outcome.frames.items)
 
--- What the instance answered, as the cluster tells it, and the frames that fly then. Want of memory is told where a frame was to
--- be sent and isn't dropped, and then none of them flies; or where the instance found no memory for all that was delivered.
+-- The cluster tells this of what the instance answered, and these frames fly then. Want of memory is told if a frame was to be sent
+-- and isn't dropped, and then none of them flies; or if the instance found no memory for all that was delivered.
 abbrev pub IsTold : Source → Result Outcome StepError → List (ℕ × Frame) → Result Reply ClusterError → Type 0
 IsTold source (Ok outcome) frames (Ok reply) =
     (reply ≡ outcome.reply) × (frames ≡ flown source outcome.frames.items) × (drops source ≡ false → outcome.unsent.memory ≡ 0)
@@ -41,32 +42,32 @@ IsTold source (Ok outcome) frames (Err error) =
 IsTold source (Err (Memory taken)) frames (Err error) = (error ≡ errors.Memory) × (frames ≡ [])
 IsTold source _ _ _ = ⊥
 
--- a member with another stand
+-- a member with another state of its instance
 abbrev pub with_stand : Replica → InstanceState → Replica
 with_stand replica stand = record replica { stand = stand }
 
--- a member runs, and no cause stands for which its instance refuses the event, memory aside
+-- the member runs, and no cause applies for which its instance refuses the event, apart from memory
 pub record CanHave (replica : Replica) (event : Event) (now : ℕ) : Type 0 where
   pub runs : replica.runs ≡ true
   pub accepted : IsAccepted replica.stand event now
 
--- the instance of a member that runs makes its step, which is written down, and its frames fly
+-- the instance of a member that runs makes its step, which is recorded, and its frames fly
 pub record HasHappened (old : World) (place : ℕ) (replica : Replica) (event : Event) (source : Source) (now line : ℕ)
     (result : Result Reply ClusterError) (new : World) : Type 0 where
   pub runs : replica.runs ≡ true
-  -- this its instance answers, and so it stands then
+  -- the instance answers this, and stands there afterwards
   pub answer : Result Outcome StepError
   pub stand : InstanceState
   pub step : IsStep replica.stand event now answer stand
-  -- these frames fly then, and the cluster answers so
+  -- these frames fly then, and the cluster gives this answer
   pub frames : List (ℕ × Frame)
   pub told : IsTold source answer frames result
-  -- the step is written down in both runs, and nothing else changes
+  -- the step is recorded in both runs, and nothing else changes
   pub world : new ≡
       written (with_flights (with_replica old place (with_stand replica stand)) place now frames)
-      (event_step silence_state place now source event answer frames) (event_step log_state place now source event answer frames) line
+      (event_step silence_state Drop place now source event answer frames) (event_step log_state Drop place now source event answer frames) line
 
--- what came of an event that a member can have
+-- the outcome of an event that a member can have
 abbrev pub IsEvent : World → ℕ → Replica → Event → Source → ℕ → ℕ → Result Reply ClusterError → World → Type 0
 IsEvent old place replica event source now line result new =
     IsUnmade old result new ⊎ HasHappened old place replica event source now line result new

@@ -1,7 +1,7 @@
--- The lesser one of two numbers, or the only one.
+-- The lesser of two numbers, or the only one.
 use Rattle.std.specs.Prelude.{ℕ, Option, Some, None, min}
 
--- of two numbers that may be wanting
+-- the lesser of two numbers of which each may be missing
 abbrev pub earlier : Option ℕ → Option ℕ → Option ℕ
 earlier None second = second
 earlier (Some first) None = Some first

@@ -1,4 +1,4 @@
--- How a frame in flight is found by its number, and how one is lost.
+-- Frames in flight: how one is found by its number, and how it is lost.
 use Rattle.std.specs.Prelude.{◌≡◌, ◌≢◌, ℕ, List, ◌∷◌, ◌++◌, Some, Result, Ok, Err, slice_get, Contains}
 use Rattle.am_instance.specs.declared.reply.Reply.{Reply}
 use Rattle.am_instance.specs.declared.reply.Reply.TheVariants.{Nothing}
@@ -17,7 +17,7 @@ pub record IsNumberedAt (flights : List Flight) (number index : ℕ) : Type 0 wh
 abbrev pub IsNoNumber : List Flight → ℕ → Type 0
 IsNoNumber flights number = (flight : Flight) → Contains flights flight → flight.number ≢ number
 
--- the frame of the number flies no more, and the others do in their order
+-- the frame of the number no longer flies, and the others do in their order
 pub record HasLost (old : World) (number : ℕ) (new : World) : Type 0 where
   pub before : List Flight
   pub flight : Flight
@@ -26,7 +26,7 @@ pub record HasLost (old : World) (number : ℕ) (new : World) : Type 0 where
   pub bears : flight.number ≡ number
   pub world : new ≡ record old { flights = before ++ after }
 
--- what came of losing the frame of a number
+-- the outcome of losing the frame of a number
 abbrev pub IsLoss : World → ℕ → Result Reply ClusterError → World → Type 0
 IsLoss old number (Ok reply) new = (reply ≡ Nothing) × HasLost old number new
 IsLoss old number (Err errors.NoFrame) new = IsNoNumber old.flights number × (new ≡ old)

@@ -4,7 +4,7 @@ use Rattle.am_runs.specs.Steps.RunStep.{Ticked, Back, Refused, Saved, Stopped, S
 use Rattle.am_cluster.specs.declared.journal.mark.Mark.{Mark}
 use Rattle.am_cluster.specs.declared.journal.mark.Mark.TheVariants as marks
 
--- what such a step is to the versions of any type
+-- the step of a mark in a run of versions of any type
 abbrev pub step_of_mark : {X : Type 0} → Mark → RunStep X
 step_of_mark (marks.Ticked place now) = Ticked place now
 step_of_mark (marks.Back place now) = Back place now

@@ -1,4 +1,4 @@
--- Questions whether a group is notified.
+-- Questions whether a group is to be notified.
 use Rattle.std.specs.Prelude.{ℕ, Bool, not, List}
 use Rattle.am_nflog.specs.LogKeys.{LogKey}
 use Rattle.am_nflog.specs.declared.receiver.Receiver.{Receiver}
@@ -10,7 +10,7 @@ use Rattle.am_instance.specs.declared.event.Event.TheVariants as events
 use Rattle.am_instance.specs.declared.reply.Reply.{Reply}
 use Rattle.am_instance.specs.declared.reply.Reply.TheVariants as replies
 
--- whether a group is notified, of which these alerts fire and those are resolved
+-- the question whether a group is to be notified of its firing and its resolved alerts
 pub record Question : Type 0 where
   pub group_key : List ℕ
   pub receiver : Receiver
@@ -19,7 +19,7 @@ pub record Question : Type 0 where
   pub repeat : ℕ
   pub send_resolved : Bool
 
--- asking it, as an event
+-- the event that asks the question
 abbrev pub asks : Question → Event
 asks asked = events.Decide asked.group_key asked.receiver asked.firing asked.resolved asked.repeat asked.send_resolved
 
@@ -27,10 +27,10 @@ asks asked = events.Decide asked.group_key asked.receiver asked.firing asked.res
 abbrev pub key_of : Question → LogKey
 key_of asked = record { group_key = asked.group_key; receiver = asked.receiver }
 
--- some alert of the group fires
+-- whether some alert of the group fires
 abbrev pub something_fires : Question → Bool
 something_fires asked = not (has_none (set_of asked.firing))
 
--- it is notified for the first time
+-- the reply that the group is to be notified for the first time
 abbrev pub is_first : Reply
 is_first = replies.Decided (Notify First)

@@ -1,4 +1,5 @@
--- How the answer of an instance is written down.
+-- The record of an instance's answer.
+use Rattle.am_wire.specs.declared.unknown.Unknown.TheVariants.{Drop}
 use Rattle.std.specs.Prelude.{◌≡◌, ℕ, ◌<◌, ◌≤◌, true, ◌-◌, List, [], ◌∷◌, ◌++◌, length, map, Result, Ok, Err, IfOk, if◌then◌else◌}
 use Rattle.am_gossip.specs.declared.frame.Frame.{Frame}
 use Rattle.am_instance.specs.declared.event.Event.{Event}
@@ -14,7 +15,6 @@ use Rattle.am_runs.specs.Runs.{IsPossible}
 use Rattle.am_runs.specs.Steps.{RunStep, flights_of}
 use Rattle.am_steps.specs.BothStates.{StateOf, log_state, silence_state}
 use Rattle.am_steps.specs.Contents.{delivery_of, silences_in, entries_in}
-use Rattle.am_steps.specs.declared.carried.version.AnyVersion.{AnyVersion}
 use Rattle.am_steps.specs.States.{Sorted}
 use Rattle.am_steps.specs.Recorded.{AreInFlight, event_step}
 use Rattle.am_cluster.specs.Accounts.{Account}
@@ -28,22 +28,22 @@ use Rattle.am_cluster.specs.declared.writing.Entry.{Entry}
 use Rattle.am_cluster.specs.Events.{IsTold}
 use Rattle.am_cluster.specs.Worlds.{sent_on}
 
--- an event that doesn't collect brings versions from a peer, or may make some here
+-- the kind of an event that doesn't collect: it brings versions from a peer, or may make some here
 abbrev pub brings_or_makes : Event → Kind
 brings_or_makes (events.Frame sender frame) = kinds.Brings
 brings_or_makes _ = kinds.Makes
 
--- what an event has to do with versions
+-- the kind of an event, by what it has to do with versions
 abbrev pub kind_of : Event → Kind
 kind_of event = if collects event then kinds.Collects else brings_or_makes event
 
--- an event was answered, or memory ran out
+-- the event was answered, or memory ran out
 abbrev pub IsNoRefusal : Result Outcome StepError → Type 0
 IsNoRefusal (Ok outcome) = Unit {0}
 IsNoRefusal (Err (step_errors.Memory taken)) = Unit {0}
 IsNoRefusal (Err _) = ⊥
 
--- no versions yet, with room for so many
+-- there are no versions yet, and room for this many
 pub record IsRoomFor (parted : Sorted) (count : ℕ) : Type 0 where
   pub silences : parted.silences ≡ []
   pub log : parted.log ≡ []
@@ -53,19 +53,19 @@ pub record IsRoomFor (parted : Sorted) (count : ℕ) : Type 0 where
 -- the event is of this kind, and brings these versions
 pub record ComesWith (coming : PendingDelivery) (event : Event) : Type 0 where
   pub kind_is : coming.kind ≡ kind_of event
-  pub brought_are : map delivery_of coming.versions.items ≡ brought event
+  pub brought_are : map delivery_of coming.versions.items ≡ brought Drop event
 
--- all versions that an event delivered, by state
+-- the versions are all that the event delivered, by state
 pub record AreDelivered (event : Event) (made : Made) (versions : Delivered) : Type 0 where
-  pub silences : versions.silences.items ≡ silences_in (delivers event made)
-  pub log : versions.log.items ≡ entries_in (delivers event made)
+  pub silences : versions.silences.items ≡ silences_in (delivers Drop event made)
+  pub log : versions.log.items ≡ entries_in (delivers Drop event made)
 
--- in one of the runs the step can come next, whichever of its frames fly
+-- the step can come next in one of the runs, whichever of its frames fly
 abbrev pub CanBeNext : {K X : Type 0} → StateOf K X → ℕ → List (RunStep X) → Entry → Event → Result Outcome StepError → Type 0
 CanBeNext state members steps entry event answer = (frames : List (ℕ × Frame)) → AreInFlight answer frames
-    → IsPossible state.seen state.cmp members steps (event_step state entry.place entry.moment entry.source event answer frames)
+    → IsPossible state.seen state.cmp members steps (event_step state Drop entry.place entry.moment entry.source event answer frames)
 
--- What an instance answered to an event, and what is known of it.
+-- The instance gave this answer to an event, and this is known of it.
 pub record CanRecord (account : Account) (entry : Entry) (event : Event) (answer : Result Outcome StepError) : Type 0 where
   pub room_for_it : 0 < account.room
   pub silences : CanBeNext silence_state account.members account.silences entry event answer
@@ -80,8 +80,8 @@ pub record IsRecorded (old : Account) (flights : List Flight) (entry : Entry) (e
   pub frames : List (ℕ × Frame)
   pub told : IsTold entry.source answer frames result
   pub members : new.members ≡ old.members
-  pub silences : new.silences ≡ old.silences ++ event_step silence_state entry.place entry.moment entry.source event answer frames ∷ []
-  pub log : new.log ≡ old.log ++ event_step log_state entry.place entry.moment entry.source event answer frames ∷ []
+  pub silences : new.silences ≡ old.silences ++ event_step silence_state Drop entry.place entry.moment entry.source event answer frames ∷ []
+  pub log : new.log ≡ old.log ++ event_step log_state Drop entry.place entry.moment entry.source event answer frames ∷ []
   pub lines : new.lines ≡ old.lines ++ entry.line ∷ []
   pub room : new.room ≡ old.room - 1
   pub flights_are : after ≡ flights ++ sent_on (length (flights_of old.silences)) entry.place entry.moment frames

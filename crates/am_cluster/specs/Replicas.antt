@@ -9,16 +9,16 @@ use Rattle.am_cluster.specs.Reports.{IsCalmInBoth}
 use Rattle.am_cluster.specs.Ties.{member_in}
 use Rattle.am_cluster.specs.Worlds.{Replica, World}
 
--- every version of a state that was delivered to the member at a place, live or not; a start brings back what was delivered
+-- all versions of a state that were delivered to the member at a place, live or not; a start brings back what was delivered
 -- before the save
 abbrev pub taken_in : {K X : Type 0} → RunOf K X → World → ℕ → List X
 taken_in run world place = set_of (member_in run world place)
 
--- every silence
+-- all silences that were delivered to the member at a place
 abbrev pub silences_taken : World → ℕ → List Mesh
 silences_taken = taken_in silence_run
 
--- and every entry of the log
+-- all entries of the log that were delivered to the member at a place
 abbrev pub entries_taken : World → ℕ → List LogMesh
 entries_taken = taken_in log_run
 
@@ -34,7 +34,7 @@ pub record GoesOnIn {K X : Type 0} (run : RunOf K X) (earlier later : World) (no
   pub parts : run.steps later ≡ run.steps earlier ++ step ∷ rest
   pub begins : moment step ≡ Some now
 
--- a later cluster is one as it stood, to which a step of this moment came, and perhaps more
+-- the later cluster is the earlier one after a step of this moment, and perhaps more
 pub record GoesOnAt (earlier later : World) (now : ℕ) : Type 0 where
   pub members : length later.replicas ≡ length earlier.replicas
   pub silences : GoesOnIn silence_run earlier later now
@@ -46,7 +46,7 @@ pub record ExtendsRun {K X : Type 0} (run : RunOf K X) (earlier later : World) (
   pub parts : run.steps later ≡ run.steps earlier ++ more
   pub moments : All (λ step. moment step ≡ now) more
 
--- Both do, by as many steps, each in this line; and there are as many members.
+-- Both runs do, by the same number of steps, each in this line; and there are as many members.
 pub record Extends (earlier later : World) (now : Option ℕ) (line : ℕ) : Type 0 where
   pub members : length later.replicas ≡ length earlier.replicas
   pub silences : ExtendsRun silence_run earlier later now

@@ -1,4 +1,5 @@
--- How an event is written down in the journal, with the frames that fly after it.
+-- The record of an event in the journal, with the frames that fly after it.
+use Rattle.am_wire.specs.declared.unknown.Unknown.TheVariants.{Drop}
 use Rattle.std.specs.Prelude.{◌≡◌, ℕ, ◌+◌, ◌<◌, ◌≤◌, List, [], ◌∷◌, ◌++◌, ◌-◌, ◌^◌, length, map}
 use Rattle.am_silence.specs.Mesh.{Mesh}
 use Rattle.am_nflog.specs.Mesh.{Mesh as LogMesh}
@@ -13,33 +14,33 @@ use Rattle.am_cluster.specs.declared.sending.Sent.{Sent}
 use Rattle.am_cluster.specs.declared.writing.Entry.{Entry}
 use Rattle.am_cluster.specs.declared.writing.Delivered.{Delivered}
 
--- what an event was to each state, by the versions that it delivered and the frames that it left in flight
+-- the step that an event was to the silences, by the versions that it delivered and the frames that it left in flight
 abbrev pub took_silences : Entry → Delivered → List (ℕ × Frame) → RunStep Mesh
-took_silences entry versions frames = Took entry.place entry.moment entry.source versions.silences.items (sent_in silence_state frames)
+took_silences entry versions frames = Took entry.place entry.moment entry.source versions.silences.items (sent_in silence_state Drop frames)
 
--- the same of the log
+-- the step that an event was to the log
 abbrev pub took_entries : Entry → Delivered → List (ℕ × Frame) → RunStep LogMesh
-took_entries entry versions frames = Took entry.place entry.moment entry.source versions.log.items (sent_in log_state frames)
+took_entries entry versions frames = Took entry.place entry.moment entry.source versions.log.items (sent_in log_state Drop frames)
 
--- what was copied of frames is what they carry
+-- the versions that were copied of frames are those that they carry
 pub record AreSent (sent : Sent) (frames : List (ℕ × Frame)) : Type 0 where
-  pub silences : map (λ frame. frame.items) sent.silences.items ≡ sent_in silence_state frames
-  pub log : map (λ frame. frame.items) sent.log.items ≡ sent_in log_state frames
+  pub silences : map (λ frame. frame.items) sent.silences.items ≡ sent_in silence_state Drop frames
+  pub log : map (λ frame. frame.items) sent.log.items ≡ sent_in log_state Drop frames
 
--- there is room for it, and it can have happened
+-- there is room for the event, and it can have happened
 pub record CanWrite (account : Account) (entry : Entry) (versions : Delivered) (frames : List (ℕ × Frame)) : Type 0 where
   pub room_for_it : 0 < account.room
   pub silences : IsPossibleForSilences account.members account.silences (took_silences entry versions frames)
   pub log : IsPossibleForLog account.members account.log (took_entries entry versions frames)
 
--- it can be written with the frames that were copied, which can be numbered
+-- the event can be recorded with the frames that were copied, which can be numbered
 pub record IsReady (account : Account) (entry : Entry) (versions : Delivered) (sent : Sent) : Type 0 where
   pub frames : List (ℕ × Frame)
   pub copied : AreSent sent frames
   pub numbers : length (flights_of account.silences) + length frames ≤ 2 ^ 64 - 1
   pub can : CanWrite account entry versions frames
 
--- it stands at the end of both runs, with its line
+-- the event stands at the end of both runs, with its line
 pub record IsWritten (old : Account) (entry : Entry) (versions : Delivered) (frames : List (ℕ × Frame)) (new : Account) : Type 0 where
   pub members : new.members ≡ old.members
   pub silences : new.silences ≡ old.silences ++ took_silences entry versions frames ∷ []

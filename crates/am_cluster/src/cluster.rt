@@ -1,4 +1,4 @@
-//! A cluster, and what can be asked of it.
+//! A cluster, and the questions that it answers.
 
 ghost use Rattle.std.specs.Prelude.{◌≡◌, ◌↔◌, ◌<◌, ℕ, [], Any, Err, IfOk, IsTrue, MatchOption, OnErr, OnOk, length, option_map};
 ghost use Rattle.std.specs.Option.{option_copied};
@@ -19,10 +19,10 @@ use am_wire::Text;
 use std::alloc::{AllocError, Global};
 use std::marker::Model;
 
-/// The members of a cluster, all that happened to them, and the frames in flight between them.
+/// A cluster: its members, all that happened to them, and the frames in flight between them.
 ///
-/// Contracts see how each member stands, what each step so far was to the silences and to the log, the frames, and for how
-/// many more steps there is room.
+/// Contracts see how each member stands, what each step so far was to the silences and to the log, the frames, and the number of
+/// further steps for which there is room.
 pub struct Cluster {
     pub(crate) alloc: Global,
     pub(crate) members: Vec<Member>,
@@ -71,7 +71,7 @@ impl Model for Cluster {
     } };
 }
 
-/// A member for each place of a configuration, each with nothing in it.
+/// Returns a member for each place of a configuration, each with nothing in it.
 fn newborn_members(alloc: Global, config: &Config) -> Result<Vec<Member>, AllocError>
     ensures { IfOk result (λ members. members.items ≡ newborns config.now) }
 {
@@ -85,8 +85,8 @@ fn newborn_members(alloc: Global, config: &Config) -> Result<Vec<Member>, AllocE
 }
 
 impl Cluster {
-    /// A cluster of members with these names, which wait for one another and keep versions after their end for so long.
-    /// Each runs, is empty, and stands at the first moment. No names give no members.
+    /// Returns a cluster of members with these names. They wait `peer_timeout` for one another and keep versions for `retention`
+    /// after their end. Each runs, is empty, and stands at the first moment. Without names there are no members.
     ///
     /// # Errors
     ///
@@ -113,7 +113,7 @@ impl Cluster {
         Ok(Cluster::of(alloc, members))
     }
 
-    /// A cluster of these members, in which nothing happened yet.
+    /// Returns a cluster of these members, in which nothing has happened yet.
     fn of(alloc: Global, members: Vec<Member>) -> Cluster
         requires { AreUnborn members.items }
         ensures members { result.replicas ≡ members.items }
@@ -131,7 +131,7 @@ impl Cluster {
         }
     }
 
-    /// Says how the cluster hangs together: each member stands as its past in both runs tells, and each frame in flight
+    /// States how the cluster hangs together: each member stands as its past in both runs tells, and each frame in flight
     /// is one that a step of its sender sent; both are runs, which tell of the same steps, each of which has a line; and
     /// what was delivered in them are values. It does nothing.
     pub fn consistency(&self)
@@ -140,13 +140,13 @@ impl Cluster {
         self.journal.consistency();
     }
 
-    /// Makes room for so many more steps, of which each that is written down takes one. While there is room no step that is to
-    /// be refused is told as want of memory: this is for a program that has to tell one from the other. A replay, which stops at
-    /// either, doesn't call it.
+    /// Makes room for `steps` more steps, of which each that is recorded takes one. While there is room, no step that is to be
+    /// refused is reported as [`ClusterError::Memory`]: this is for a program that has to tell the two apart. A replay, which stops
+    /// at either, doesn't call it.
     ///
     /// # Errors
     ///
-    /// [`AllocError`] where memory runs out; nothing has changed then.
+    /// [`AllocError`] if memory runs out; nothing has changed then.
     pub fn make_room(&mut self, steps: usize) -> Result<(), AllocError>
         ensures room { OnOk result (self.new ≡ with_room self.old steps) }
         ensures unchanged { OnErr result (self.new ≡ self.old) }
@@ -155,14 +155,14 @@ impl Cluster {
         self.journal.make_room(steps)
     }
 
-    /// The frames in flight, by their numbers. It takes no memory.
+    /// Returns the frames in flight, by their numbers. It takes no memory.
     pub fn in_flight(&self) -> &[Flight]
         ensures { result.now ≡ self.now.flights }
     {
         self.flights.as_slice()
     }
 
-    /// The instance of the member at a place, if there is one. It takes no memory.
+    /// Returns the instance of the member at a place, if there is one. It takes no memory.
     pub fn instance(&self, place: Place) -> Option<&Instance>
         ensures { option_copied result ≡ option_map (λ replica. replica.stand) (replica_at self.now place) }
     {
@@ -172,8 +172,8 @@ impl Cluster {
         }
     }
 
-    /// Whether the member at a place was calm at each of its events so far, those before a restart included, and no start
-    /// or settle was refused to it since its moment was before its last one; else the line of the first step at which
+    /// Returns whether the member at a place was calm at each of its events so far, including those before a restart, and no start
+    /// or settle was refused to it because its moment was before its last one; or else the line of the first step at which
     /// that fails. It takes no memory.
     pub fn calm(&self, place: Place) -> CalmReport
         // PROMISE: Whether a member was calm is answered exactly.
@@ -185,7 +185,7 @@ impl Cluster {
         self.journal.report(place as usize)
     }
 
-    /// Whether the run so far keeps a spread and a flight time, by one clock; then every member is calm. It takes no
+    /// Returns whether the run so far keeps a spread and a flight time, by one clock; then every member is calm. It takes no
     /// memory.
     pub fn timely(&self, spread: Interval, flight: Interval) -> bool
         ensures some_time { 0 < spread }
@@ -198,8 +198,8 @@ impl Cluster {
         self.journal.timely(spread, flight)
     }
 
-    /// Whether the member at a place is durable: whether it was started only where it had been saved behind each step that
-    /// had brought it something live, as a member is that has each such step in a log on its disk. It takes no memory.
+    /// Returns whether the member at a place is durable: whether it was started only after it had been saved behind each step that
+    /// had brought it something live, like a member that has each such step in a log on its disk. It takes no memory.
     pub fn durable(&self, place: Place) -> bool
         ensures { IsTrue result ↔ IsDurableInBoth place self.now.silences self.now.log }
     {

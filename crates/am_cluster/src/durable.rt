@@ -1,4 +1,4 @@
-//! Whether a member is durable: whether, wherever it was started, a save stood behind each step that had brought it something
+//! Durable members: those that had been saved, whenever they were started, behind each step that had brought them something
 //! live.
 
 ghost use Rattle.std.specs.Prelude.{◌≡◌, ◌↔◌, IsTrue, map, true};
@@ -12,7 +12,7 @@ ghost use Rattle.am_cluster.specs.DurableTests.{brings_live, durable_from, saved
 use am_runs::{Run, RunStep};
 use am_version_order::{Moment, Version};
 
-/// Whether one of the versions is live.
+/// Returns whether one of the versions is live.
 fn any_live<V: Version>(now: Moment, versions: &[V]) -> bool
     ensures { result ≡ list_any (λ v. is_live now (V.seen v)) versions.now }
 {
@@ -24,7 +24,7 @@ fn any_live<V: Version>(now: Moment, versions: &[V]) -> bool
     false
 }
 
-/// Whether a step brings a member something live.
+/// Returns whether a step brings a member something live.
 fn brings_live<V: Version>(member: usize, step: &RunStep<V>) -> bool
     ensures { result ≡ brings_live V.seen member (step_of step.now) }
 {
@@ -57,14 +57,14 @@ fn starts<V>(member: usize, step: &RunStep<V>) -> bool
     }
 }
 
-/// Whether a save stands behind each step that brought the member something live, with one step more.
+/// Returns whether, after one more step, a save stands behind each step that brought the member something live.
 fn saved_after<V: Version>(member: usize, saved: bool, step: &RunStep<V>) -> bool
     ensures { result ≡ saved_after V.seen member saved (step_of step.now) }
 {
     saves(member, step) || (saved && !brings_live(member, step))
 }
 
-/// Whether it does at each start in these steps.
+/// Returns whether such a save stands behind each of them at every start in these steps.
 fn starts_saved<V: Version>(member: usize, steps: &[RunStep<V>]) -> bool
     ensures { result ≡ durable_from V.seen member true (map step_of steps.now) }
 {
@@ -78,7 +78,7 @@ fn starts_saved<V: Version>(member: usize, steps: &[RunStep<V>]) -> bool
     true
 }
 
-/// Whether a member is durable in a run.
+/// Returns whether a member is durable in a run.
 pub fn is_durable<V: Version>(member: usize, run: &Run<V>) -> bool
     ensures { IsTrue result ↔ IsDurable V.seen member run.now.steps }
 {

@@ -1,4 +1,4 @@
-//! Why a step or a settle is refused.
+//! The reasons why a step or a settle is refused.
 
 ghost use Rattle.std.specs.Prelude.{◌≡◌};
 
@@ -6,8 +6,8 @@ use am_version_order::Moment;
 use std::alloc::AllocError;
 use thiserror::Error;
 
-/// Why a step is refused: the first of these that applies, in their order, but for want of memory, which is also
-/// answered where there was no room to write another one down; then nothing has changed.
+/// The reason why a step is refused: the first of these that applies, in their order, except [`ClusterError::Memory`], which is
+/// also returned if there was no room to record another reason; nothing has changed then.
 #[derive(Clone, Copy, Debug, Error)]
 pub enum ClusterError {
     #[error("no frame of this number is in flight")]
@@ -20,7 +20,7 @@ pub enum ClusterError {
     MomentBack { last: Moment },
     #[error("no such peer")]
     UnknownPeer,
-    /// The step wasn't made, and nothing changed; or what was delivered stands, and of the frames that it was to send none
+    /// The step wasn't made, and nothing changed; or what was delivered stands, and none of the frames that the step was to send
     /// flies.
     #[error("out of memory")]
     Memory,
@@ -36,16 +36,16 @@ impl From<AllocError> for ClusterError {
     }
 }
 
-/// Why a settle is refused: the first of these that applies, in their order.
+/// The reason why a settle is refused: the first of these that applies, in their order.
 #[derive(Clone, Copy, Debug, PartialEq, Eq, Error)]
 pub enum SettleError {
     #[error("a member is stopped")]
     Stopped,
-    /// Each member whose last moment is after it is uncalm from then on.
+    /// The moment is before the last one of a member. Each such member is uncalm from then on.
     #[error("the moment is before the last one of a member")]
     MomentBack,
-    /// Collections and takings that were made stand, and count. It is also answered where the row of a map that is to be
-    /// taken has over 67,108,864 bytes.
+    /// Memory ran out. Collections and takings that were made stand, and count. It is also the reason if the row of a map that is
+    /// to be taken has more than 67,108,864 bytes.
     #[error("out of memory")]
     Memory,
 }

@@ -1,6 +1,7 @@
-//! What an event does at a member, and to the cluster.
+//! The effects of an event on a member and on the cluster.
 
 ghost use Rattle.std.specs.Prelude.{◌≡◌, ◌<◌, ◌≤◌, All, IfOk, IfSome, length, map};
+ghost use Rattle.am_wire.specs.declared.unknown.Unknown.TheVariants.{Drop};
 ghost use Rattle.am_silence.specs.Mesh.{IsMesh};
 ghost use Rattle.am_nflog.specs.Mesh.{IsMesh as IsLogMesh};
 ghost use Rattle.am_instance.specs.Laws.{HasMaps};
@@ -28,23 +29,24 @@ use am_steps::laws::{
     values_are_delivered,
 };
 use am_version_order::{Moment, Version, versions_are_values};
+use am_wire::Unknown;
 use std::alloc::{AllocError, Global};
 
-/// The versions that an event brings from a peer.
+/// Returns the versions that an event brings from a peer.
 fn brought_by(alloc: Global, event: &Event) -> Result<Vec<AnyVersion>, AllocError>
-    ensures versions { IfOk result (λ versions. map delivery_of versions.items ≡ brought event.now) }
+    ensures versions { IfOk result (λ versions. map delivery_of versions.items ≡ brought Drop event.now) }
     ensures values { IfOk result (λ versions. All IsValue (map delivery_of versions.items)) }
 {
     match event {
-        Event::Frame { frame, .. } => versions_in_frame(alloc, frame),
+        Event::Frame { frame, .. } => versions_in_frame(alloc, Unknown::Drop, frame),
         _ => Ok(Vec::new(alloc)),
     }
 }
 
-/// What comes with an event, with all room that writing it down takes.
+/// Returns what comes with an event, with all the room that recording it takes.
 fn coming_with(alloc: Global, event: &Event) -> Result<PendingDelivery, AllocError>
     ensures coming { IfOk result (λ coming. ComesWith coming event.now) }
-    ensures values { IfOk result (λ coming. All IsValue (brought event.now)) }
+    ensures values { IfOk result (λ coming. All IsValue (brought Drop event.now)) }
     ensures room { IfOk result (λ coming. IsRoomFor coming.parted (length coming.versions.items)) }
 {
     let versions = brought_by(alloc, event)?;
@@ -56,7 +58,7 @@ fn coming_with(alloc: Global, event: &Event) -> Result<PendingDelivery, AllocErr
     })
 }
 
-/// Says that what a step made are values. It changes nothing.
+/// States that what a step made are values. It changes nothing.
 fn made_are_values(answer: &Result<Outcome, StepError>)
     ensures silences { IfOk answer.now (λ outcome. All IsMesh outcome.made.silences.items) }
     ensures log { IfOk answer.now (λ outcome. IfSome outcome.made.log IsLogMesh) }
@@ -69,7 +71,7 @@ fn made_are_values(answer: &Result<Outcome, StepError>)
     }
 }
 
-/// The step of a member's instance, and what is known of what it made and holds then.
+/// Makes the step of a member's instance, and states what is known of what it made and holds then.
 fn step_of(instance: &mut Instance, event: Event, now: Moment) -> Result<Outcome, StepError>
     requires { IsAccepted instance.old event now }
     ensures step { IsStep instance.old event now result instance.new }
@@ -87,7 +89,7 @@ fn step_of(instance: &mut Instance, event: Event, now: Moment) -> Result<Outcome
     answer
 }
 
-/// Has an instance make its step, and writes it down.
+/// Makes the step of an instance, and records it.
 fn step_and_record(
     alloc: Global,
     instance: &mut Instance,
@@ -99,7 +101,7 @@ fn step_and_record(
 ) -> Result<Reply, ClusterError>
     requires ready { CanHappen journal.old entry.now event instance.old }
     requires coming { ComesWith coming event }
-    requires values { All IsValue (brought event) }
+    requires values { All IsValue (brought Drop event) }
     requires room { IsRoomFor coming.parted (length coming.versions.items) }
     requires enough { 0 < journal.old.room }
     ensures { HasActed journal.old flights.old.items entry.now event instance.old result journal.new flights.new.items instance.new }
@@ -114,7 +116,7 @@ fn step_and_record(
 }
 
 impl Cluster {
-    /// Has an event happen at the member at a place, which can have it.
+    /// Applies an event to the member at a place, which is able to take it.
     pub(crate) fn apply_event(
         &mut self,
         place: usize,
@@ -125,8 +127,8 @@ impl Cluster {
     ) -> Result<Reply, ClusterError>
         requires within { place < length self.old.replicas }
         requires ready { OfMember self.old place (λ replica. CanHave replica event now) }
-        requires silences { HasSource silence_state (length self.old.replicas) self.old.silences now event source }
-        requires log { HasSource log_state (length self.old.replicas) self.old.log now event source }
+        requires silences { HasSource silence_state Drop (length self.old.replicas) self.old.silences now event source }
+        requires log { HasSource log_state Drop (length self.old.replicas) self.old.log now event source }
         ensures { OfMember self.old place (λ replica. IsEvent self.old place replica event source now line result self.new) }
     {
         self.journal.is_told_of_both();

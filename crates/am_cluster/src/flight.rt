@@ -23,16 +23,16 @@ use std::alloc::AllocError;
 /// A frame that was sent and not lost. It stays in flight after it was delivered, and may be delivered again.
 #[derive(Drop)]
 pub struct Flight {
-    /// Its place, from 1, among all frames that were ever sent.
+    /// The frame's place, from 1, among all frames that were ever sent.
     pub number: u64,
     pub sender: Place,
     pub addressee: Place,
-    /// When it was sent.
+    /// The moment at which the frame was sent.
     pub sent: Moment,
     pub frame: Frame,
 }
 
-/// Where the frame of a number stands among those in flight, which stand by their numbers, if it flies. It takes no
+/// Returns the position of the frame of a number among those in flight, which are sorted by their numbers, if it flies. It takes no
 /// memory.
 fn flight_numbered(flights: &[Flight], number: u64) -> Option<usize>
     requires { AreAscending flights.now }
@@ -63,12 +63,12 @@ struct Arrival {
     sender: Place,
     /// The place of the frame, from 0, among all that were ever sent.
     index: usize,
-    /// Its place among those in flight.
+    /// The position of the frame among those in flight.
     position: usize,
 }
 
 impl Cluster {
-    /// The frame of a number, if it flies. It takes no memory.
+    /// Returns the arrival of the frame of a number, if it flies. It takes no memory.
     fn arrival(&self, number: u64) -> Option<Arrival>
         ensures { MatchOption result (IsNoNumber self.now.flights number) (IsArrival self.now number) }
     {
@@ -84,7 +84,7 @@ impl Cluster {
         })
     }
 
-    /// Why a frame is refused to the member at a place, if it is. It takes no memory.
+    /// Returns why a frame is refused to the member at a place, if it is. It takes no memory.
     fn arrival_refusal(&self, place: usize, sender: Place, now: Moment) -> Option<ClusterError>
         requires { place < length self.now.replicas }
         ensures { OfMember self.now place (λ replica. result ≡ event_refusal (is_peer replica.stand.config sender) replica now) }
@@ -94,7 +94,7 @@ impl Cluster {
         event_refusal(member, known, now)
     }
 
-    /// What arrives with a copy of the frame.
+    /// Returns the event that arrives with a copy of the frame.
     fn event_of(&self, arrival: &Arrival) -> Result<Event, AllocError>
         requires { arrival.now.position < length self.now.flights }
         ensures { IfOk result (λ event. (flight : Flown) → slice_get self.now.flights arrival.now.position ≡ Some flight →

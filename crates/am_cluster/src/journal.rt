@@ -1,4 +1,4 @@
-//! What happened in a cluster so far, told of the silences and of the log, with the line that each step was given.
+//! The journal of what happened in a cluster so far, to the silences and to the log, with the line that each step was given.
 
 ghost use Rattle.std.specs.Prelude.{◌≡◌, ◌++◌, ℕ, [], ◌∷◌, ◌+◌, ◌-◌, ◌<◌, ◌≤◌, length, max, IsTrue, ◌↔◌, MatchOption, OnOk, OnErr, All};
 ghost use Rattle.am_runs.specs.Members.{last_of, member_of};
@@ -27,16 +27,17 @@ use report::earlier;
 use std::alloc::{AllocError, Global};
 use std::marker::Model;
 
-/// What happened in a cluster so far: what each step was to the silences and to the log, and the line that it was given.
+/// The journal of what happened in a cluster so far: what each step was to the silences and to the log, and the line that it was
+/// given.
 ///
 /// Contracts see it as the number of the members, both lists of steps, the lines, and the room for more.
 pub struct Journal {
     silences: Run<MeshSilence>,
     log: Run<MeshEntry>,
     lines: Vec<u64>,
-    // How many frames were ever sent.
+    // The number of frames that were ever sent.
     sendings: usize,
-    // For how many more steps there is room.
+    // The number of further steps for which there is room.
     room: usize,
 }
 
@@ -81,7 +82,8 @@ impl Model for Journal {
 }
 
 impl Journal {
-    /// A journal of so many members in which nothing happened yet: all of them run, and are empty. It takes no memory.
+    /// Returns a journal of `members` members in which nothing has happened yet: all of them run, and are empty. It takes no
+    /// memory.
     pub fn new(alloc: Global, members: usize) -> Journal
         ensures members { result.members ≡ members }
         ensures silences { result.silences ≡ [] }
@@ -97,7 +99,7 @@ impl Journal {
         }
     }
 
-    /// Says how the record hangs together: both lists of steps are runs, which tell of the same steps, each of which has a
+    /// States how the journal hangs together: both lists of steps are runs, which tell of the same steps, each of which has a
     /// line, and what was delivered in them are values of their types. It does nothing.
     pub fn consistency(&self)
         ensures runs { AreRuns self.now.members self.now.silences self.now.log }
@@ -110,11 +112,11 @@ impl Journal {
         self.log.consistency();
     }
 
-    /// Makes room for so many steps. Room that is there takes no memory.
+    /// Makes room for `steps` steps. Room that is already there takes no memory.
     ///
     /// # Errors
     ///
-    /// [`AllocError`] where memory runs out. There is as much room then as before.
+    /// [`AllocError`] if memory runs out. There is as much room then as before.
     pub fn make_room(&mut self, steps: usize) -> Result<(), AllocError>
         ensures members { self.new.members ≡ self.old.members }
         ensures silences { self.new.silences ≡ self.old.silences }
@@ -134,12 +136,12 @@ impl Journal {
         Ok(())
     }
 
-    /// Whether so many frames more can be numbered, each by its place among all that were ever sent. It takes no memory.
+    /// Checks that `frames` more frames can be numbered, each by its place among all that were ever sent. It takes no memory.
     ///
     /// # Errors
     ///
-    /// [`AllocError`] where their numbers would go past the last one of a `usize`. No memory holds so many frames, so
-    /// this is never seen.
+    /// [`AllocError`] if their numbers would exceed the last one of a `usize`. No memory holds so many frames, so this never
+    /// happens.
     pub fn room_for_frames(&self, frames: usize) -> Result<(), AllocError>
         ensures ok { OnOk result (length (flights_of self.now.silences) + frames ≤ usize.MAX) }
         ensures err { OnErr result (usize.MAX < length (flights_of self.now.silences) + frames) }
@@ -150,7 +152,7 @@ impl Journal {
         }
     }
 
-    /// Writes down what a step was to the silences and to the log, and its line.
+    /// Records what a step was to the silences and to the log, and its line.
     pub fn append(&mut self, silences: RunStep<MeshSilence>, log: RunStep<MeshEntry>, line: u64)
         requires room { 0 < self.old.room }
         requires frames { length (flights_of self.old.silences) + length (flights_by (step_of silences)) ≤ usize.MAX }
@@ -170,7 +172,7 @@ impl Journal {
         self.lines.push_reserved(line);
     }
 
-    /// Writes down a step without versions, and its line.
+    /// Records a step without versions, and its line.
     pub fn mark(&mut self, mark: Mark, line: u64)
         requires room { 0 < self.old.room }
         requires possible { IsPossibleForSilences self.old.members self.old.silences (step_of_mark mark) }
@@ -185,7 +187,7 @@ impl Journal {
         self.append(mark.step(), mark.step(), line);
     }
 
-    /// Says that both runs are told of the same steps, and that each step has its line. It does nothing.
+    /// States that both runs tell of the same steps, and that each step has its line. It does nothing.
     pub fn is_told_of_both(&self)
         ensures twins { AreTwins self.now.silences self.now.log }
         ensures lines { length self.now.lines ≡ length self.now.silences }
@@ -194,7 +196,7 @@ impl Journal {
         let _sendings = self.sendings;
     }
 
-    /// How many frames were ever sent. It takes no memory.
+    /// Returns the number of frames that were ever sent. It takes no memory.
     pub fn sendings(&self) -> usize
         ensures silences { result ≡ length (flights_of self.now.silences) }
         ensures log { result ≡ length (flights_of self.now.log) }
@@ -203,7 +205,7 @@ impl Journal {
         self.sendings
     }
 
-    /// Whether a member runs. It takes no memory.
+    /// Returns whether a member runs. It takes no memory.
     pub fn runs(&self, place: usize) -> bool
         ensures silences { result ≡ (member_of self.now.members place self.now.silences).runs }
         ensures log { result ≡ (member_of self.now.members place self.now.log).runs }
@@ -212,7 +214,7 @@ impl Journal {
         self.silences.runs(place)
     }
 
-    /// The moment of a member's last event or start, or the first moment where it had none. It takes no memory.
+    /// Returns the moment of a member's last event or start, or the first moment if it had none. It takes no memory.
     pub fn last(&self, place: usize) -> Moment
         ensures silences { result ≡ last_of (member_of self.now.members place self.now.silences) }
         ensures log { result ≡ last_of (member_of self.now.members place self.now.log) }
@@ -221,7 +223,7 @@ impl Journal {
         self.silences.last(place)
     }
 
-    /// Whether a member was calm, and else the line of the first step with which it wasn't. It takes no memory.
+    /// Returns whether a member was calm, or else the line of the first step at which it wasn't. It takes no memory.
     pub fn report(&self, place: usize) -> CalmReport
         ensures calm { IsTrue result.calm
             ↔ IsCalmInBoth self.now.members place self.now.silences self.now.log }
@@ -244,7 +246,7 @@ impl Journal {
         }
     }
 
-    /// Whether both runs keep a spread and a flight time. It takes no memory.
+    /// Returns whether both runs keep a spread and a flight time. It takes no memory.
     pub fn timely(&self, spread: Interval, flight: Interval) -> bool
         ensures exactly { IsTrue result
             ↔ AreTimely spread flight self.now.members self.now.silences self.now.log }
@@ -254,8 +256,8 @@ impl Journal {
         self.silences.timely(spread, flight) && self.log.timely(spread, flight)
     }
 
-    /// Whether a member is durable in both runs: whether, at each start of it, a save stood behind each step that had brought
-    /// it something live. It takes no memory.
+    /// Returns whether a member is durable in both runs: whether, at each start of it, a save stood behind each step that had
+    /// brought it something live. It takes no memory.
     pub fn durable(&self, place: usize) -> bool
         ensures { IsTrue result ↔ IsDurableInBoth place self.now.silences self.now.log }
     {

@@ -1,4 +1,4 @@
-//! What holds of all members of a cluster, as it stands after any steps: laws, which do nothing.
+//! Laws of all members of a cluster, as it stands after any steps. They do nothing.
 
 mod answered;
 mod durable;

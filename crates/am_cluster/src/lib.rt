@@ -1,4 +1,4 @@
-//! A cluster of instances: their steps, the frames between them, the journal of the run so far, and what can be told of it.
+//! A cluster of instances: their steps, the frames between them, the journal of the run so far, and the questions that it answers.
 #![tactic(auto)]
 
 mod cluster;

@@ -1,4 +1,4 @@
-//! How members are saved, stopped and started.
+//! Saves, stops and starts of members.
 
 ghost use Rattle.std.specs.Prelude.{◌<◌, length};
 ghost use Rattle.am_cluster.specs.Lives.{CanBegin, IsSave, IsStart, IsStop, OfMember};

@@ -11,14 +11,14 @@ use am_version_order::Moment;
 use std::alloc::{AllocError, Global};
 use std::marker::Model;
 
-/// Both maps of a member as they were saved.
+/// The saved maps of a member.
 #[derive(Drop)]
 pub(crate) struct Copy {
     silences: Held<MeshSilence>,
     log: Held<MeshEntry>,
 }
 
-/// A member: its instance, whether that runs, and what was last saved of it.
+/// A member: its instance, whether it runs, and what was last saved of it.
 #[derive(Drop)]
 pub(crate) struct Member {
     pub(crate) instance: Instance,
@@ -40,7 +40,7 @@ impl Model for Member {
 }
 
 impl Member {
-    /// A member that runs, is empty, and of which nothing is saved. It takes no memory.
+    /// Returns a member that runs, is empty, and of which nothing is saved. It takes no memory.
     pub fn new(alloc: Global, config: Config) -> Member
         ensures stand { result.stand ≡ record { config = config; silences = []; log = []; last = 0 } }
         ensures runs { result.runs ≡ true }
@@ -59,11 +59,11 @@ impl Member {
         }
     }
 
-    /// A copy of both maps.
+    /// Returns a copy of both maps.
     ///
     /// # Errors
     ///
-    /// [`AllocError`] where memory runs out.
+    /// [`AllocError`] if memory runs out.
     pub fn copy(&self) -> Result<Copy, AllocError>
         ensures silences { IfOk result (λ copy. copy.silences ≡ self.now.stand.silences) }
         ensures log { IfOk result (λ copy. copy.log ≡ self.now.stand.log) }
@@ -74,7 +74,7 @@ impl Member {
         })
     }
 
-    /// Keeps a copy of both maps in the place of the last one.
+    /// Keeps a copy of both maps in place of the last one.
     pub fn keep(&mut self, copy: Copy)
         requires silences { copy.silences ≡ self.old.stand.silences }
         requires log { copy.log ≡ self.old.stand.log }
@@ -83,18 +83,18 @@ impl Member {
         self.saved = copy;
     }
 
-    /// Stops it.
+    /// Stops the member.
     pub fn stop(&mut self)
         ensures { self.new ≡ stopped self.old }
     {
         self.runs = false;
     }
 
-    /// An instance with a copy of what was saved.
+    /// Returns an instance with a copy of what was saved.
     ///
     /// # Errors
     ///
-    /// [`AllocError`] where memory runs out.
+    /// [`AllocError`] if memory runs out.
     pub fn revived(&self, now: Moment) -> Result<Instance, AllocError>
         ensures { IfOk result (λ instance. instance ≡ (started self.now now).stand) }
     {
@@ -104,7 +104,7 @@ impl Member {
         Ok(Instance::start(config, silences, log, now))
     }
 
-    /// Runs from here on with this instance.
+    /// Starts the member with this instance.
     pub fn begin(&mut self, instance: Instance)
         ensures { self.new ≡ record self.old { stand = instance; runs = true } }
     {

@@ -1,4 +1,4 @@
-//! How the answer of an instance is written down.
+//! The record of an instance's answer.
 
 ghost use Rattle.std.specs.Prelude.{◌≡◌, ◌⊎◌, ◌<◌, ◌++◌, ℕ, List, [], false, length, map, take, Ok, Err, OnErr, OnOk};
 ghost use Rattle.am_steps.specs.Contents.{delivery_of, entries_in, silences_in};
@@ -24,14 +24,14 @@ use am_runs::Source;
 use am_steps::carried::{AnyVersion, SplitVersions};
 use std::alloc::{AllocError, Global};
 
-/// What an event has to do with versions.
+/// The kind of an event, by what it has to do with versions.
 #[derive(Clone, Copy)]
 pub(crate) enum Kind {
-    /// Those that are not live go.
+    /// The event removes the versions that are not live.
     Collects,
-    /// A frame brings some.
+    /// The event is a frame that brings versions.
     Brings,
-    /// Some may be made here.
+    /// The event may make versions here.
     Makes,
 }
 
@@ -49,7 +49,7 @@ pub(crate) fn kind_of(event: &Event) -> Kind
     }
 }
 
-/// The first so many versions that came, by state.
+/// Returns the first `count` versions that came, by state.
 fn first_brought(parted: SplitVersions, versions: Vec<AnyVersion>, count: usize) -> Delivered
     requires { IsRoomFor parted (length versions.items) }
     ensures silences { result.silences.items ≡ silences_in (take count (map delivery_of versions.items)) }
@@ -61,7 +61,7 @@ fn first_brought(parted: SplitVersions, versions: Vec<AnyVersion>, count: usize)
     Delivered { silences, log }
 }
 
-/// The entry that was made, if one was.
+/// Returns the entry that was made, if one was.
 fn entry_made(parted: SplitVersions, log: Option<MeshEntry>) -> Vec<MeshEntry>
     requires { (count : ℕ) × IsRoomFor parted count }
     ensures { result.items ≡ listed log }
@@ -76,7 +76,7 @@ fn entry_made(parted: SplitVersions, log: Option<MeshEntry>) -> Vec<MeshEntry>
     }
 }
 
-/// The versions that were made, by state.
+/// Returns the versions that were made, by state.
 fn all_made(parted: SplitVersions, made: Made) -> Delivered
     requires { (count : ℕ) × IsRoomFor parted count }
     ensures silences { result.silences.items ≡ silences_in (made_here made) }
@@ -87,7 +87,7 @@ fn all_made(parted: SplitVersions, made: Made) -> Delivered
     Delivered { silences, log }
 }
 
-/// Writes down an event whose versions are these, and has its frames fly, unless one found no memory.
+/// Records an event that delivered these versions, and has its frames fly, unless one of them found no memory.
 fn write_sent(
     alloc: Global,
     journal: &mut Journal,
@@ -114,7 +114,7 @@ fn write_sent(
     write_event(alloc, journal, flights, entry, versions, frames)
 }
 
-/// The versions that came with an event, and room to part them.
+/// The versions that came with an event, and room to split them.
 #[derive(Drop)]
 pub(crate) struct PendingDelivery {
     pub kind: Kind,
@@ -122,7 +122,7 @@ pub(crate) struct PendingDelivery {
     pub parted: SplitVersions,
 }
 
-/// All versions that an event delivered, by state: those that it brought, or those that were made.
+/// Returns all versions that an event delivered, by state: those that it brought, or those that were made.
 fn all_delivered(coming: PendingDelivery, made: Made) -> Delivered
     requires { IsRoomFor coming.parted (length coming.versions.items) }
     ensures { (event : Event) → ComesWith coming event → (brings_or_makes event ≡ kinds.Brings → IsNothing made) →
@@ -142,14 +142,14 @@ fn all_delivered(coming: PendingDelivery, made: Made) -> Delivered
     }
 }
 
-/// Whether the frames that come out of a step are dropped: those of a member that takes the maps of another are.
+/// Returns whether the frames that come out of a step are dropped: those of a member that takes the maps of another are.
 fn drops(source: Source) -> bool
     ensures { result ≡ drops source }
 {
     matches!(source, Source::Lent { .. })
 }
 
-/// Writes down an event that was answered.
+/// Records an event that was answered.
 fn write_outcome(
     alloc: Global,
     journal: &mut Journal,
@@ -186,7 +186,7 @@ fn write_outcome(
     Ok(reply)
 }
 
-/// Writes down an event for which memory ran out.
+/// Records an event for which memory ran out.
 fn write_refusal(
     alloc: Global,
     journal: &mut Journal,
@@ -212,7 +212,7 @@ fn write_refusal(
     }
 }
 
-/// Writes down what an instance answered to an event, has the frames fly, and tells what the cluster answers.
+/// Records what an instance answered to an event, has the frames fly, and returns the answer of the cluster.
 pub(crate) fn write_answer(
     alloc: Global,
     journal: &mut Journal,

@@ -1,4 +1,4 @@
-//! Why what is asked of a member is refused, and how that is written down.
+//! The reasons why something is refused to a member, and how a refusal is recorded.
 
 ghost use Rattle.std.specs.Prelude.{◌≡◌, ◌<◌, ℕ, OnErr, OnOk, Err, length};
 ghost use Rattle.am_instance.specs.declared.reply.Reply.{Reply};
@@ -19,7 +19,7 @@ use am_schedule::LineEvent;
 use am_version_order::Moment;
 use std::alloc::AllocError;
 
-/// Why an event is refused to a member that knows the peer, or doesn't, if it is. It takes no memory.
+/// Returns why an event is refused to a member, if it is; `known` says whether the member knows the peer. It takes no memory.
 pub(crate) fn event_refusal(member: &Member, known: bool, now: Moment) -> Option<ClusterError>
     ensures { result ≡ event_refusal known member.now now }
 {
@@ -35,7 +35,7 @@ pub(crate) fn event_refusal(member: &Member, known: bool, now: Moment) -> Option
     }
 }
 
-/// Why a start is refused to a member, if it is. It takes no memory.
+/// Returns why a start is refused to a member, if it is. It takes no memory.
 fn start_refusal(member: &Member, now: Moment) -> Option<ClusterError>
     ensures { result ≡ start_refusal member.now now }
 {
@@ -49,7 +49,7 @@ fn start_refusal(member: &Member, now: Moment) -> Option<ClusterError>
     }
 }
 
-/// Whether a line names no peer, or one that is another member. It takes no memory.
+/// Returns whether a line names no peer, or one that is another member. It takes no memory.
 fn names_peer(config: &Config, event: &LineEvent) -> bool
     ensures { result ≡ names_peer config.now (asked_by config.now event.now) }
 {
@@ -63,7 +63,7 @@ fn names_peer(config: &Config, event: &LineEvent) -> bool
     }
 }
 
-/// Why what a line asks is refused to a member, if it is. It takes no memory.
+/// Returns why what a line asks is refused to a member, if it is. It takes no memory.
 fn refusal(member: &Member, event: &LineEvent, now: Moment) -> Option<ClusterError>
     ensures { result ≡ refused_anyway member.now (asked_by member.now.stand.config event.now) now }
 {
@@ -73,7 +73,7 @@ fn refusal(member: &Member, event: &LineEvent, now: Moment) -> Option<ClusterErr
     }
 }
 
-/// How a refusal to the member at a place is written down.
+/// Returns the mark that records a refusal to the member at a place.
 fn mark_of(cause: &ClusterError, place: usize, now: Moment) -> Mark
     ensures { result ≡ mark_of cause.now place now }
 {
@@ -84,7 +84,7 @@ fn mark_of(cause: &ClusterError, place: usize, now: Moment) -> Mark
 }
 
 impl Cluster {
-    /// Why what a line asks of the member at a place is refused, if it is. It takes no memory.
+    /// Returns why what a line asks of the member at a place is refused, if it is. It takes no memory.
     pub(crate) fn line_refusal(
         &self,
         place: usize,
@@ -97,11 +97,11 @@ impl Cluster {
         refusal(&self.members[place], event, now)
     }
 
-    /// Writes down a refusal.
+    /// Records a refusal.
     ///
     /// # Errors
     ///
-    /// [`AllocError`] where there was no room for it, and memory runs out; then nothing has changed.
+    /// [`AllocError`] if there was no room for it, and memory runs out; nothing has changed then.
     pub(crate) fn write_mark(&mut self, mark: Mark, line: u64) -> Result<(), AllocError>
         requires idle { IsIdle mark }
         requires possible { IsPossibleForSilences (length self.old.replicas) self.old.silences (step_of_mark mark) }

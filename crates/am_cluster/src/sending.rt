@@ -1,6 +1,7 @@
-//! Frames that a step sends, as they are written down and as they fly.
+//! The frames that a step sends, as they are recorded and as they fly.
 
 ghost use Rattle.std.specs.Prelude.{◌≡◌, ◌+◌, ◌-◌, ◌++◌, ◌≤◌, map, length, vec_capacity, vec_len, IfOk};
+ghost use Rattle.am_wire.specs.declared.unknown.Unknown.TheVariants.{Drop};
 ghost use Rattle.am_steps.specs.BothStates.{log_state, silence_state};
 ghost use Rattle.am_steps.specs.Contents.{carries, entries_in, silences_in};
 ghost use Rattle.am_steps.specs.Recorded.{sent_in};
@@ -13,38 +14,39 @@ use am_nflog::MeshEntry;
 use am_silence::MeshSilence;
 use am_steps::carried::{SplitVersions, versions_in_frame};
 use am_version_order::Moment;
+use am_wire::Unknown;
 use std::alloc::{AllocError, Global};
 
-/// The versions in each of some frames, by state.
+/// The versions in each of several frames, by state.
 #[derive(Drop)]
 pub(crate) struct Sent {
     pub silences: Vec<Vec<MeshSilence>>,
     pub log: Vec<Vec<MeshEntry>>,
 }
 
-/// The versions in a frame, by state.
+/// Returns the versions in a frame, by state.
 fn versions_in(
     alloc: Global,
     frame: &Frame,
 ) -> Result<(Vec<MeshSilence>, Vec<MeshEntry>), AllocError>
-    ensures silences { IfOk result (λ parts. parts.0.items ≡ silences_in (carries frame.now)) }
-    ensures log { IfOk result (λ parts. parts.1.items ≡ entries_in (carries frame.now)) }
+    ensures silences { IfOk result (λ parts. parts.0.items ≡ silences_in (carries Drop frame.now)) }
+    ensures log { IfOk result (λ parts. parts.1.items ≡ entries_in (carries Drop frame.now)) }
 {
-    let versions = versions_in_frame(alloc, frame)?;
+    let versions = versions_in_frame(alloc, Unknown::Drop, frame)?;
     let count = versions.len();
     let mut parted = SplitVersions::with_room(alloc, count)?;
     parted.put_first(versions, count);
     Ok(parted.into_parts())
 }
 
-/// The versions in each of the frames, by state.
+/// Returns the versions in each of the frames, by state.
 ///
 /// # Errors
 ///
-/// [`AllocError`] where memory runs out.
+/// [`AllocError`] if memory runs out.
 pub(crate) fn sent_in(alloc: Global, frames: &[(Place, Frame)]) -> Result<Sent, AllocError>
-    ensures silences { IfOk result (λ sent. map (λ frame. frame.items) sent.silences.items ≡ sent_in silence_state frames.now) }
-    ensures log { IfOk result (λ sent. map (λ frame. frame.items) sent.log.items ≡ sent_in log_state frames.now) }
+    ensures silences { IfOk result (λ sent. map (λ frame. frame.items) sent.silences.items ≡ sent_in silence_state Drop frames.now) }
+    ensures log { IfOk result (λ sent. map (λ frame. frame.items) sent.log.items ≡ sent_in log_state Drop frames.now) }
 {
     let mut sent = Sent {
         silences: Vec::with_capacity(alloc, frames.len())?,
@@ -58,7 +60,7 @@ pub(crate) fn sent_in(alloc: Global, frames: &[(Place, Frame)]) -> Result<Sent, 
     Ok(sent)
 }
 
-/// Has frames fly that a member sent, numbered on from a count of frames. It takes no memory.
+/// Launches frames that a member sent, numbered on from a count of frames. It takes no memory.
 pub(crate) fn send_off(
     flights: &mut Vec<Flight>,
     count: usize,

@@ -1,6 +1,8 @@
-//! How the members of a cluster settle.
+//! The settle of the members of a cluster.
 
 ghost use Rattle.std.specs.Prelude.{◌≡◌, ◌≢◌, [], ◌∷◌, ◌<◌, ◌≤◌, ◌↔◌, ℕ, None, Some, All, IsTrue, IfOk, OnErr, OnOk, length, map, slice_get, true};
+ghost use Rattle.am_wire.specs.declared.unknown.Unknown.{Unknown};
+ghost use Rattle.am_wire.specs.declared.unknown.Unknown.TheVariants.{Drop};
 ghost use Rattle.am_silence.specs.Mesh.{mesh_version};
 ghost use Rattle.am_nflog.specs.Mesh.{mesh_version as entry_version};
 ghost use Rattle.am_gossip.specs.declared.frame.Frame.TheVariants as frames;
@@ -8,6 +10,7 @@ ghost use Rattle.am_wire.specs.Limits.{most};
 ghost use Rattle.am_snapshot.specs.Texts.{row_text};
 ghost use Rattle.am_instance.specs.Configs.{Settings};
 ghost use Rattle.am_instance.specs.Deliveries.Delivery.{OfEntry, OfSilence};
+ghost use Rattle.am_instance.specs.InstanceStates.{HoldsWhole};
 ghost use Rattle.am_instance.specs.Laws.{HasMaps};
 ghost use Rattle.am_instance.specs.Sendings.{whole_state};
 ghost use Rattle.am_instance.specs.Steps.{fault_of};
@@ -35,11 +38,13 @@ use am_steps::laws::lent_maps_come_from_their_lender;
 use am_version_order::Moment;
 use std::alloc::{AllocError, Global};
 
-/// Both maps of an instance in a frame, or [`AllocError`] also where the row of one has over 67,108,864 bytes.
+/// Returns both maps of an instance in a frame, or [`AllocError`], also if the row of one has more than 67,108,864 bytes.
 fn frame_of(alloc: Global, instance: &Instance) -> Result<Frame, AllocError>
+    requires drops { instance.now.config.unknown ≡ Drop }
+    requires whole { HoldsWhole instance.now }
     ensures frame { IfOk result (λ frame. frame ≡ frames.Pull (whole_state instance.now.silences instance.now.log)) }
-    ensures silences { OnOk result (All IsReadable (map OfSilence instance.now.silences)) }
-    ensures log { OnOk result (All IsReadable (map OfEntry instance.now.log)) }
+    ensures silences { OnOk result ((unknown : Unknown) → All (IsReadable unknown) (map OfSilence instance.now.silences)) }
+    ensures log { OnOk result ((unknown : Unknown) → All (IsReadable unknown) (map OfEntry instance.now.log)) }
     ensures silences_fit { OnOk result (length (row_text mesh_version instance.now.silences) ≤ most) }
     ensures log_fit { OnOk result (length (row_text entry_version instance.now.log) ≤ most) }
     ensures maps { HasMaps instance.now }
@@ -52,7 +57,7 @@ fn frame_of(alloc: Global, instance: &Instance) -> Result<Frame, AllocError>
 }
 
 impl Cluster {
-    /// What comes to a member that takes the maps of the one at a place, which runs.
+    /// Returns the event that comes to a member that takes the maps of the one at a place, which runs.
     fn lent_by(&self, lender: usize) -> Result<Event, AllocError>
         requires within { lender < length self.now.replicas }
         requires runs { OfMember self.now lender (λ lent. lent.runs ≡ true) }
@@ -60,9 +65,9 @@ impl Cluster {
         ensures lendable { OnOk result (OfMember self.now lender (λ lent. CanLend lent.stand)) }
         ensures sound { IfOk result (λ event. (settings : Settings) (now : ℕ) → fault_of settings now event ≡ None) }
         ensures silences { IfOk result (λ event. (now : ℕ) →
-            HasSource silence_state (length self.now.replicas) self.now.silences now event (Lent lender)) }
+            HasSource silence_state Drop (length self.now.replicas) self.now.silences now event (Lent lender)) }
         ensures log { IfOk result (λ event. (now : ℕ) →
-            HasSource log_state (length self.now.replicas) self.now.log now event (Lent lender)) }
+            HasSource log_state Drop (length self.now.replicas) self.now.log now event (Lent lender)) }
     {
         lent_maps_come_from_their_lender();
         let frame = frame_of(self.alloc, &self.members[lender].instance)?;
@@ -74,7 +79,7 @@ impl Cluster {
 }
 
 impl Cluster {
-    /// Has the member at a place collect.
+    /// Lets the member at a place collect.
     fn collect_at(&mut self, place: usize, now: Moment, line: u64) -> Result<(), SettleError>
         requires within { place < length self.old.replicas }
         requires ready { CanSettle self.old now }
@@ -86,7 +91,7 @@ impl Cluster {
         }
     }
 
-    /// Has a member take the maps of another.
+    /// Lets a member take the maps of another.
     fn take_from(
         &mut self,
         borrower: usize,
@@ -108,14 +113,14 @@ impl Cluster {
         }
     }
 
-    /// How many members there are.
+    /// Returns the number of members.
     pub(crate) fn count(&self) -> usize
         ensures { result ≡ length self.now.replicas }
     {
         self.members.len()
     }
 
-    /// Has every member collect.
+    /// Lets every member collect.
     fn collect_all(&mut self, now: Moment, line: u64) -> Result<(), SettleError>
         requires ready { CanSettle self.old now }
         ensures { AreTurns self.old (collections (length self.old.replicas)) now line result self.new }
@@ -126,7 +131,7 @@ impl Cluster {
         Ok(())
     }
 
-    /// Has the first member take the maps of all others, in their order.
+    /// Lets the first member take the maps of all others, in their order.
     fn gather(&mut self, now: Moment, line: u64) -> Result<(), SettleError>
         requires ready { CanSettle self.old now }
         ensures { AreTurns self.old (gatherings (length self.old.replicas)) now line result self.new }
@@ -137,7 +142,7 @@ impl Cluster {
         Ok(())
     }
 
-    /// Has each other member take the maps of the first.
+    /// Lets each other member take the maps of the first.
     fn spread(&mut self, now: Moment, line: u64) -> Result<(), SettleError>
         requires ready { CanSettle self.old now }
         ensures { AreTurns self.old (spreadings (length self.old.replicas)) now line result self.new }
@@ -159,21 +164,21 @@ impl Cluster {
     }
 }
 
-/// Whether a member is stopped.
+/// Returns whether a member is stopped.
 fn has_stopped(members: &[Member]) -> bool
     ensures { IsTrue result ↔ HasStopped members.now }
 {
     members.iter().any(|member| !member.runs)
 }
 
-/// Whether a member's last moment is after this one.
+/// Returns whether a member's last moment is after this one.
 fn has_late(members: &[Member], now: Moment) -> bool
     ensures { IsTrue result ↔ HasLate now members.now }
 {
     members.iter().any(|member| now < member.instance.last())
 }
 
-/// Writes down that a step of this moment is refused to each member whose last moment is after it. It takes no memory.
+/// Records that a step of this moment is refused to each member whose last moment is after it. It takes no memory.
 fn mark_late(journal: &mut Journal, members: &[Member], now: Moment, line: u64)
     requires room { length members.now ≤ journal.old.room }
     requires told { (place : ℕ) (replica : Replica) → slice_get members.now place ≡ Some replica →
@@ -189,7 +194,7 @@ fn mark_late(journal: &mut Journal, members: &[Member], now: Moment, line: u64)
 }
 
 impl Cluster {
-    /// Writes down that a settle is refused to each member whose last moment is after it.
+    /// Records that a settle is refused to each member whose last moment is after it.
     fn refuse_late(&mut self, now: Moment, line: u64) -> Result<(), AllocError>
         ensures backs { OnOk result
             (self.new ≡ with_backs (with_room self.old (length self.old.replicas)) (late_places self.old.replicas now) now line) }
@@ -201,7 +206,7 @@ impl Cluster {
         Ok(())
     }
 
-    /// Asks whether all members can settle, and writes it down if they can't, or if there are none.
+    /// Checks whether all members can settle, and records it if they can't, or if there are none.
     fn admit(&mut self, now: Moment, line: u64) -> Result<(), SettleError>
         ensures { IsAdmitted self.old now line result self.new }
     {
@@ -219,15 +224,15 @@ impl Cluster {
         Ok(())
     }
 
-    /// Has every member collect, the first by name take the maps of all others in their order, and each other take the
+    /// Lets every member collect, the first by name take the maps of all others in their order, and each other one take the
     /// first one's. Then all hold the join of what they held that was live. Each taking counts as a delivery, and no
-    /// frame of it flies. Where there is no member its moment alone is written down.
+    /// frame of it flies. If there is no member, only the moment is recorded.
     ///
     /// # Errors
     ///
-    /// The first [`SettleError`] that applies, in their order. Where there was no room to write a refusal down, it may be want
-    /// of memory, and then nothing has changed. A map that is to be taken and whose row has over 67,108,864 bytes is
-    /// answered as [`SettleError::Memory`].
+    /// The first [`SettleError`] that applies, in their order. If there was no room to record a refusal, it may be
+    /// [`SettleError::Memory`], and nothing has changed then. That is also the error if the row of a map that is to be taken has
+    /// more than 67,108,864 bytes.
     pub fn settle(&mut self, now: Moment, line: u64) -> Result<(), SettleError>
         ensures settled { IsSettle self.old now line result self.new }
         // PROMISE: After a settle all members hold the greatest live version of each key that any of them held.

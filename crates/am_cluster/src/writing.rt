@@ -1,4 +1,4 @@
-//! How an event is written down.
+//! The record of an event.
 
 ghost use Rattle.std.specs.Prelude.{◌≡◌, ◌+◌, ◌-◌, ◌++◌, ◌<◌, ◌≤◌, ℕ, List, [], length, map, vec_capacity, vec_len, IfOk, OnOk, OnErr};
 ghost use Rattle.am_gossip.specs.declared.frame.Frame.{Frame as SentFrame};
@@ -19,7 +19,7 @@ use am_silence::MeshSilence;
 use am_version_order::Moment;
 use std::alloc::{AllocError, Global};
 
-/// Which member's event it is, when, where the versions that it brings come from, and the line that it was given.
+/// The member, the moment, the source of the versions and the line of an event.
 #[derive(Clone, Copy)]
 pub(crate) struct Entry {
     pub place: usize,
@@ -35,7 +35,7 @@ pub(crate) struct Delivered {
     pub log: Vec<MeshEntry>,
 }
 
-/// What an event was to the versions of one state.
+/// Returns what an event was to the versions of one state.
 fn took<V>(entry: &Entry, versions: Vec<V>, frames: Vec<Vec<V>>) -> RunStep<V>
     ensures { step_of result
         ≡ Took entry.now.place entry.now.moment entry.now.source versions.items (map (λ frame. frame.items) frames.items) }
@@ -49,7 +49,7 @@ fn took<V>(entry: &Entry, versions: Vec<V>, frames: Vec<Vec<V>>) -> RunStep<V>
     }
 }
 
-/// Writes down an event that left these frames in flight.
+/// Records an event that left these frames in flight.
 fn write_with(journal: &mut Journal, entry: &Entry, versions: Delivered, sent: Sent)
     requires { IsReady journal.old entry.now versions sent }
     ensures { (frames : List (ℕ × SentFrame)) → AreSent sent frames → IsWritten journal.old entry.now versions frames journal.new }
@@ -64,7 +64,7 @@ fn write_with(journal: &mut Journal, entry: &Entry, versions: Delivered, sent: S
     journal.append(silences, log, entry.line);
 }
 
-/// Nothing was sent. It takes no memory.
+/// Returns the versions of no frames. It takes no memory.
 fn nothing_sent(alloc: Global) -> Sent
     ensures { AreSent result [] }
 {
@@ -74,7 +74,7 @@ fn nothing_sent(alloc: Global) -> Sent
     }
 }
 
-/// Writes down an event that left no frame in flight.
+/// Records an event that left no frame in flight.
 pub(crate) fn write_silent(alloc: Global, journal: &mut Journal, entry: &Entry, versions: Delivered)
     requires { CanWrite journal.old entry.now versions [] }
     ensures { IsWritten journal.old entry.now versions [] journal.new }
@@ -83,11 +83,11 @@ pub(crate) fn write_silent(alloc: Global, journal: &mut Journal, entry: &Entry, 
     write_with(journal, entry, versions, nothing_sent(alloc));
 }
 
-/// Makes all room that frames take when they are sent, and copies their versions.
+/// Makes all the room that frames take when they are sent, and copies their versions.
 ///
 /// # Errors
 ///
-/// [`AllocError`] where memory runs out, which no frames take none of.
+/// [`AllocError`] if memory runs out; without frames none is taken.
 fn make_ready(
     alloc: Global,
     journal: &Journal,
@@ -109,11 +109,11 @@ fn make_ready(
     sent_in(alloc, frames)
 }
 
-/// Writes down an event, and has its frames fly.
+/// Records an event, and has its frames fly.
 ///
 /// # Errors
 ///
-/// [`AllocError`] where a frame finds no memory: then none of them flies.
+/// [`AllocError`] if a frame finds no memory: then none of them flies.
 pub(crate) fn write_event(
     alloc: Global,
     journal: &mut Journal,

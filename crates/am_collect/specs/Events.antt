@@ -1,4 +1,4 @@
--- What happens to a map of versions, and what that makes of the map.
+-- The events of a map of versions, and their effect on the map.
 -- X is the type of versions, and `seen` is what the merge sees of one.
 use Rattle.std.specs.Prelude.{ℕ, ◌≤◌, ◌↔◌, List, [], ◌∷◌, ◌++◌, Option, Contains}
 use Rattle.std.specs.List.{flat_map}
@@ -6,13 +6,13 @@ use Rattle.std.specs.declared.cmp.Ordering.{Ordering}
 use Rattle.am_version_order.specs.Versions.{Version}
 use Rattle.am_merge.specs.Maps.{greater_of, if_live, at}
 
--- what happens to a map
+-- an event of a map
 pub data MapEvent (X : Type 0) : Type 0 where
   -- a version is taken, live or not
   Delivered : (version : X) → MapEvent X
-  -- each version that isn't live is dropped
+  -- every version that isn't live is dropped
   Collected : MapEvent X
-  -- nothing but the moment
+  -- nothing happens but the passing of time
   Passed : MapEvent X
 
 -- events in the order in which they happened, each with its moment
@@ -35,7 +35,7 @@ collected Passed now = []
 abbrev pub taken : {X : Type 0} → List X → Events X → List X
 taken start events = start ++ flat_map (λ e. delivered e.0) events
 
--- bare sets with the same members, in any order and however often
+-- bare sets with the same members, in any order and with any repetitions
 abbrev pub HaveSame : {X : Type 0} → List X → List X → Type 0
 HaveSame {X} set other = (v : X) → (Contains set v) ↔ (Contains other v)
 
@@ -53,15 +53,15 @@ abbrev pub MoveForward : {X : Type 0} → ℕ → Events X → Type 0
 MoveForward from [] = Unit {0}
 MoveForward from (e ∷ events) = (from ≤ e.1) × MoveForward e.1 events
 
--- a map is here the function from a key to the version that it has
+-- a map, here, is the function from a key to its version
 module _ {K X : Type 0} (seen : X → Version K) (cmp : K → K → Ordering) where
-  -- the map after an event: joined with what is delivered, or swept
+  -- the map after an event: joined with the delivered version, or swept
   abbrev pub after : (K → Option X) → MapEvent X → ℕ → K → Option X
   after map (Delivered v) now key = greater_of seen (map key) (at seen cmp (v ∷ []) key)
   after map Collected now key = if_live seen now (map key)
   after map Passed now key = map key
 
-  -- the map after one event after another
+  -- the map after a list of events
   abbrev pub after_all : (K → Option X) → Events X → K → Option X
   after_all map [] = map
   after_all map (e ∷ events) = after_all (after map e.0 e.1) events

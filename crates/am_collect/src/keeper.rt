@@ -23,7 +23,7 @@ pub enum Step<V> {
 }
 
 impl<V: Version> Step<V> {
-    /// Copies the step, or answers [`AllocError`] where memory runs out.
+    /// Copies the step, or returns [`AllocError`] if memory runs out.
     fn try_clone(&self, alloc: Global) -> Result<Self, AllocError>
         ensures copy { IfOk result (λ copy. copy ≡ self.now) }
         ensures none_taken { self.now ≡ Step.Collect → IsOk result }
@@ -40,20 +40,20 @@ impl<V: Version> Step<V> {
 pub enum Stepped {
     /// A version was taken.
     Took(Taken),
-    /// So many versions went.
+    /// This many versions were dropped.
     Swept(usize),
 }
 
-/// A refusal of a call, or of a step of a run. It changes nothing.
+/// A refusal of a call, or of a step of a run. A refusal changes nothing.
 #[derive(Clone, Copy, Debug, PartialEq, Eq, Error)]
 pub enum KeeperError {
     /// The moment is before that of the last event.
     #[error("the moment is before the last one")]
     MomentBack { last: Moment },
-    /// Two of the versions that it is to start with have one key.
+    /// Two of the versions to start with have the same key.
     #[error("two versions have one key")]
     DuplicateKey,
-    /// There was no room.
+    /// Memory ran out.
     #[error("out of memory")]
     Memory,
 }
@@ -90,11 +90,11 @@ impl<V: Version> Keeper<V> {
     ghost use Rattle.am_collect.specs.Keepers.{IsLeftBy, IsRefusal, IsStepping, IsStop, ShowsBareSet, accepted};
     ghost use Rattle.am_collect.specs.Keepers.{event_of, events_of, view_at};
 
-    /// Starts a keeper of these versions, of which no two have one key.
+    /// Creates a keeper of these versions, of which no two may have the same key.
     ///
     /// # Errors
     ///
-    /// [`KeeperError::DuplicateKey`] where two have one, and [`KeeperError::Memory`] where memory runs out.
+    /// Returns [`KeeperError::DuplicateKey`] if two have the same key, and [`KeeperError::Memory`] if memory runs out.
     pub fn start(alloc: Global, versions: Vec<V>, now: Moment) -> Result<Self, KeeperError>
         ensures order { IfOk result (λ keeper. IsMap V.seen V.Key.cmp keeper.held) }
         ensures members { IfOk result (λ keeper. IsPermutation versions.items keeper.held) }
@@ -109,7 +109,7 @@ impl<V: Version> Keeper<V> {
         }
     }
 
-    /// Makes a keeper of a map. It takes no memory.
+    /// Creates a keeper of a map. This takes no memory.
     pub fn of(held: Held<V>, now: Moment) -> Self
         ensures held { result.held ≡ held }
         ensures last { result.last ≡ now }
@@ -117,25 +117,25 @@ impl<V: Version> Keeper<V> {
         Keeper { held, last: now }
     }
 
-    /// Returns the map that it holds. It takes no memory.
+    /// Returns the map. This takes no memory.
     pub fn held(&self) -> &Held<V>
         ensures { result.now ≡ self.now.held }
     {
         &self.held
     }
 
-    /// Returns the version of a key, where it is live. It takes no memory.
+    /// Returns the version of a key, if it is live. This takes no memory.
     pub fn view(&self, key: &V::Key, now: Moment) -> Option<&V>
         ensures { option_copied result ≡ view_at V.seen V.Key.cmp self.now now key.now }
     {
         self.held.get(key).filter(|version| now < version.expires())
     }
 
-    /// Drops each version that isn't live, and says how many went. It takes no memory.
+    /// Drops each version that isn't live, and returns how many were dropped. This takes no memory.
     ///
     /// # Errors
     ///
-    /// [`KeeperError::MomentBack`] where the moment is before the last one.
+    /// Returns [`KeeperError::MomentBack`] if the moment is before the last one.
     pub fn collect(&mut self, now: Moment) -> Result<usize, KeeperError>
         ensures back { (result ≡ Err (KeeperError.MomentBack self.old.last)) ↔ (now < self.old.last) }
         ensures only { IsOkUnless result (KeeperError.MomentBack self.old.last) }
@@ -156,8 +156,8 @@ impl<V: Version> Keeper<V> {
     ///
     /// # Errors
     ///
-    /// [`KeeperError::MomentBack`] where the moment is before the last one, else [`KeeperError::Memory`] where memory
-    /// runs out.
+    /// Returns [`KeeperError::MomentBack`] if the moment is before the last one, or else [`KeeperError::Memory`] if memory runs
+    /// out.
     pub fn take_pair(
         &mut self,
         first: V,
@@ -178,12 +178,13 @@ impl<V: Version> Keeper<V> {
         Ok(taken)
     }
 
-    /// Does a step, and says what it did.
+    /// Does a step and returns its outcome.
     ///
     /// # Errors
     ///
-    /// [`KeeperError::MomentBack`] where the moment is before the last one, else [`KeeperError::Memory`] where memory
-    /// runs out. A refused step changes nothing.
+    /// Returns [`KeeperError::MomentBack`] if the moment is before the last one, or else [`KeeperError::Memory`] if memory runs
+    /// out. A
+    /// refused step changes nothing.
     pub fn step(&mut self, step: Step<V>, now: Moment) -> Result<Stepped, KeeperError>
         ensures back { (result ≡ Err (KeeperError.MomentBack self.old.last)) ↔ (now < self.old.last) }
         ensures refusal { IfErr result (IsRefusal step self.old.last now) }
@@ -201,13 +202,15 @@ impl<V: Version> Keeper<V> {
 
     /// Does copies of steps in order, until one is refused.
     ///
-    /// Steps are calm where no moment is before the last one, and no live version comes once a greater one of its key
-    /// was taken and a collection came at or after the expiry of the greatest. After calm steps the keeper shows, from
-    /// its last moment on, the view of the bare set of all that it took.
+    /// Steps are calm if no moment is before the last one, and no live version arrives after a greater one of its key was taken and
+    /// a
+    /// collection came at or after the expiry of the greatest. After calm steps the keeper shows, from its last moment on, the view
+    /// of
+    /// the bare set of all that it took.
     ///
     /// # Errors
     ///
-    /// The place of the first step that is refused, and its refusal. The steps before it stand.
+    /// Returns the place of the first refused step, and its refusal. The steps before it keep their effect.
     pub fn run(&mut self, steps: &[(Step<V>, Moment)]) -> Result<(), (usize, KeeperError)>
         ensures refusal { IfErr result (IsStop self.new.last steps.now) }
         ensures left { IsLeftBy V.seen V.Key.cmp self.old (events_of (accepted steps.now result)) self.new }

@@ -1,5 +1,5 @@
-//! What holds of calm events, and of the maps that saw them. That joining maps is commutative,
-//! associative and idempotent stands in `am_merge::laws`.
+//! Laws about calm events and the maps that saw them. `am_merge::laws` states that joining maps is commutative, associative and
+//! idempotent.
 
 ghost use Rattle.std.specs.Prelude.{◌≡◌, ◌≤◌, ℕ, List, ◌++◌, All};
 ghost use Rattle.am_merge.specs.Maps.{IsMap, at, if_live};
@@ -11,15 +11,15 @@ ghost use Rattle.am_collect.specs.Keepers.{IsCalmlyLeft, IsLeftBy, view_at};
 
 use am_version_order::Version;
 
-/// What some events left of a map, and others after them of that, all of them leave of it.
+/// States that events and later events together lead from the first state to the last.
 pub fn events_follow_events<V: Version>()
     ensures { (old between new : Kept V) (past events : Events V) →
         IsLeftBy V.seen V.Key.cmp old past between → IsLeftBy V.seen V.Key.cmp between events new →
         IsLeftBy V.seen V.Key.cmp old (past ++ events) new }
 {}
 
-/// After calm events a map shows, at every key and at every moment from the last event on, what
-/// the bare set of all that it started with and all that was delivered shows.
+/// States that after calm events a map shows, at every key and at every moment from the last event on, the same as the bare set
+/// of all that it started with and all that was delivered.
 pub fn calm_events_show_the_bare_set<V: Version>()
     ensures { (start : List V) (from : ℕ) (events : Events V) (now : ℕ) (key : V.Key) →
         IsMap V.seen V.Key.cmp start → IsCalm V.seen start from events → last_moment from events ≤ now →
@@ -27,8 +27,8 @@ pub fn calm_events_show_the_bare_set<V: Version>()
         (if_live V.seen now (after_all V.seen V.Key.cmp (at V.seen V.Key.cmp start) events key)) }
 {}
 
-/// Two maps that took the same versions in calm events, in any order and however often, show
-/// the same from the later one of their last moments on.
+/// States that two maps that took the same versions in calm events, in any order and however often, show the same from the
+/// later one of their last moments on.
 pub fn calm_keepers_agree<V: Version>()
     // PROMISE: Two maps that took the same in calm events, in any order and however often, show the same.
     ensures { (start begin : Kept V) (events others : Events V) (one other : Kept V) (now : ℕ) (key : V.Key) →

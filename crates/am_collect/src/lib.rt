@@ -1,5 +1,5 @@
-//! Keepers of versions, which drop those that aren't live, and the laws of calm events: behind them a map shows what all
-//! that it ever took would show.
+//! Keepers of versions, which drop those that aren't live, and the laws of calm events, after which a map shows the same as if it
+//! had dropped nothing.
 #![tactic(auto)]
 
 mod keeper;

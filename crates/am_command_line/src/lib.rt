@@ -1,4 +1,4 @@
-//! The command line of the program: its words as the job that they ask for, and the help texts.
+//! The command line of the program: the job that its words ask for, and the help texts.
 #![tactic(auto)]
 
 mod words;

@@ -1,4 +1,4 @@
-//! The command line.
+//! The words of the command line, and the job that they ask for.
 
 ghost use Rattle.std.specs.Prelude.{◌≡◌, ◌≢◌};
 
@@ -12,6 +12,7 @@ use am_jobs::{FoldJob, Form, Job, ShowJob, StateName, VERSION, is_file};
 use am_peers::number_within;
 use am_silence_json::moments::read_moment;
 use am_version_order::Moment;
+use am_wire::Unknown;
 use clap::error::ErrorKind;
 use clap::{ArgMatches, Command};
 use options::{Named, Takes, Words, args_of, command_of};
@@ -19,14 +20,14 @@ use std::alloc::{AllocError, Global};
 use std::rt::{Env, Files};
 use std::{env, io};
 
-/// Why the words of the command line give no job.
+/// The reason that the words of the command line give no job.
 #[derive(Drop)]
 pub enum WordsError {
-    /// A word is not UTF-8.
+    /// A word isn't UTF-8.
     NotUtf8,
     /// Help was asked for, or a mistake was made: the text says which.
     Text(clap::Error),
-    /// A peer is not NAME=PORT.
+    /// A peer isn't written as NAME=PORT.
     Peer,
     /// Memory ran out.
     Memory,
@@ -55,12 +56,12 @@ impl From<clap::Error> for WordsError {
     }
 }
 
-/// The job that the words of the command line ask for; without words a schedule is played. The first word is the program's
-/// name.
+/// Returns the job that the words of the command line ask for, which is to play a schedule if there are none. The first word is
+/// the program's name.
 ///
 /// # Errors
 ///
-/// [`WordsError::Text`] where help is asked for, or a word is a mistake; [`WordsError::Peer`]; and [`WordsError::Memory`].
+/// [`WordsError::Text`] if help is asked for or a word is a mistake; [`WordsError::Peer`]; and [`WordsError::Memory`].
 pub fn job_of<'a, R: Files + AllocGlobal>(
     rt: &R,
     words: &'a [String],
@@ -72,12 +73,12 @@ pub fn job_of<'a, R: Files + AllocGlobal>(
     read_job(rt, &matches)
 }
 
-/// What the words of the command line say.
+/// Parses the words of the command line.
 fn matches_of<'a>(alloc: Global, words: &'a [String]) -> Result<ArgMatches<'a>, WordsError> {
     Ok(command(alloc)?.try_get_matches_from(words)?)
 }
 
-/// The program's name and the words behind it.
+/// Returns the program's name and the words that follow it.
 ///
 /// # Errors
 ///
@@ -102,7 +103,7 @@ static TASKS: [Task; 8] = [
     Task::Instance,
 ];
 
-/// What the program is asked to do.
+/// A task that the program can be asked to do.
 #[derive(Clone, Copy)]
 enum Task {
     Replay,
@@ -115,7 +116,7 @@ enum Task {
     Instance,
 }
 
-/// The program with its tasks.
+/// Returns the command of the program, with its tasks.
 fn command<'a>(alloc: Global) -> Result<Command<'a>, AllocError> {
     let tasks = task_commands(alloc)?;
     Command::new(alloc, "am_tool")
@@ -125,7 +126,7 @@ fn command<'a>(alloc: Global) -> Result<Command<'a>, AllocError> {
         .subcommands(tasks)
 }
 
-/// The commands of all tasks.
+/// Returns the commands of all tasks.
 fn task_commands<'a>(alloc: Global) -> Result<Vec<Command<'a>>, AllocError> {
     let mut commands = Vec::with_capacity(alloc, TASKS.len())?;
     for task in &TASKS {
@@ -134,7 +135,7 @@ fn task_commands<'a>(alloc: Global) -> Result<Vec<Command<'a>>, AllocError> {
     Ok(commands)
 }
 
-/// The command of a task.
+/// Returns the command of a task.
 fn task_command<'a>(alloc: Global, task: Task) -> Result<Command<'a>, AllocError> {
     match task {
         Task::Replay => replay_command(alloc),
@@ -172,7 +173,7 @@ static REPLAY_OPTIONS: [Named; 1] = [Named {
     help: "Also draws what was played, in this file as SVG; a schedule of over 2,000 steps is refused then",
 }];
 
-static FOLD_OPTIONS: [Named; 5] = [
+static FOLD_OPTIONS: [Named; 6] = [
     Named {
         name: "state",
         value: "STATE",
@@ -198,6 +199,12 @@ static FOLD_OPTIONS: [Named; 5] = [
         help: "How many bytes each input and the result may have, 1 to 4294967295",
     },
     Named {
+        name: KEEP_UNKNOWN,
+        value: "",
+        takes: Takes::Nothing,
+        help: KEEP_UNKNOWN_HELP,
+    },
+    Named {
         name: FILE,
         value: "FILE",
         takes: Takes::Word(Words {
@@ -208,7 +215,7 @@ static FOLD_OPTIONS: [Named; 5] = [
     },
 ];
 
-static SHOW_OPTIONS: [Named; 5] = [
+static SHOW_OPTIONS: [Named; 6] = [
     Named {
         name: "state",
         value: "STATE",
@@ -234,6 +241,12 @@ static SHOW_OPTIONS: [Named; 5] = [
         help: LOG_HELP,
     },
     Named {
+        name: KEEP_UNKNOWN,
+        value: "",
+        takes: Takes::Nothing,
+        help: KEEP_UNKNOWN_HELP,
+    },
+    Named {
         name: FILE,
         value: "FILE",
         takes: Takes::Word(Words {
@@ -244,7 +257,7 @@ static SHOW_OPTIONS: [Named; 5] = [
     },
 ];
 
-/// The job that is asked for.
+/// Reads the job that is asked for.
 fn read_job<'a, R: Files + AllocGlobal>(
     rt: &R,
     matches: &ArgMatches<'a>,
@@ -258,7 +271,7 @@ fn read_job<'a, R: Files + AllocGlobal>(
     read_other(rt.alloc(), matches)
 }
 
-/// The job that is asked for, where no member is to run, and nothing is compared.
+/// Reads the job that is asked for if it neither runs a member nor compares anything.
 fn read_other<'a>(alloc: Global, matches: &ArgMatches<'a>) -> Result<Job<'a>, WordsError> {
     if let Some(flags) = matches.subcommand_matches(live::PULL) {
         return live::read_pull(alloc, flags);
@@ -272,7 +285,7 @@ fn read_other<'a>(alloc: Global, matches: &ArgMatches<'a>) -> Result<Job<'a>, Wo
     read_local(alloc, matches)
 }
 
-/// The job that is asked for, where no replica is asked.
+/// Reads the job that is asked for if it asks no replica.
 fn read_local<'a>(alloc: Global, matches: &ArgMatches<'a>) -> Result<Job<'a>, WordsError> {
     if let Some(flags) = matches.subcommand_matches(SHOW) {
         return read_show(alloc, flags);
@@ -284,7 +297,7 @@ fn read_local<'a>(alloc: Global, matches: &ArgMatches<'a>) -> Result<Job<'a>, Wo
     Ok(Job::Replay(flags.and_then(|flags| flags.get_str(PICTURE))))
 }
 
-/// The snapshot that is to be shown.
+/// Reads which snapshot to show.
 fn read_show<'a>(alloc: Global, flags: &ArgMatches<'a>) -> Result<Job<'a>, WordsError> {
     let file = flags.get_str(FILE);
     match now_beside(flags, file.as_slice()) {
@@ -294,12 +307,13 @@ fn read_show<'a>(alloc: Global, flags: &ArgMatches<'a>) -> Result<Job<'a>, Words
             has_logs: flags.get_flag(LOG),
             form: form_of(flags),
             now,
+            unknown: unknown_of(flags),
         })),
         Err(text) => Err(mistake(show_command(alloc, "am_tool show"), text)),
     }
 }
 
-/// The rows that are to be folded.
+/// Reads which rows to fold.
 fn read_fold<'a>(alloc: Global, flags: &ArgMatches<'a>) -> Result<Job<'a>, WordsError> {
     let files = Vec::from_slice(alloc, flags.get_strs(FILE).unwrap_or(&[]))?;
     match fold_numbers(flags, &files) {
@@ -309,12 +323,13 @@ fn read_fold<'a>(alloc: Global, flags: &ArgMatches<'a>) -> Result<Job<'a>, Words
             has_logs: flags.get_flag(LOG),
             now: now.unwrap_or(Moment::LEAST),
             most,
+            unknown: unknown_of(flags),
         })),
         Err(text) => Err(mistake(fold_command(alloc, "am_tool fold"), text)),
     }
 }
 
-/// The moment that an option names, where it is given, and the most bytes, or what is said of what is at fault.
+/// Returns the moment that an option names, if any, and the maximum number of bytes, or else the message for the first mistake.
 fn fold_numbers(
     flags: &ArgMatches<'_>,
     files: &[&str],
@@ -327,8 +342,8 @@ fn fold_numbers(
     }
 }
 
-/// The moment that an option names, where it is given, or what is said of a word that names none, or of logs beside none of
-/// these files.
+/// Returns the moment that an option names, if any, or else the message for a word that names no moment, or for logs that are
+/// asked for when none of the words names a file.
 fn now_beside(flags: &ArgMatches<'_>, files: &[&str]) -> Result<Option<Moment>, &'static str> {
     let now = now_of(flags)?;
     match log_mistake(flags, files.iter().any(|file| is_file(file))) {
@@ -337,12 +352,12 @@ fn now_beside(flags: &ArgMatches<'_>, files: &[&str]) -> Result<Option<Moment>, 
     }
 }
 
-/// What is said where logs are asked for and no file is named.
+/// Returns the message for logs that are asked for when no file is named.
 fn log_mistake(flags: &ArgMatches<'_>, names_file: bool) -> Option<&'static str> {
     (flags.get_flag(LOG) && !names_file).then_some(NO_FILE)
 }
 
-/// The state that an option names.
+/// Returns the state that an option names.
 fn state_of(flags: &ArgMatches<'_>) -> StateName {
     match flags.get_str("state") {
         Some("nfl") => StateName::Log,
@@ -350,7 +365,7 @@ fn state_of(flags: &ArgMatches<'_>) -> StateName {
     }
 }
 
-/// The form that the options name.
+/// Returns the form that the options name.
 fn form_of(flags: &ArgMatches<'_>) -> Form {
     if flags.get_flag(JSON) {
         Form::Json
@@ -359,7 +374,16 @@ fn form_of(flags: &ArgMatches<'_>) -> Form {
     }
 }
 
-/// The moment that an option names, where it is given, or what is said of a word that names none.
+/// Returns what to do with unknown fields: they are dropped unless an option keeps them.
+fn unknown_of(flags: &ArgMatches<'_>) -> Unknown {
+    if flags.get_flag(KEEP_UNKNOWN) {
+        Unknown::Keep
+    } else {
+        Unknown::Drop
+    }
+}
+
+/// Returns the moment that an option names, if any, or else the message for a word that names no moment.
 fn now_of(flags: &ArgMatches<'_>) -> Result<Option<Moment>, &'static str> {
     match flags.get_str("now") {
         Some(word) => Ok(Some(moment_of(word).ok_or(BAD_NOW)?)),
@@ -367,7 +391,7 @@ fn now_of(flags: &ArgMatches<'_>) -> Result<Option<Moment>, &'static str> {
     }
 }
 
-/// The moment of so many nanoseconds since 1970, or of a date-time of RFC 3339.
+/// Reads a moment as nanoseconds since 1970, or as a date-time of RFC 3339.
 fn moment_of(word: &str) -> Option<Moment> {
     match number_within(0, u64::MAX, word) {
         Some(nanos) => Some(since_1970(nanos)),
@@ -375,7 +399,7 @@ fn moment_of(word: &str) -> Option<Moment> {
     }
 }
 
-/// That a value is wrong, in a text, and the usage of its command.
+/// Returns an error that says in a text that a value is wrong, and has the usage of its command.
 fn mistake(command: Result<Command<'_>, AllocError>, text: &str) -> WordsError {
     let Ok(mut command) = command else {
         return WordsError::Memory;
@@ -389,7 +413,7 @@ fn mistake(command: Result<Command<'_>, AllocError>, text: &str) -> WordsError {
 /// The names of the tasks.
 const REPLAY: &str = "replay";
 
-/// The option of a replay that names a picture's file.
+/// The name of the option of `replay` that takes the file of a picture.
 const PICTURE: &str = "picture";
 
 const FOLD: &str = "fold";
@@ -402,14 +426,20 @@ const JSON: &str = "json";
 /// The name of the option for the logs beside files.
 const LOG: &str = "log";
 
-/// The name of the option for the most bytes.
+/// The name of the option for the maximum number of bytes.
 const MOST_BYTES: &str = "most-bytes";
 
-/// The largest number that it takes.
+/// The largest number that the option `most-bytes` takes.
 const MOST_OF_MOST_BYTES: u64 = 4_294_967_295;
 
 const BAD_MOST_BYTES: &str =
     "invalid value for '--most-bytes <BYTES>': a whole number from 1 to 4294967295 is wanted, in digits alone";
+
+/// The name of the option that keeps unknown fields.
+const KEEP_UNKNOWN: &str = "keep-unknown";
+
+const KEEP_UNKNOWN_HELP: &str =
+    "Keeps the fields of versions that aren't known here, as those of a later Alertmanager; without it, they are dropped";
 
 /// The name of the words that name files.
 const FILE: &str = "file";

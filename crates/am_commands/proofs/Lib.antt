@@ -3,3 +3,4 @@ pub mod Folds
 pub mod Found
 pub mod Stopping
 pub mod RowStops
+pub mod Plainly

@@ -1,6 +1,7 @@
 -- What is told of the differences of sources, and what went out where that stopped.
--- X is the type of versions, S that of sources, as where sources are read; `begins`, `told` and `more` are the words of lines, and
--- `key_data`, `name` and `value` the values of JSON, as where differences are told; `contents` is what a writer holds.
+-- X is the type of versions, S that of sources, as where sources are read; `begins`, `told` and `more` are the words of lines, `by`
+-- says by what one version is less than another, and `key_data`, `name` and `value` are the values of JSON, as where
+-- differences are told; `contents` is what a writer holds.
 use Rattle.std.specs.Prelude.{◌≡◌, ℕ, ◌<◌, Bool, List, length, take, Option}
 use Rattle.std.specs.Io.KnownBytes.{Appends}
 use Rattle.std.specs.List.{AllZip}
@@ -24,13 +25,13 @@ use Rattle.am_commands.specs.Reading.{IsRead, IsFirstAtFault}
 use Rattle.am_commands.specs.Figures.{AreFigures}
 
 module _ {K X : Type 0} (seen : X → Version K) (cmp : K → K → Ordering) (begins : K → List ℕ) (told : Manner → X → List ℕ)
-    (more : Manner → X → X → List ℕ) (key_data : K → Data) (name : List ℕ) (value : ℕ → X → Data) (how : Comparison) where
+    (more : Manner → X → X → List ℕ) (by : X → X → List ℕ) (key_data : K → Data) (name : List ℕ) (value : ℕ → X → Data) (how : Comparison) where
   -- the text tells all differences of the sources in this form, and `found` says whether there is one
   abbrev pub IsReportIn : Report → List (Source X) → Bool → List ℕ → Type 0
   IsReportIn reports.Lines sources found text =
-      AreLines seen cmp begins (told how.manner) (more how.manner) how.compared how.manner.moment sources found text
+      AreLines seen cmp begins (told how.manner) (more how.manner) by how.compared how.manner.moment sources found text
   IsReportIn reports.Json sources found text =
-      IsLine seen cmp key_data name (value how.manner.moment) how.compared how.manner.moment sources found text
+      IsLine seen cmp key_data name (value how.manner.moment) by how.compared how.manner.moment sources found text
   IsReportIn reports.Figures sources found text = AreFigures seen cmp how.compared how.manner.moment sources found text
 
   -- the same in the form that is asked for

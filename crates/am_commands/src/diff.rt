@@ -1,4 +1,4 @@
-//! How replicas differ.
+//! The differences between replicas.
 
 ghost use Rattle.std.specs.Prelude.{◌≡◌, IfOk, IfErr, ℕ, List};
 ghost use Rattle.std.specs.Io.KnownBytes.{Appends};
@@ -7,32 +7,34 @@ ghost use Rattle.am_report.specs.Later.{has_later_source};
 ghost use Rattle.am_report.specs.Sources.{Source as NamedMap};
 ghost use Rattle.am_commands.specs.Reading.{IsRead};
 ghost use Rattle.am_commands.specs.Differing.{IsReport, StopsReport, StopsDiff};
+ghost use Rattle.am_report.specs.Less.{less_word};
 
 use crate::fault::{SourceFault, Stopped, add, report_stopped};
 use crate::figures::write_figures;
 use crate::host::{Host, Streams};
 use crate::live::Shown;
+use crate::losses;
 use crate::moment::{moment_of, warn};
-use crate::opened::{Keys, Opened, Origin, Reading, open};
+use crate::opened::{Keys, Opened, Reading, Row, open};
 use crate::replica::told_by;
 use crate::source::{Input, Source, read_sources};
 use am_faults::{report, status};
 use am_jobs::{DiffJob, PullJob, Report, SourceWord, StateName};
 use am_nflog::MeshEntry;
 use am_report::{
-    Compared, InJson, Manner, Replica, ReportLine, has_later_source, write_differences,
+    Compared, InJson, Losses, Manner, Replica, ReportLine, has_later_source, write_differences,
     write_differences_json,
 };
 use am_silence::MeshSilence;
 use am_snapshot::SnapshotError;
 use am_version_order::Moment;
-use am_wire::MOST_MESSAGE_BYTES;
+use am_wire::{MOST_MESSAGE_BYTES, Unknown};
 use std::alloc::{AllocError, Global};
 use std::io::{BufReader, Stdin, Write};
 use std::mem;
 
 /// A source that is opened.
-type OpenedInput<'a> = Input<'a, Opened<BufReader<Origin>>>;
+type OpenedInput<'a> = Input<'a, Opened<BufReader<Row>>>;
 
 /// Compares the sources of a job, and returns the exit status of the program.
 pub fn run_diff<'a, R: Host>(rt: &R, streams: Streams, job: &DiffJob<'a>) -> u8 {
@@ -52,12 +54,12 @@ fn name_of<'a>(job: &DiffJob<'a>, stopped: &Stopped) -> Option<&'a str> {
     Some(source.name)
 }
 
-/// What came of a comparison.
+/// The outcome of a comparison.
 #[derive(Clone, Copy)]
 pub struct Outcome {
-    /// There is a difference.
+    /// True if there is a difference.
     pub found: bool,
-    /// Something that was read was updated after the moment.
+    /// True if something that was read was updated after the moment.
     pub has_later: bool,
 }
 
@@ -73,12 +75,12 @@ fn tell<R: Host>(rt: &R, job: &DiffJob<'_>, outcome: Outcome) -> u8 {
     }
 }
 
-/// What is compared of sources, and how it is told.
+/// The parts of sources that are compared, and the form of the report.
 #[derive(Clone, Copy)]
 pub struct Comparison {
     pub compared: Compared,
     pub report: Report,
-    /// The moment, and how lines are told.
+    /// The moment, and the form of lines.
     pub manner: Manner,
 }
 
@@ -105,12 +107,26 @@ fn compare<'a, R: Host>(
         return diff_sources::<MeshSilence, _, _>(alloc, &mut inputs, &how, &mut output);
     }
     let mut inputs = open_all(rt, input, job)?;
-    match job.state {
+    let compared = match job.state {
         StateName::Silences => {
             diff_sources::<MeshSilence, _, _>(alloc, &mut inputs, &how, &mut output)
         }
         StateName::Log => diff_sources::<MeshEntry, _, _>(alloc, &mut inputs, &how, &mut output),
+    };
+    let outcome = compared?;
+    warn_of_losses(rt, &inputs);
+    Ok(outcome)
+}
+
+/// Warns a person about what the versions of sources lose. Says nothing if memory runs out.
+fn warn_of_losses<R: Host>(rt: &R, inputs: &[OpenedInput<'_>]) {
+    let mut all = Losses::none(rt.alloc());
+    for input in inputs {
+        if input.source.add_losses(&mut all).is_err() {
+            return;
+        }
     }
+    losses::warn(rt, Unknown::Keep, &all);
 }
 
 /// Returns the sources of a job, of which one at least is a server: each is asked or opened when it is read.
@@ -161,11 +177,21 @@ fn open_all<'a, R: Host>(
     Ok(inputs)
 }
 
-/// How the rows of sources are read.
-const READING: Reading = Reading {
-    keys: Keys::Repeated,
-    most: MOST_MESSAGE_BYTES as u32,
-};
+/// Returns how the rows of sources are read: with the fields of versions that aren't known here, unless a server is among
+/// the sources, since API v2 shows none of them.
+fn reading_of(job: &DiffJob<'_>) -> Reading {
+    let unknown = if job.is_live() {
+        Unknown::Drop
+    } else {
+        Unknown::Keep
+    };
+    Reading {
+        state: job.state,
+        keys: Keys::Repeated,
+        most: MOST_MESSAGE_BYTES as u32,
+        unknown,
+    }
+}
 
 /// Opens a source: what a replica tells, beside which no logs stand, a file, or standard input.
 pub fn open_source<R: Host>(
@@ -173,9 +199,10 @@ pub fn open_source<R: Host>(
     input: Stdin,
     job: &DiffJob<'_>,
     source: &SourceWord<'_>,
-) -> Result<Opened<BufReader<Origin>>, SourceFault> {
+) -> Result<Opened<BufReader<Row>>, SourceFault> {
+    let reading = reading_of(job);
     let Some(replica) = source.replica() else {
-        return open(rt, input, source.file, job.has_logs, READING);
+        return open(rt, input, source.file, job.has_logs, reading);
     };
     let pull = PullJob {
         state: job.state,
@@ -186,7 +213,7 @@ pub fn open_source<R: Host>(
     Ok(Opened {
         row: Some(told_by(rt, &pull)?),
         logs: None,
-        reading: READING,
+        reading,
     })
 }
 
@@ -198,9 +225,9 @@ fn write_report<V: ReportLine + InJson, W: Write>(
     writer: &mut W,
 ) -> Result<bool, SnapshotError>
     ensures told { IfOk result (λ found. (text : List ℕ) ×
-        IsReport V.seen V.Key.cmp V.begins V.told V.more V.key_data V.named V.value how.now replicas.now found text ×
+        IsReport V.seen V.Key.cmp V.begins V.told V.more (less_word V.seen V.unknown_of V.known_of) V.key_data V.named V.value how.now replicas.now found text ×
         Appends (W.contents writer.old) (W.contents writer.new) text) }
-    ensures stopped { IfErr result (StopsReport V.seen V.Key.cmp V.begins V.told V.more V.key_data V.named V.value how.now replicas.now
+    ensures stopped { IfErr result (StopsReport V.seen V.Key.cmp V.begins V.told V.more (less_word V.seen V.unknown_of V.known_of) V.key_data V.named V.value how.now replicas.now
         W.contents writer.old writer.new) }
 {
     let manner = &how.manner;
@@ -234,11 +261,11 @@ pub fn diff_sources<V: ReportLine + InJson, S: Source<V>, W: Write>(
     ensures told { IfOk result (λ outcome. (sources : List (NamedMap V)) ×
         AllZip (IsRead V.seen V.Key.cmp S.gives) inputs.old sources ×
         (outcome.has_later ≡ has_later_source V.seen how.now.manner.moment sources) × (text : List ℕ) ×
-        IsReport V.seen V.Key.cmp V.begins V.told V.more V.key_data V.named V.value how.now sources outcome.found text ×
+        IsReport V.seen V.Key.cmp V.begins V.told V.more (less_word V.seen V.unknown_of V.known_of) V.key_data V.named V.value how.now sources outcome.found text ×
         Appends (W.contents writer.old) (W.contents writer.new) text) }
 
     // PROMISE: If a source is at fault, `diff` tells of the first one, and prints nothing.
-    ensures stopped { IfErr result (StopsDiff V.seen V.Key.cmp V.begins V.told V.more V.key_data V.named V.value how.now
+    ensures stopped { IfErr result (StopsDiff V.seen V.Key.cmp V.begins V.told V.more (less_word V.seen V.unknown_of V.known_of) V.key_data V.named V.value how.now
         S.gives S.stops inputs.old W.contents writer.old writer.new) }
 {
     let replicas: Vec<Replica<'_, V>> = match read_sources(alloc, inputs) {

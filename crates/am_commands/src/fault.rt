@@ -1,4 +1,4 @@
-//! Why a command stopped.
+//! The faults at which a command stops.
 
 ghost use Rattle.std.specs.Prelude.{◌≡◌, ◌++◌, ◌∷◌, [], OnOk};
 ghost use Rattle.am_commands.specs.Statuses.{source_status, stopped_status};
@@ -11,7 +11,7 @@ use am_report::Word;
 use am_snapshot::SnapshotError;
 use std::alloc::AllocError;
 
-/// Why a source isn't read.
+/// A fault because of which a source isn't read.
 #[derive(Drop)]
 pub enum SourceFault {
     /// In its file, its row, or what a server or a replica answered.
@@ -33,7 +33,7 @@ impl SourceFault {
     }
 }
 
-/// Why a command stopped: the first fault that stands.
+/// The first fault that a command met, at which it stopped.
 #[derive(Drop)]
 pub enum Stopped {
     /// The source of this number, from 0 on, is at fault.

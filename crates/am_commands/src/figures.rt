@@ -19,9 +19,9 @@ use std::io::Write;
 /// At how many keys a source lacks the greatest version.
 #[derive(Clone, Copy)]
 struct Tally {
-    /// It holds none there.
+    /// The replica holds none there.
     missing: u64,
-    /// It holds a lesser one.
+    /// The replica holds a lesser one.
     behind: u64,
 }
 
@@ -148,7 +148,7 @@ fn success_family(alloc: Global, kind: &'static str, now: Moment) -> Result<Fami
     })
 }
 
-/// The text of figures, and whether there is a difference.
+/// Returns the text of figures, and whether there is a difference.
 #[derive(Drop)]
 struct Figures {
     text: Vec<u8>,

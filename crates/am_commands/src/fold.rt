@@ -6,16 +6,18 @@ ghost use Rattle.am_commands.specs.Telling.{IsTold, StopsTelling};
 
 use crate::fault::{Stopped, add, report_stopped};
 use crate::host::{Host, Streams};
+use crate::losses;
 use crate::opened::{Keys, Reading, Unopened};
 use crate::source::{Input, Source, join_sources};
 use am_faults::status;
 use am_jobs::{FoldJob, STANDARD_INPUT, StateName};
 use am_merge::Held;
 use am_nflog::MeshEntry;
+use am_report::Losses;
 use am_silence::MeshSilence;
 use am_snapshot::save_within;
 use am_version_order::Version;
-use am_wire::Message;
+use am_wire::{Message, Unknown};
 use std::alloc::{AllocError, Global};
 use std::io::{Stdin, Stdout, Write};
 use std::mem;
@@ -46,7 +48,20 @@ fn fold_files<R: Host, V: Version + Message>(
     job: &FoldJob<'_>,
 ) -> Result<(), Stopped> {
     let mut inputs = inputs_of(rt, input, job)?;
-    fold_sources::<V, _, _>(rt.alloc(), &mut inputs, job.most, output)
+    fold_sources::<V, _, _>(rt.alloc(), &mut inputs, job.most, output)?;
+    warn_of_losses(rt, job.unknown, &inputs);
+    Ok(())
+}
+
+/// Warns a person about what the versions of sources lose. Says nothing if memory runs out.
+fn warn_of_losses<R: Host>(rt: &R, unknown: Unknown, inputs: &[Input<'_, Unopened<'_, R>>]) {
+    let mut all = Losses::none(rt.alloc());
+    for input in inputs {
+        if all.join(&input.source.losses).is_err() {
+            return;
+        }
+    }
+    losses::warn(rt, unknown, &all);
 }
 
 /// Returns the sources of a job.
@@ -73,8 +88,10 @@ fn input_of<'a, R: Host>(
     file: &'a str,
 ) -> Input<'a, Unopened<'a, R>> {
     let reading = Reading {
+        state: job.state,
         keys: Keys::Repeated,
         most: job.most,
+        unknown: job.unknown,
     };
     Input {
         name: file,
@@ -84,6 +101,7 @@ fn input_of<'a, R: Host>(
             file,
             has_logs: job.has_logs,
             reading,
+            losses: Losses::none(rt.alloc()),
         },
     }
 }

@@ -1,4 +1,4 @@
-//! What a command takes of the system.
+//! The parts of the system that a command uses.
 
 use am_faults::HasAudience;
 use std::fs::File;

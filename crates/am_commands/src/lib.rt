@@ -1,4 +1,4 @@
-//! The commands over snapshots and rows: one is shown, many are folded, it is told how replicas differ, and a running replica's
+//! The commands over snapshots and rows: one is shown, many are folded or compared, and a running replica's
 //! state is read, or mended.
 #![tactic(auto)]
 
@@ -8,6 +8,7 @@ mod figures;
 mod fold;
 mod host;
 mod live;
+mod losses;
 mod mend;
 mod mending;
 mod moment;

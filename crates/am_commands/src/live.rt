@@ -1,4 +1,4 @@
-//! What API v2 shows of sources, be they servers or files.
+//! Sources, be they servers or files, as API v2 shows them.
 
 ghost use Rattle.std.specs.Prelude.{IfOk};
 ghost use Rattle.std.specs.Ordering.{nat_cmp};
@@ -21,7 +21,7 @@ use std::alloc::{AllocError, Global};
 use std::io::Stdin;
 use std::time::Duration;
 
-/// A source of which is read what API v2 shows: a server that is asked then, or a file that is opened then.
+/// A source that is read as API v2 shows it: a server that is asked then, or a file that is opened then.
 pub struct Shown<'a, R: Host> {
     pub rt: &'a R,
     pub input: Stdin,
@@ -59,7 +59,7 @@ impl<'a, R: Host> Source<MeshSilence> for Shown<'a, R> {
     }
 }
 
-/// What API v2 shows of a source that is opened.
+/// Returns what API v2 shows of a source that is opened.
 fn shown_by_row<R: Host>(
     alloc: Global,
     rt: &R,
@@ -77,7 +77,7 @@ fn shown_by_row<R: Host>(
     }
 }
 
-/// What API v2 shows of a map, by its row.
+/// Returns what API v2 shows of a map, by its row.
 fn shown_of(alloc: Global, held: &Held<MeshSilence>) -> Result<Held<MeshSilence>, SnapshotError>
     ensures { IfOk result (IsMap mesh_version (slice_cmp nat_cmp)) }
 {
@@ -88,7 +88,7 @@ fn shown_of(alloc: Global, held: &Held<MeshSilence>) -> Result<Held<MeshSilence>
     shown_of_row(alloc, &mut row.as_slice())
 }
 
-/// What a server shows.
+/// Returns the silences that a server shows.
 fn shown_by_server<R: Host>(
     rt: &R,
     server: &Server<'_>,

@@ -1,7 +1,8 @@
-//! Running replicas, compared and mended: each is asked for all that it holds, it is told who lacks what, and each is sent that.
+//! Running replicas, compared and mended: each is asked for all it holds, the differences are told, and each is sent what it lacks.
 
 use crate::fault::{SourceFault, Stopped, add, report_stopped};
 use crate::host::{Host, Streams};
+use crate::losses::warn_of_rows;
 use crate::mending::{Addressee, Mending};
 use crate::moment::moment_of;
 use crate::push::write_text;
@@ -15,7 +16,7 @@ use am_report::{Compared, Manner, Replica, ReportLine, write_differences};
 use am_silence::MeshSilence;
 use am_snapshot::load_bytes;
 use am_version_order::{Moment, Version};
-use am_wire::Message;
+use am_wire::{Message, Unknown};
 use std::alloc::{AllocError, Global};
 use std::io::{Stdout, Write};
 
@@ -52,6 +53,7 @@ fn mend<R: Host, V: Handed + Message + ReportLine>(
 ) -> Result<bool, Stopped> {
     let alloc = rt.alloc();
     let pulled: Pulled<'_, V> = pull_all(rt, job)?;
+    warn_of_rows(rt, job.state, &pulled.rows);
     let found = tell(alloc, &pulled.replicas, now, &mut output)?;
     if !job.is_applied || !found {
         return Ok(found);
@@ -68,7 +70,7 @@ fn mend<R: Host, V: Handed + Message + ReportLine>(
     tell(alloc, &again.replicas, now, &mut output)
 }
 
-/// What replicas hold, and the rows in which they told it.
+/// The maps that replicas hold, and the rows in which they told them.
 #[derive(Drop)]
 struct Pulled<'a, V: Version> {
     replicas: Vec<Replica<'a, V>>,
@@ -108,7 +110,7 @@ fn held_in<V: Version + Message>(
     row: &[u8],
     number: usize,
 ) -> Result<Held<V>, Stopped> {
-    match load_bytes(alloc, row) {
+    match load_bytes(alloc, Unknown::Keep, row) {
         Ok(held) => Ok(held),
         Err(error) => Err(Stopped::Source {
             number,

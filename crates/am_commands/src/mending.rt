@@ -1,4 +1,4 @@
-//! What running replicas lack of versions that they are to hold, and what they refuse of it.
+//! The versions that running replicas lack of those that they are to hold, and the ones that they refuse.
 
 ghost use Rattle.std.specs.Prelude.{◌≡◌};
 ghost use Rattle.am_commands.specs.Sending.{is_sent};
@@ -15,10 +15,10 @@ use am_merge::Held;
 use am_report::{ListedWord, Manner, ReportLine};
 use am_snapshot::SnapshotError;
 use am_version_order::{Moment, Version};
-use am_wire::{Message, RowFault, Rows, write_varint};
+use am_wire::{Message, RowFault, Rows, Unknown, write_varint};
 use std::alloc::{AllocError, Global};
 
-/// What is sent: the rows, as they were read, and their versions.
+/// The versions that are sent, and their rows as they were read.
 #[derive(Drop)]
 pub struct Sent<V: Version> {
     rows: Vec<u8>,
@@ -51,7 +51,7 @@ pub struct Mending<V: Version> {
     pub moment: Moment,
 }
 
-/// The replica that a line is about: its name, where several are told of.
+/// The replica that a line is about: its name, if there are several.
 #[derive(Clone, Copy)]
 pub struct Addressee<'n> {
     pub name: Option<&'n str>,
@@ -113,7 +113,7 @@ impl<V: Handed + Message + ReportLine> Mending<V> {
         sent: &mut Sent<V>,
         text: &[u8],
     ) -> Result<(), SnapshotError> {
-        let version = match V::decode(alloc, text) {
+        let version = match V::decode_at(alloc, Unknown::Keep, text, 0) {
             Ok(version) => version,
             Err(error) => return Err(SnapshotError::from(RowFault::from(error))),
         };
@@ -192,7 +192,7 @@ impl<V: Handed + Message + ReportLine> Mending<V> {
     }
 }
 
-/// What the line of a version says of it, and its last words.
+/// The word for a version in its line, and the last words of the line.
 #[derive(Clone, Copy)]
 struct Said {
     relation: &'static str,

@@ -1,4 +1,4 @@
-//! The moment of what is shown and compared.
+//! The moment at which maps are shown and compared.
 
 use crate::host::Host;
 use am_faults::{Audience, Fault};
@@ -9,7 +9,7 @@ use am_version_order::Moment;
 /// 2000-01-01T00:00:00Z, in seconds since 1970.
 const YEAR_2000: i64 = 946_684_800;
 
-/// The moment that the command line names; where it names none, the clock's.
+/// Returns the moment that the command line names, or the clock's if it names none.
 pub fn moment_of<R: Host>(rt: &R, named: Option<Moment>) -> Result<Moment, Fault> {
     if let Some(now) = named {
         return Ok(now);

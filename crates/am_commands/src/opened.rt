@@ -1,4 +1,4 @@
-//! Sources that are opened: files, with the logs beside them where these are asked for, standard input, and what a replica told.
+//! Sources that are opened: files, with the logs beside them if these are asked for, standard input, and what a replica told.
 
 ghost use Rattle.std.specs.Prelude.{◌≡◌, ℕ, List, IfOk, IfErr, IfSome, Option};
 ghost use Rattle.am_merge.specs.Maps.{IsMap};
@@ -6,27 +6,29 @@ ghost use Rattle.am_commands.specs.Rows.{GivesOpened, GivesRow, StopsRow};
 
 use crate::fault::SourceFault;
 use crate::host::Host;
+use crate::losses::watch_for;
 use crate::replica::ToldRow;
 use crate::rows::take_within;
 use crate::source::Source;
 use am_disk::FileFault;
 use am_faults::Fault;
 use am_files::{LogFault, Logs, WholeFile};
-use am_jobs::STANDARD_INPUT;
+use am_jobs::{STANDARD_INPUT, StateName};
 use am_merge::Held;
+use am_report::{LossReader, Losses};
 use am_snapshot::{SnapshotError, load_within};
 use am_version_order::Version;
-use am_wire::Message;
-use std::alloc::Global;
+use am_wire::{Message, Unknown};
+use std::alloc::{AllocError, Global};
 use std::fs;
 use std::io::{self, BufReader, ErrorKind, Read, Stdin};
 
-/// Where the row of a source stands.
+/// The place where the row of a source stands.
 #[derive(Drop)]
 pub enum Origin {
     File(WholeFile),
     StandardInput(Stdin),
-    /// What a replica told that was asked by its gossip.
+    /// The row that a replica told when it was asked by its gossip.
     Replica(ToldRow),
 }
 
@@ -40,18 +42,60 @@ impl Read for Origin {
     }
 }
 
+/// The row of a source.
+#[derive(Drop)]
+pub struct Row {
+    origin: Origin,
+    /// The reader that notes the losses of its versions for a person.
+    watch: Option<LossReader>,
+}
+
+impl Read for Row {
+    fn read(&mut self, buf: &mut [u8]) -> io::Result<usize> {
+        let count = self.origin.read(buf)?;
+        if let Some(bytes) = buf.get(..count) {
+            self.watch = noted(self.watch.take(), bytes);
+        }
+        Ok(count)
+    }
+}
+
+/// Notes what comes next of a row. If memory runs out, nothing is noted any more.
+fn noted(watch: Option<LossReader>, bytes: &[u8]) -> Option<LossReader> {
+    let mut watch = watch?;
+    match watch.take(bytes) {
+        Ok(()) => Some(watch),
+        Err(_) => None,
+    }
+}
+
+/// Returns a row of a state that stands there.
+///
+/// # Errors
+///
+/// [`ErrorKind::OutOfMemory`] if memory runs out.
+pub fn row_from<R: Host>(rt: &R, state: StateName, origin: Origin) -> io::Result<BufReader<Row>> {
+    let watch = watch_for(rt, state);
+    BufReader::new(rt.alloc(), Row { origin, watch })
+}
+
 /// Opens the row of a source: a file, or standard input.
 ///
 /// # Errors
 ///
 /// [`FileFault::NotAFile`] of a directory, and what the system says.
-pub fn open_row<R: Host>(rt: &R, input: Stdin, file: &str) -> Result<BufReader<Origin>, FileFault> {
+fn open_row<R: Host>(
+    rt: &R,
+    state: StateName,
+    input: Stdin,
+    file: &str,
+) -> Result<BufReader<Row>, FileFault> {
     let origin = if file == STANDARD_INPUT {
         Origin::StandardInput(input)
     } else {
         Origin::File(open_file(rt, file)?)
     };
-    Ok(BufReader::new(rt.alloc(), origin)?)
+    Ok(row_from(rt, state, origin)?)
 }
 
 /// Opens a file, or a pipe that stands in its place.
@@ -62,21 +106,25 @@ fn open_file<R: Host>(rt: &R, file: &str) -> Result<WholeFile, FileFault> {
     WholeFile::open(rt, file)
 }
 
-/// Whether a key may come twice in the row of a source.
+/// The rule on keys that come twice in the row of a source.
 #[derive(Clone, Copy)]
 pub enum Keys {
-    /// It may not, as in a snapshot.
+    /// A key comes once, as in a snapshot.
     Once,
-    /// It may, and its greatest version counts.
+    /// A key may come again, and its greatest version counts.
     Repeated,
 }
 
-/// How the row of a source is read.
+/// The way in which the row of a source is read.
 #[derive(Clone, Copy)]
 pub struct Reading {
+    /// The state whose versions it has.
+    pub state: StateName,
     pub keys: Keys,
-    /// The most bytes of the row, and of the map with what logs add.
+    /// The maximum number of bytes of the row, and of the map with what logs add.
     pub most: u32,
+    /// The policy for unknown fields of versions.
+    pub unknown: Unknown,
 }
 
 /// A source that is opened: its row, and the logs beside it.
@@ -89,23 +137,40 @@ pub struct Opened<R: Drop> {
     pub reading: Reading,
 }
 
-/// A source is read to its end: the map of its row, joined with what the logs have.
+impl Opened<BufReader<Row>> {
+    /// Adds what the versions that were read of the row lose, if that is noted.
+    ///
+    /// # Errors
+    ///
+    /// [`AllocError`] if memory runs out.
+    pub fn add_losses(&self, losses: &mut Losses) -> Result<(), AllocError> {
+        match &self.row {
+            Some(row) => match &row.get_ref().watch {
+                Some(watch) => losses.join(&watch.losses),
+                None => Ok(()),
+            },
+            None => Ok(()),
+        }
+    }
+}
+
+/// Reads the source to its end: the map of its row, joined with what the logs have.
 impl<V: Version + Message, R: Read + Drop> Source<V> for Opened<R> {
     ghost use Rattle.am_commands.specs.Rows.{GivesOpened, StopsOpened, UnlessLogged};
 
-    ghost gives = { λ opened held. UnlessLogged opened.logs (GivesOpened V.seen V.reads R.remaining opened.reading.keys opened.row held) };
+    ghost gives = { λ opened held. UnlessLogged opened.logs (GivesOpened V.seen (V.reads opened.reading.unknown) R.remaining opened.reading.keys opened.row held) };
 
     ghost stops = { λ opened fault.
-        UnlessLogged opened.logs (StopsOpened V.seen V.reads R.remaining opened.reading.keys opened.reading.most opened.row fault) };
+        UnlessLogged opened.logs (StopsOpened V.seen (V.reads opened.reading.unknown) R.remaining opened.reading.keys opened.reading.most opened.row fault) };
 
     fn read(&mut self, alloc: Global) -> Result<Held<V>, SourceFault> {
-        let Reading { most, .. } = self.reading;
+        let Reading { most, unknown, .. } = self.reading;
         let held = match read_row(alloc, &mut self.row, self.reading) {
             Ok(held) => held,
             Err(error) => return Err(SourceFault::Own(Fault::Snapshot(error))),
         };
         match self.logs.take() {
-            Some(logs) => join_logs(alloc, held, logs, most),
+            Some(logs) => join_logs(alloc, unknown, held, logs, most),
             None => Ok(held),
         }
     }
@@ -118,9 +183,9 @@ fn read_row<V: Version + Message, R: Read + Drop>(
     reading: Reading,
 ) -> Result<Held<V>, SnapshotError>
     ensures order { IfOk result (IsMap V.seen V.Key.cmp) }
-    ensures given { IfOk result (GivesOpened V.seen V.reads R.remaining reading.keys row.old) }
+    ensures given { IfOk result (GivesOpened V.seen (V.reads reading.unknown) R.remaining reading.keys row.old) }
     ensures stopped { IfErr result (λ e. IfSome row.old (λ reader. IfSome (R.remaining reader) (λ bytes.
-        (left : Option (List ℕ)) × StopsRow V.seen V.reads reading.keys reading.most bytes left e))) }
+        (left : Option (List ℕ)) × StopsRow V.seen (V.reads reading.unknown) reading.keys reading.most bytes left e))) }
     ensures some { IfErr result (λ e. (reader : R) × (row.old ≡ Some reader)) }
 {
     match row {
@@ -140,16 +205,16 @@ fn take_or_load<V: Version + Message, R: Read>(
     reading: Reading,
 ) -> Result<Held<V>, SnapshotError>
     ensures order { IfOk result (IsMap V.seen V.Key.cmp) }
-    ensures given { IfOk result (λ held. IfSome (R.remaining row.old) (λ bytes. GivesRow V.seen V.reads reading.keys bytes held)) }
+    ensures given { IfOk result (λ held. IfSome (R.remaining row.old) (λ bytes. GivesRow V.seen (V.reads reading.unknown) reading.keys bytes held)) }
     ensures stopped { IfErr result (λ e. IfSome (R.remaining row.old) (λ bytes.
-        (left : Option (List ℕ)) × StopsRow V.seen V.reads reading.keys reading.most bytes left e)) }
+        (left : Option (List ℕ)) × StopsRow V.seen (V.reads reading.unknown) reading.keys reading.most bytes left e)) }
 {
     match reading.keys {
-        Keys::Once => match load_within(alloc, row, reading.most) {
+        Keys::Once => match load_within(alloc, reading.unknown, row, reading.most) {
             Ok(held) => Ok(held),
             Err(error) => Err(error),
         },
-        Keys::Repeated => match take_within(alloc, row, reading.most) {
+        Keys::Repeated => match take_within(alloc, reading.unknown, row, reading.most) {
             Ok(held) => Ok(held),
             Err(fault) => Err(SnapshotError::from(fault)),
         },
@@ -157,15 +222,16 @@ fn take_or_load<V: Version + Message, R: Read>(
 }
 
 /// Joins what logs have into a map.
-fn join_logs<V: Version + Message>(
+pub fn join_logs<V: Version + Message>(
     alloc: Global,
+    unknown: Unknown,
     mut held: Held<V>,
     logs: Logs,
     most: u32,
 ) -> Result<Held<V>, SourceFault>
     ensures { IfOk result (IsMap V.seen V.Key.cmp) }
 {
-    match logs.join(alloc, &mut held, most) {
+    match logs.join(alloc, unknown, &mut held, most) {
         Ok(()) => {
             held.has_values();
             Ok(held)
@@ -185,13 +251,13 @@ pub fn open<R: Host>(
     file: &str,
     has_logs: bool,
     reading: Reading,
-) -> Result<Opened<BufReader<Origin>>, SourceFault> {
+) -> Result<Opened<BufReader<Row>>, SourceFault> {
     let logs = match logs_beside(rt, file, has_logs) {
         Ok(logs) => logs,
         Err(fault) => return Err(SourceFault::of_log(fault)),
     };
     // (behind the logs, so that nothing is missed that goes from them into the file meanwhile)
-    match open_row(rt, input, file) {
+    match open_row(rt, reading.state, input, file) {
         Ok(row) => Ok(Opened {
             row: Some(row),
             logs,
@@ -231,6 +297,19 @@ pub struct Unopened<'a, R: Host> {
     pub file: &'a str,
     pub has_logs: bool,
     pub reading: Reading,
+    /// The losses of the versions that were read, if they are noted.
+    pub losses: Losses,
+}
+
+impl<'a, R: Host> Unopened<'a, R> {
+    /// Opens it, and the logs beside it where these are asked for.
+    ///
+    /// # Errors
+    ///
+    /// Those of [`open`].
+    pub fn open(&self) -> Result<Opened<BufReader<Row>>, SourceFault> {
+        open(self.rt, self.input, self.file, self.has_logs, self.reading)
+    }
 }
 
 impl<'a, R: Host> Drop for Unopened<'a, R> {
@@ -241,6 +320,7 @@ impl<'a, R: Host> Drop for Unopened<'a, R> {
             file: _,
             has_logs: _,
             reading: _,
+            losses: _,
         } = self;
     }
 }
@@ -254,7 +334,9 @@ impl<'a, V: Version + Message, R: Host> Source<V> for Unopened<'a, R> {
     ghost stops = { λ _ _. ⊤ };
 
     fn read(&mut self, alloc: Global) -> Result<Held<V>, SourceFault> {
-        let mut opened = open(self.rt, self.input, self.file, self.has_logs, self.reading)?;
-        opened.read(alloc)
+        let mut opened = self.open()?;
+        let held = opened.read(alloc);
+        let _ = opened.add_losses(&mut self.losses);
+        held
     }
 }

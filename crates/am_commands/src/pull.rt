@@ -2,12 +2,14 @@
 
 use crate::fault::{SourceFault, Stopped, report_stopped};
 use crate::host::{Host, Streams};
+use crate::losses::warn_of_row;
 use crate::replica::{NO_STATES, answer_of, row_of};
 use am_faults::{Fault, status};
 use am_jobs::{PullJob, StateName};
 use am_nflog::EntryText;
 use am_silence::SilenceText;
 use am_snapshot::{SnapshotError, sort_row};
+use am_wire::Unknown;
 
 /// Writes a state of a replica to standard output, and returns the exit status of the program.
 pub fn run_pull<R: Host>(rt: &R, streams: Streams, job: &PullJob<'_>) -> u8 {
@@ -31,9 +33,15 @@ fn pull<R: Host>(rt: &R, streams: Streams, job: &PullJob<'_>) -> Result<(), Stop
         Ok(row) => row,
         Err(fault) => return Err(Stopped::of_first(fault)),
     };
+    warn_of_row(rt, job.state, row);
     let written = match job.state {
-        StateName::Silences => sort_row::<SilenceText<'_>, _>(rt.alloc(), row, &mut output),
-        StateName::Log => sort_row::<EntryText<'_>, _>(rt.alloc(), row, &mut output),
+        StateName::Silences => sort_row::<SilenceText<'_>, _>(
+            rt.alloc(),
+            Unknown::Keep,
+            row,
+            &mut output,
+        ),
+        StateName::Log => sort_row::<EntryText<'_>, _>(rt.alloc(), Unknown::Keep, row, &mut output),
     };
     match written {
         Ok(_) => Ok(()),

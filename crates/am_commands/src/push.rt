@@ -1,7 +1,8 @@
-//! Versions for a running replica: what it lacks is sent, and it is told what it doesn't hold then.
+//! Versions for a running replica: it is sent those that it lacks, and those that it doesn't hold then are told.
 
 use crate::fault::{Stopped, add, report_stopped};
 use crate::host::{Host, Streams};
+use crate::losses::warn_of_rows;
 use crate::mending::{Addressee, Mending};
 use crate::moment::moment_of;
 use crate::replica::held_by;
@@ -15,7 +16,7 @@ use am_silence::MeshSilence;
 use am_snapshot::{SnapshotError, take_row};
 use am_streams::{Stop, fill, send};
 use am_version_order::{Moment, Version};
-use am_wire::{MOST_MESSAGE_BYTES, Message};
+use am_wire::{MOST_MESSAGE_BYTES, Message, Unknown};
 use std::alloc::Global;
 use std::io::{Read, Write};
 
@@ -52,6 +53,7 @@ fn push<R: Host, V: Handed + Message + ReportLine>(
     } = streams;
     let alloc = rt.alloc();
     let mending: Mending<V> = read_mending(alloc, &mut input, now)?;
+    warn_of_rows(rt, job.to.state, &mending.rows);
     let held = held_now::<R, V>(rt, job)?;
     let sent = mending.to_send(alloc, &held)?;
     if !job.is_dry {
@@ -106,7 +108,7 @@ fn read_mending<V: Version + Message, I: Read>(
     now: Moment,
 ) -> Result<Mending<V>, Stopped> {
     let row = read_all(alloc, input)?;
-    let all = match take_row(alloc, &mut row.as_slice()) {
+    let all = match take_row(alloc, Unknown::Keep, &mut row.as_slice()) {
         Ok(all) => all,
         Err(fault) => return Err(Stopped::Told(SnapshotError::from(fault))),
     };

@@ -2,7 +2,7 @@
 
 use crate::fault::SourceFault;
 use crate::host::Host;
-use crate::opened::Origin;
+use crate::opened::{Origin, Row, row_from};
 use am_faults::Fault;
 use am_gossip::StateKey;
 use am_jobs::{PullJob, StateName};
@@ -11,11 +11,11 @@ use am_merge::Held;
 use am_peers::ask;
 use am_snapshot::load_bytes;
 use am_version_order::Version;
-use am_wire::Message;
+use am_wire::{Message, Unknown};
 use std::alloc::{AllocError, Global};
 use std::io::{self, BufReader, Read};
 
-/// The most bytes to which an answer is unpacked.
+/// The maximum number of bytes to which an answer is unpacked.
 const MOST_BYTES: usize = 268_435_456;
 
 /// The states that go with a pull: none, in ten bytes of a field that nobody reads. Their count, which ends the head of the request,
@@ -23,10 +23,10 @@ const MOST_BYTES: usize = 268_435_456;
 /// would wait for the end of its first line.
 pub const NO_STATES: &[u8] = b"\x7a\x08\r\n\r\n\r\n\r\n";
 
-/// The most bytes of a replica's own words that are kept.
+/// The maximum number of bytes of a replica's own words that are kept.
 const MOST_WORDS: usize = 200;
 
-/// The row of a state as a replica told it, and how much of it was read.
+/// The row of a state as a replica told it, and the number of its bytes that were read.
 #[derive(Drop)]
 pub struct ToldRow {
     bytes: Vec<u8>,
@@ -42,7 +42,7 @@ impl Read for ToldRow {
     }
 }
 
-/// The key of a state.
+/// Returns the key of a state.
 pub fn key_of(state: StateName) -> StateKey {
     match state {
         StateName::Silences => StateKey::Sil,
@@ -50,23 +50,23 @@ pub fn key_of(state: StateName) -> StateKey {
     }
 }
 
-/// What a replica says in its message.
+/// A replica's message, as far as one state goes.
 #[derive(Clone, Copy)]
 enum Answer<'m> {
     /// The row of the state that was asked for.
     Row(&'m [u8]),
-    /// That it has an error, in these words.
+    /// The words of its error.
     Words(&'m [u8]),
 }
 
-/// Sends a replica states, perhaps none, and gives the row of a state that it held before. Once it answered it has taken them.
+/// Sends a replica states, perhaps none, and returns the row of a state that it held before. Once it has answered it has taken them.
 pub fn exchange<R: Host>(rt: &R, job: &PullJob<'_>, states: &[u8]) -> Result<Vec<u8>, SourceFault> {
     let message = answer_of(rt, job, states)?;
     let row = row_of(rt.alloc(), job, &message)?;
     copied(rt.alloc(), row)
 }
 
-/// Sends a replica states, and gives its message.
+/// Sends a replica states, and returns its message.
 pub fn answer_of<R: Host>(
     rt: &R,
     job: &PullJob<'_>,
@@ -78,7 +78,7 @@ pub fn answer_of<R: Host>(
     }
 }
 
-/// Sends a replica states, and gives its message, or why there is none.
+/// Sends a replica states, and returns its message, or why there is none.
 fn message_of<R: Host>(rt: &R, job: &PullJob<'_>, states: &[u8]) -> Result<Vec<u8>, Fault> {
     let alloc = rt.alloc();
     let request = request_text(alloc, states)?;
@@ -86,7 +86,7 @@ fn message_of<R: Host>(rt: &R, job: &PullJob<'_>, states: &[u8]) -> Result<Vec<u
     Ok(unpack_answer(alloc, answer, MOST_BYTES)?)
 }
 
-/// The row in a replica's message, which isn't copied.
+/// Returns the row in a replica's message, without a copy.
 pub fn row_of<'m>(
     alloc: Global,
     job: &PullJob<'_>,
@@ -102,7 +102,7 @@ pub fn row_of<'m>(
     }
 }
 
-/// A copy of bytes of a replica's message.
+/// Returns a copy of bytes of a replica's message.
 fn copied(alloc: Global, bytes: &[u8]) -> Result<Vec<u8>, SourceFault> {
     match bytes.to_vec(alloc) {
         Ok(bytes) => Ok(bytes),
@@ -110,7 +110,7 @@ fn copied(alloc: Global, bytes: &[u8]) -> Result<Vec<u8>, SourceFault> {
     }
 }
 
-/// What a message says of a state.
+/// Reads what a message says of a state.
 fn said_in(alloc: Global, message: &[u8], key: StateKey) -> Result<Answer<'_>, Fault> {
     match read_message(alloc, message)? {
         Said::States(states) => match row_in(alloc, states, key)? {
@@ -121,28 +121,28 @@ fn said_in(alloc: Global, message: &[u8], key: StateKey) -> Result<Answer<'_>, F
     }
 }
 
-/// The first of a replica's words.
+/// Returns the first of a replica's words.
 fn first_words(words: &[u8]) -> &[u8] {
     words.get(..MOST_WORDS).unwrap_or(words)
 }
 
-/// What a replica tells of a state, as a row that is to be read.
-pub fn told_by<R: Host>(rt: &R, job: &PullJob<'_>) -> Result<BufReader<Origin>, SourceFault> {
+/// Asks a replica for a state, and returns its row, which is to be read.
+pub fn told_by<R: Host>(rt: &R, job: &PullJob<'_>) -> Result<BufReader<Row>, SourceFault> {
     let bytes = exchange(rt, job, NO_STATES)?;
-    match BufReader::new(rt.alloc(), Origin::Replica(ToldRow { bytes, at: 0 })) {
+    match row_from(rt, job.state, Origin::Replica(ToldRow { bytes, at: 0 })) {
         Ok(reader) => Ok(reader),
         Err(_) => Err(SourceFault::Own(Fault::Memory(AllocError))),
     }
 }
 
-/// What a replica holds of a state.
+/// Asks a replica for a state, and returns the map of its versions with their unknown fields.
 pub fn held_by<R: Host, V: Version + Message>(
     rt: &R,
     job: &PullJob<'_>,
 ) -> Result<Held<V>, SourceFault> {
     let message = answer_of(rt, job, NO_STATES)?;
     let row = row_of(rt.alloc(), job, &message)?;
-    match load_bytes(rt.alloc(), row) {
+    match load_bytes(rt.alloc(), Unknown::Keep, row) {
         Ok(held) => Ok(held),
         Err(error) => Err(SourceFault::Own(Fault::Snapshot(error))),
     }

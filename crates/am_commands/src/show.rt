@@ -9,6 +9,7 @@ ghost use Rattle.am_commands.specs.Showing.{shown_text, StopsShowing};
 
 use crate::fault::{Stopped, report_stopped};
 use crate::host::{Host, Streams};
+use crate::losses;
 use crate::moment::{moment_of, warn};
 use crate::opened::{Keys, Reading, Unopened};
 use crate::source::Source;
@@ -16,7 +17,7 @@ use am_faults::{report, status};
 use am_jobs::{Form, STANDARD_INPUT, ShowJob, StateName};
 use am_merge::Held;
 use am_nflog::MeshEntry;
-use am_report::{InJson, has_later, write_view, write_view_json};
+use am_report::{InJson, Losses, has_later, write_view, write_view_json};
 use am_silence::MeshSilence;
 use am_snapshot::SnapshotError;
 use am_version_order::{Moment, Version};
@@ -50,18 +51,21 @@ fn show_file<R: Host>(
     now: Moment,
 ) -> Result<bool, Stopped> {
     let Streams { input, mut output } = streams;
+    let alloc = rt.alloc();
     let mut source = Unopened {
         rt,
         input,
         file: job.file.unwrap_or(STANDARD_INPUT),
         has_logs: job.has_logs,
         reading: Reading {
+            state: job.state,
             keys: Keys::Once,
             most: MOST_MESSAGE_BYTES as u32,
+            unknown: job.unknown,
         },
+        losses: Losses::none(alloc),
     };
-    let alloc = rt.alloc();
-    match job.state {
+    let shown = match job.state {
         StateName::Silences => show_source::<MeshSilence, _, _>(
             alloc,
             &mut source,
@@ -76,7 +80,10 @@ fn show_file<R: Host>(
             now,
             &mut output,
         ),
-    }
+    };
+    let has_later = shown?;
+    losses::warn(rt, job.unknown, &source.losses);
+    Ok(has_later)
 }
 
 /// A version of which a view is written in lines.

@@ -1,4 +1,4 @@
--- What comes of a connection over a reader and a writer.
+-- The course of a connection over a reader and a writer.
 use Rattle.std.specs.Prelude.{◌≡◌, ◌⊎◌, ◌||◌, ℕ, ◌+◌, ◌<◌, List, [], ◌∷◌, length, Option, None, Some}
 use Rattle.std.specs.List.{flat_map}
 use Rattle.std.specs.Option.{IsSome, option_or}
@@ -21,7 +21,7 @@ use Rattle.am_member.specs.declared.session_answer.SessionAnswer.{SessionAnswer}
 use Rattle.am_member.specs.declared.session_answer.StepEffects.{StepEffects}
 use Rattle.am_connection.specs.declared.ended.Ended.{Ended}
 
--- how far a connection has come: what its session has heard, the instance, what its steps had for effects besides, and what was
+-- the progress of a connection: what its session has heard, the instance, the effects of its steps besides, and what was
 -- written
 pub record Stand : Type 0 where
   pub session : Standing
@@ -34,19 +34,19 @@ stand session instance effects written = record { session = session; instance = 
 
 -- ---- a piece
 
--- a piece came, or the end of the input, where it has no byte
+-- the input of a piece: its bytes, or the end of the input if it has none
 abbrev pub came_of : List ℕ → Came
 came_of [] = AtEnd
 came_of (byte ∷ bytes) = Fed (byte ∷ bytes)
 
--- the effects of more steps are added
+-- the effects with those of more steps added
 pub record AddsAll (more before after : StepEffects) : Type 0 where
-  -- what they send
+  -- what the steps send
   pub sent : Gathers more.outbox before.outbox after.outbox
   -- whether a Tick was among them
   pub ticked : after.ticked ≡ (before.ticked || more.ticked)
 
--- a reply goes out, or exactly so many of its first bytes, where a write failed; where there is none, nothing does
+-- a reply goes out, or exactly as many of its first bytes as are counted if a write failed; if there is no reply, nothing goes out
 abbrev pub GoesOut : Option PendingReply → Option (List ℕ) → Option (List ℕ) → Option Fault → Type 0
 GoesOut None before after fault = (after ≡ before) × (fault ≡ None)
 GoesOut (Some making) before after None = (reply : ReplyBytes) × IsMadeOf making reply × Appends before after (bytes_of reply)
@@ -54,13 +54,13 @@ GoesOut (Some making) before after (Some (Write written)) =
     (reply : ReplyBytes) × IsMadeOf making reply × WritesPart before after (bytes_of reply) written
 GoesOut (Some making) before after (Some _) = ⊥
 
--- what one piece comes to, or the end of the input
+-- the outcome of one piece, or of the end of the input
 pub record IsTurn (bits now : ℕ) (piece : List ℕ) (before after : Stand) (fault : Option Fault) : Type 0 where
   -- the session says this of it
   pub said : Spoken
   pub heard : Standing
   pub tells : Tells before.session (came_of piece) said heard
-  -- which is answered by steps at this moment
+  -- this is answered by steps at this moment
   pub answer : SessionAnswer
   pub answered : IsSessionAnswer (name_of heard) bits now said before.instance after.instance answer
   pub session : after.session ≡ left_at answer.fault heard
@@ -83,13 +83,13 @@ abbrev pub AreTurns : ℕ → ℕ → List (List ℕ) → Stand → Stand → Ty
 AreTurns bits now [] before after = after ≡ before
 AreTurns bits now (piece ∷ pieces) before after = (mid : Stand) × IsTurn bits now piece before mid None × AreTurns bits now pieces mid after
 
--- a read failed, when so many bytes had come
+-- a read failed, after `count` bytes had come
 pub record FailsToRead (count : ℕ) (input left : Option (List ℕ)) (before after : Stand) (fault : Option Fault) : Type 0 where
   pub nothing : Consumes input left []
   pub same : after ≡ before
   pub told : fault ≡ Some (Read count)
 
--- no more is heard behind the last piece: it is the end of the input, or at fault, or all was said
+-- nothing more is heard behind the last piece: it is the end of the input, or at fault, or all was said
 pub record IsLast (piece : List ℕ) (after : Stand) (stop fault : Option Fault) : Type 0 where
   pub why : (piece ≡ []) ⊎ (IsSome stop ⊎ IsOver after.session)
   pub told : fault ≡ stop
@@ -100,7 +100,7 @@ pub record IsTooLarge (count : ℕ) (stop fault : Option Fault) : Type 0 where
   pub none : stop ≡ None
   pub told : fault ≡ Some TooLarge
 
--- the last piece came, behind so many bytes
+-- the last piece came, behind `count` bytes
 pub record EndsWith (bits now count : ℕ) (input left : Option (List ℕ)) (before after : Stand) (fault : Option Fault) : Type 0 where
   pub piece : List ℕ
   pub consumed : Consumes input left piece
@@ -109,7 +109,7 @@ pub record EndsWith (bits now count : ℕ) (input left : Option (List ℕ)) (bef
   pub turn : IsTurn bits now piece before after stop
   pub ends : IsLast piece after stop fault ⊎ IsTooLarge (count + length piece) stop fault
 
--- what comes of a reader and a writer
+-- the outcome of all pieces over a reader and a writer
 pub record IsConversed (bits now : ℕ) (input left : Option (List ℕ)) (before after : Stand) (fault : Option Fault) : Type 0 where
   -- pieces come that are not at fault, one after the other
   pub pieces : List (List ℕ)
@@ -130,7 +130,7 @@ effects_of ended = record {
   ticked = ended.ticked;
 }
 
--- What comes of a connection, from its first byte on: its frames, whether there was a Tick, and its fault are those of its pieces.
+-- The outcome of a connection, from its first byte on: its frames, whether there was a Tick, and its fault are those of its pieces.
 abbrev pub IsConnection : ℕ → ℕ → Option (List ℕ) → Option (List ℕ) → InstanceState → InstanceState → Option (List ℕ) → Option (List ℕ) → Ended → Type 0
 IsConnection bits now input left old new before after ended =
     (session : Standing) × IsConversed bits now input left (stand fresh old no_effects before) (stand session new (effects_of ended) after) ended.fault

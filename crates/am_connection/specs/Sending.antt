@@ -1,4 +1,4 @@
--- What goes out to a peer: a greeting, and frames behind it.
+-- The bytes that go out to a peer: a greeting, and frames behind it.
 use Rattle.std.specs.Prelude.{◌≡◌, ℕ, List, ◌++◌, length, Option, Result, Ok, Err}
 use Rattle.std.specs.List.{flat_map}
 use Rattle.std.specs.Io.KnownBytes.{Appends}
@@ -13,7 +13,7 @@ use Rattle.am_connection.specs.declared.sending.SendError.TheVariants.{Write}
 abbrev pub outgoing_text : List ℕ → List Frame → List ℕ
 outgoing_text name frames = greeting_text name ++ flat_map frame_text frames
 
--- all of the text went out, and its bytes are counted; or exactly so many of the first ones, where a write failed; else nothing
+-- all of the text went out, and its bytes are counted; or exactly the counted first bytes if a write failed; else nothing
 abbrev pub IsSentAs : List ℕ → Option (List ℕ) → Option (List ℕ) → Result ℕ SendError → Type 0
 IsSentAs text before after (Ok count) = Appends before after text × (count ≡ length text)
 IsSentAs text before after (Err (Write written)) = WritesPart before after text written

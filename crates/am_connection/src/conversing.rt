@@ -1,4 +1,4 @@
-//! One connection over any reader and writer.
+//! A connection over any reader and writer.
 
 ghost use Rattle.std.specs.Prelude.{◌≡◌};
 ghost use Rattle.am_http.specs.Sessions.{spoken};
@@ -15,13 +15,13 @@ use am_version_order::Moment;
 use std::alloc::Global;
 use std::io;
 
-/// The most bytes that are asked for at once.
+/// The maximum number of bytes that are asked for at once.
 const PIECE: usize = 16_384;
 
-/// The most bytes of a connection.
+/// The maximum number of bytes of a connection.
 const MOST_BYTES: u64 = 134_217_728;
 
-/// Returns what a piece of a connection says; none is the end of its input.
+/// Returns what a piece of a connection says; an empty one is the end of its input.
 fn tell(session: &mut Session, piece: &[u8]) -> SessionOutput
     ensures { Tells session.old (came_of piece.now) (spoken result) session.new }
 {
@@ -32,7 +32,7 @@ fn tell(session: &mut Session, piece: &[u8]) -> SessionOutput
     }
 }
 
-/// Writes a reply, where there is one.
+/// Writes a reply, if there is one.
 fn write_reply<W: io::Write>(
     alloc: Global,
     writer: &mut W,
@@ -76,7 +76,7 @@ fn hear<W: io::Write>(
     fault.or(stop)
 }
 
-/// Reads and hears one piece after the other, until no more is heard. Answers why that is so before the input ended.
+/// Reads and hears one piece after the other, until nothing more is heard. Returns the fault that ended it, if any.
 fn converse<R: io::Read, W: io::Write>(
     alloc: Global,
     instance: &mut Instance,
@@ -117,12 +117,12 @@ fn converse<R: io::Read, W: io::Write>(
     }
 }
 
-/// Takes a connection: one whose first byte is under 0x20 begins with a peer's greeting, behind which each frame is a step at
-/// `now`; any other is a request, which is answered by a step at `now` and a reply. `bits` are random: a silence that it makes
-/// gets its identifier by them.
+/// Serves a connection: one whose first byte is under 0x20 begins with a peer's greeting, behind which each frame is a step at
+/// `now`; any other is a request, which is answered by a step at `now` and a reply. `bits` are random: a silence that the request
+/// makes gets its identifier from them.
 ///
-/// The first fault ends it; the steps before it stand. An end inside a greeting or a frame drops the bytes that are not whole,
-/// and is no fault, nor is input without a byte. No read or write is tried again after it failed.
+/// The first fault ends the connection; the steps before it stand. An end inside a greeting or a frame drops the bytes that are not
+/// whole, and is no fault, nor is input without a byte. No read or write is tried again after it failed.
 pub fn connection<R: io::Read, W: io::Write>(
     alloc: Global,
     instance: &mut Instance,

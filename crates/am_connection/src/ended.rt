@@ -13,18 +13,18 @@ use std::alloc::Global;
 /// The outcome of a connection that has ended.
 #[derive(Drop)]
 pub struct Ended {
-    /// The frames to be sent, in order, each with the place of the peer that it goes to.
+    /// The frames to be sent, in order, each with the place of the peer to which it goes.
     pub frames: Vec<(Place, Frame)>,
     /// The counts of frames that were left out.
     pub unsent: Unsent,
-    /// A Tick was among the steps that were made.
+    /// True if a Tick was among the steps that were made.
     pub ticked: bool,
-    /// Why it ended before its input did.
+    /// The reason why the connection ended before its input did.
     pub fault: Option<Fault>,
 }
 
 impl Ended {
-    /// A connection whose steps had these effects.
+    /// Returns the outcome of a connection whose steps had these effects.
     pub(crate) fn new(effects: StepEffects, fault: Option<Fault>) -> Ended
         ensures effects { effects_of result ≡ effects }
         ensures fault { result.fault ≡ fault }
@@ -40,7 +40,7 @@ impl Ended {
     }
 }
 
-/// No step was made. It takes no memory.
+/// Returns the effects of no step. It takes no memory.
 pub fn no_effects(alloc: Global) -> StepEffects
     ensures { result ≡ no_effects }
 {
@@ -50,7 +50,7 @@ pub fn no_effects(alloc: Global) -> StepEffects
     }
 }
 
-/// Adds the effects of more steps. Frames that there is no memory for are counted.
+/// Adds the effects of more steps. Frames for which there is no memory are counted.
 pub fn add(effects: &mut StepEffects, more: StepEffects)
     ensures { AddsAll more effects.old effects.new }
 {

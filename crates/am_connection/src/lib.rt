@@ -1,4 +1,4 @@
-//! One connection over any reader and writer, by a person, a tool or a peer, and what goes out to a peer.
+//! A connection of a person, a tool or a peer over any reader and writer, and the bytes that go out to a peer.
 #![tactic(auto)]
 
 mod conversing;

@@ -1,4 +1,4 @@
-//! Sending to a peer.
+//! The sending of frames to a peer.
 
 ghost use Rattle.std.specs.Prelude.{◌≡◌, ◌⊎◌, ◌↔◌, ◌&&◌, false, Err, IfOk, IfErr, IsTrue};
 ghost use Rattle.am_gossip.specs.declared.error.FrameError.TheVariants as frame_errors;
@@ -12,27 +12,27 @@ use std::alloc::Global;
 use std::io;
 use thiserror::Error;
 
-/// Why a greeting and frames were not sent to their end.
+/// The reason why a greeting and frames were not sent to their end.
 #[derive(Clone, Copy, Debug, PartialEq, Eq, Error)]
 pub enum SendError {
-    /// A write failed or took nothing, when so many bytes had gone out.
+    /// A write failed or took nothing, after `written` bytes had gone out.
     #[error("Write {written}")]
     Write { written: u64 },
     #[error("Memory")]
     Memory,
-    /// The name has no byte or over 255, or the payload of a frame is over its limit.
+    /// The name is empty or has more than 255 bytes, or the payload of a frame is over its limit.
     #[error("Length")]
     Length,
 }
 
-/// Tells whether a text is over a limit.
+/// Returns whether a text is over a limit.
 fn is_too_long(text: &Result<Vec<u8>, FrameError>) -> bool
     ensures { IsTrue result ↔ (text.now ≡ Err frame_errors.Length) }
 {
     matches!(text, Err(FrameError::Length))
 }
 
-/// The greeting of a member of this name, and frames behind it.
+/// Returns the greeting of a member of this name, with frames behind it.
 fn outgoing(alloc: Global, name: &str, frames: &[Frame]) -> Result<Vec<u8>, SendError>
     ensures text { IfOk result (λ text. text.items ≡ outgoing_text name.now frames.now) }
     ensures too_long { (result ≡ Err errors.Length) ↔ ((is_name name.now && all_fit frames.now) ≡ false) }
@@ -51,11 +51,11 @@ fn outgoing(alloc: Global, name: &str, frames: &[Frame]) -> Result<Vec<u8>, Send
     }
 }
 
-/// Sends the greeting of a member of this name and frames behind it, and answers how many bytes went out.
+/// Sends the greeting of a member of this name with frames behind it, and returns how many bytes went out.
 ///
 /// # Errors
 ///
-/// [`SendError::Length`] where the name or a frame is over its limit, whatever memory there is, and [`SendError::Memory`], both
+/// [`SendError::Length`] if the name or a frame is over its limit, however much memory there is, and [`SendError::Memory`], both
 /// before a byte goes out; [`SendError::Write`] at the first call that fails or takes nothing, which is not tried again.
 pub fn send<W: io::Write>(
     alloc: Global,

@@ -1,4 +1,4 @@
-//! One connection over a socket.
+//! A connection over a socket.
 
 ghost use Rattle.std.specs.Prelude.{◌≡◌, None, IfOk, OnErr};
 ghost use Rattle.am_connection.specs.Connections.{IsConnection};
@@ -11,11 +11,11 @@ use std::alloc::Global;
 use std::io;
 use std::net::TcpListener;
 
-/// Accepts one connection, and takes it as [`connection`] does. It may wait as long as its peer does.
+/// Accepts one connection, and serves it as [`connection`] does. It may wait as long as its peer does.
 ///
 /// # Errors
 ///
-/// The fault of the system if no connection is accepted; no step is made then.
+/// The system's error if no connection is accepted; no step is made then.
 pub fn turn(
     alloc: Global,
     listener: &TcpListener,

@@ -1,5 +1,6 @@
-//! A member of a cluster that runs: what it answers, and what it does by itself.
+//! A running member of a cluster: what it answers, and what it does by itself.
 
+mod bursts;
 mod clerk;
 mod counting;
 mod deciding;

@@ -99,6 +99,7 @@ reason_utf8 reasons.Repeat = IsUtf8-are_ascii _ refl
 
 why_utf8 : (why : Why) → IsUtf8 (why_text why)
 why_utf8 (whys.Notify reason) = reason_utf8 reason
+why_utf8 whys.Unjudged = IsUtf8-are_ascii _ refl
 why_utf8 whys.Skip = IsUtf8-are_ascii _ refl
 why_utf8 whys.Muted = IsUtf8-are_ascii _ refl
 

@@ -1,4 +1,4 @@
--- Whether to notify, as data of JSON (RFC 8259) with the keys of each object in byte order.
+-- The answer whether to notify, as JSON data (RFC 8259) with the keys of each object in byte order.
 use Rattle.std.specs.Prelude.{ℕ, Bool, List, [], ◌∷◌, map, codes}
 use Rattle.json.specs.Token.{Token, key as key_token, string as string_token}
 use Rattle.serde_json.specs.Data.{Data, unsigned, boolean, number, string, array, object, Members, no_members, member}
@@ -23,6 +23,7 @@ reason_text reasons.Repeat = codes "Repeat"
 
 abbrev pub why_text : Why → List ℕ
 why_text (whys.Notify reason) = reason_text reason
+why_text whys.Unjudged = codes "Unjudged"
 why_text whys.Skip = codes "Skip"
 why_text whys.Muted = codes "Muted"
 
@@ -69,6 +70,6 @@ answer_data a =
     member (codes "resolved") (hashes_data a.resolved) (
     member (codes "turnSeconds") (number (unsigned a.turn_seconds)) no_members))))))))))))
 
--- what a notice is answered: whether its entry was logged
+-- the answer to a notice: whether its entry was logged
 abbrev pub logged_data : Bool → Data
 logged_data is_logged = object (member (codes "logged") (boolean is_logged) no_members)

@@ -1,4 +1,4 @@
--- What stands at a key of an object.
+-- The values at the keys of an object.
 use Rattle.std.specs.Prelude.{ℕ, List, Option, option_and_then}
 use Rattle.serde_json.specs.Data.{Data}
 use Rattle.serde_json.specs.Find.{get, as_number, as_u64}

@@ -1,5 +1,5 @@
--- The hash of an alert, a number of 64 bits, as a text: 16 hexadecimal digits (RFC 4648, base 16) in lower case, the most
--- significant first.
+-- The hash of an alert, a number of 64 bits, as a text: 16 lowercase hexadecimal digits (RFC 4648, base 16), the most significant
+-- first.
 use Rattle.std.specs.Prelude.{ℕ, ◌+◌, ◌-◌, ◌*◌, ◌==◌, ◌&&◌, nat_le, if◌then◌else◌, List, [], ◌∷◌, length, map, Option, Some, None}
 use Rattle.std.specs.Prelude.{option_map, option_and_then}
 use Rattle.std.specs.Int.{w64, to_be_bytes}
@@ -18,7 +18,7 @@ hash_text hash = encode_lower (to_be_bytes w64 hash)
 abbrev pub digit_value : ℕ → Option ℕ
 digit_value c = if nat_le 48 c && nat_le c 57 then Some (c - 48) else if nat_le 97 c && nat_le c 102 then Some (c - 87) else None
 
--- the number that digits spell behind those that spell this one
+-- the number that digits spell after those that spell `number`
 abbrev pub value_after : ℕ → List ℕ → Option ℕ
 value_after number [] = Some number
 value_after number (digit ∷ digits) = option_and_then (λ value. value_after (number * 16 + value) digits) (digit_value digit)
@@ -31,7 +31,7 @@ hash_of text = if length text == 16 then value_after 0 text else None
 abbrev pub hash_in : Data → Option ℕ
 hash_in d = option_and_then hash_of (as_str d)
 
--- all of them are hashes
+-- the hashes that all the values are
 abbrev pub hashes_of : Items → Option (List ℕ)
 hashes_of no_items = Some []
 hashes_of (item d ds) = option_and_then (λ hash. option_map (λ hashes. hash ∷ hashes) (hashes_of ds)) (hash_in d)

@@ -1,5 +1,5 @@
--- A message of Alertmanager's webhook, version 4 (`webhook_config`): a JSON object (RFC 8259). Keys that are not named here
--- are passed over.
+-- A message of Alertmanager's webhook, version 4 (`webhook_config`): a JSON object (RFC 8259). Keys that aren't named here are
+-- ignored.
 use Rattle.std.specs.Prelude.{◌≡◌, ℕ, Bool, true, false, ◌&&◌, nat_lt, if◌then◌else◌, List, [], ◌∷◌, codes, Option, Some, None, is_some}
 use Rattle.std.specs.Prelude.{option_map, option_and_then, ok_or, unwrap_or, Result, Ok, Err}
 use Rattle.std.specs.Str.{bytes_eq}
@@ -17,7 +17,7 @@ use Rattle.am_decision_json.specs.Steps.{◌>>=◌, each}
 
 -- ---- labels
 
--- an object of texts; JSON's object has each name once, in the order of the bytes of names, and so have the labels
+-- the labels in an object of texts, which has each name once, in the byte order of names, as the labels do
 abbrev pub labels_of : Members → Option (List Label)
 labels_of no_members = Some []
 labels_of (member name d ms) =
@@ -28,7 +28,7 @@ labels_in d = option_and_then labels_of (option_and_then as_object (get (codes "
 
 -- ---- alerts
 
--- whether an alert of this status fires; else it is resolved
+-- whether an alert with this status fires; otherwise it is resolved
 unfoldable pub firing_of : List ℕ → Option Bool
 firing_of status =
     if bytes_eq status (codes "firing") then Some true else if bytes_eq status (codes "resolved") then Some false else None
@@ -36,14 +36,14 @@ firing_of status =
 abbrev pub firing_in : Data → Option Bool
 firing_in d = option_and_then firing_of (text_in (codes "status") d)
 
--- an alert: its labels, and then its status
+-- an alert: its labels, followed by its status
 abbrev pub alert_of : Data → Result Alert MessageKey
 alert_of d = do
   labels ← ok_or (labels_in d) keys.Labels
   is_firing ← ok_or (firing_in d) keys.Status
   Ok (record { labels = labels; is_firing = is_firing })
 
--- its labels are in the order of their names
+-- the alert's labels are in the order of their names
 abbrev pub IsInOrder : Alert → Type 0
 IsInOrder alert = AreInOrder alert.labels
 
@@ -52,12 +52,12 @@ abbrev pub are_objects : Items → Bool
 are_objects no_items = true
 are_objects (item d ds) = is_some (as_object d) && are_objects ds
 
--- there are some
+-- there is at least one
 abbrev pub has_items : Items → Bool
 has_items no_items = false
 has_items (item d ds) = true
 
--- objects, one at least
+-- all of them are objects, and there is at least one
 abbrev pub are_some_objects : Items → Bool
 are_some_objects ds = has_items ds && are_objects ds
 
@@ -67,7 +67,7 @@ some_objects ds = if are_some_objects ds then Some ds else None
 abbrev pub objects_in : Data → Option Items
 objects_in d = option_and_then some_objects (option_and_then as_array (get (codes "alerts") d))
 
--- the alerts, or the first fault of the first one that has some
+-- the alerts, or the first fault of the first alert that has one
 abbrev pub alerts_in : Data → Result (List Alert) MessageKey
 alerts_in d = do
   objects ← ok_or (objects_in d) keys.Alerts
@@ -111,6 +111,6 @@ pub record IsTruncated (d : Data) : Type 0 where
   pub says : Says d message
   pub truncated : is_truncated d ≡ true
 
--- what stands at this key is wanting or of another kind, and nothing before it is
+-- the value at this key is missing or of another kind, and that of no key before it is
 abbrev pub IsFirstFault : Data → MessageKey → Type 0
 IsFirstFault d key = message_of d ≡ Err key

@@ -1,4 +1,5 @@
--- What was notified: an answer as it is posted back, a JSON object (RFC 8259). Keys that are not named here are passed over.
+-- A notice of what was notified: an answer as it is posted back, a JSON object (RFC 8259). Keys that aren't named here are
+-- ignored.
 use Rattle.std.specs.Prelude.{◌≡◌, ◌≢◌, ◌⊎◌, ℕ, ◌*◌, ◌^◌, ◌&&◌, nat_lt, Bool, false, if◌then◌else◌, List, codes, Option, Some, None}
 use Rattle.std.specs.Prelude.{option_and_then, unwrap_or, ok_or, Result, Ok, Err}
 use Rattle.serde_json.specs.Data.{Data}
@@ -12,7 +13,7 @@ use Rattle.am_decision_json.specs.Found.{number_in}
 use Rattle.am_decision_json.specs.Hashes.{hashes_in}
 use Rattle.am_decision_json.specs.Steps.{◌>>=◌}
 
--- a number of 32 bits
+-- the number, if it has 32 bits
 abbrev pub index_of : ℕ → Option ℕ
 index_of n = if nat_lt n (2 ^ 32) then Some n else None
 
@@ -20,11 +21,11 @@ index_of n = if nat_lt n (2 ^ 32) then Some n else None
 abbrev pub index_in : Data → Option ℕ
 index_in d = option_and_then index_of (number_in (codes "index") d)
 
--- the nanoseconds of an interval of so many seconds: 1 to 2^63 - 1
+-- the nanoseconds in an interval with this number of seconds: 1 to 2^63 - 1
 abbrev pub interval_of : ℕ → Option ℕ
 interval_of seconds = if nat_lt 0 seconds && nat_lt (seconds * 1_000_000_000) (2 ^ 63) then Some (seconds * 1_000_000_000) else None
 
--- the repeat interval, in seconds
+-- the repeat interval, given in seconds
 abbrev pub repeat_in : Data → Option ℕ
 repeat_in d = option_and_then interval_of (number_in (codes "repeat") d)
 
@@ -47,7 +48,7 @@ hash_lists_of d = do
   resolved ← ok_or (hashes_in (codes "resolved") d) keys.Resolved
   Ok (firing, resolved)
 
--- what an object says was notified, without the moment of the decision, or the key of its first fault
+-- the notice in an object, without the moment of the decision, or the key of its first fault
 unfoldable pub undated_in : Data → Result Notice MessageKey
 undated_in d = do
   group_key ← ok_or (text_in (codes "groupKey") d) keys.GroupKey
@@ -56,16 +57,16 @@ undated_in d = do
   hashes ← if is_told d then hash_lists_of d else Err keys.Notify
   Ok (record { group_key = group_key; receiver = receiver; firing = hashes.0; resolved = hashes.1; repeat = repeat; decided_at = None })
 
--- the object is this notice, which leaves out when it was decided
+-- the object is this notice, which leaves out the moment of the decision
 abbrev pub IsUndated : Data → Notice → Type 0
 IsUndated d n = undated_in d ≡ Ok n
 
--- when it was decided; that may be wanting
+-- the moment of the decision, which may be missing
 abbrev pub IsDecidedAt : Data → Option ℕ → Type 0
 IsDecidedAt d None = get (codes "decidedAt") d ≡ None
 IsDecidedAt d (Some moment) = HasMoment (codes "decidedAt") d moment
 
--- there is something in place of that moment, which is none
+-- there is something in place of that moment, but it isn't a moment
 pub record HasBadMoment (d : Data) : Type 0 where
   pub there : get (codes "decidedAt") d ≢ None
   pub none : (moment : ℕ) → ¬ HasMoment (codes "decidedAt") d moment
@@ -82,6 +83,6 @@ pub record IsMomentFault (d : Data) (key : MessageKey) : Type 0 where
   pub notified : IsUndated d notice
   pub bad : HasBadMoment d
 
--- what stands at this key is wanting or of another kind, and nothing before it is
+-- the value at this key is missing or of another kind, and that of no key before it is
 abbrev pub IsFirstFault : Data → MessageKey → Type 0
 IsFirstFault d key = (undated_in d ≡ Err key) ⊎ IsMomentFault d key

@@ -1,4 +1,4 @@
--- What an answer's values are, and the notice that it is posted back as.
+-- The values of an answer, and the notice that it is when posted back.
 use Rattle.std.specs.Prelude.{◌≡◌, ℕ, ◌*◌, ◌<◌, ◌^◌, true, All, Some}
 use Rattle.std.specs.Str.{IsUtf8}
 use Rattle.am_matcher.specs.declared.labels.Label.{Label}
@@ -17,7 +17,7 @@ pub record IsMuted (m : Muted) : Type 0 where
   pub silenced_by : All IsUtf8 m.silenced_by.items
   pub more : m.more < 2 ^ 64
 
--- its texts are UTF-8, its numbers of their bits, and the labels of each muted alert in the order of their names
+-- its texts are UTF-8, its numbers fit their bits, and the labels of each muted alert are in the order of their names
 pub record IsAnswer (a : Answer) : Type 0 where
   pub decided_at : IsUtf8 a.decided_at
   pub firing : All (λ hash. hash < 2 ^ 64) a.firing

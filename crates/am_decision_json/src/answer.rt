@@ -1,4 +1,4 @@
-//! Whether to notify, and why.
+//! The answer whether to notify, and why.
 
 ghost use Rattle.std.specs.Prelude.{◌≡◌};
 ghost use Rattle.am_decision_json.specs.Answers.{reason_text, why_text};
@@ -9,17 +9,19 @@ use am_nflog::Hashes;
 use am_silence_json::moments::MomentText;
 use am_wire::Text;
 
-/// Why a group is notified, or why not.
+/// The reason why a group is notified or not.
 #[derive(Clone, Copy)]
 pub enum Why {
     Notify(Reason),
-    /// All of it was notified, and the repeat interval isn't over.
+    /// Something in the group is notified for one of these reasons, though not every alert was checked against the silences.
+    Unjudged,
+    /// Everything in the group was notified, and the repeat interval isn't over.
     Skip,
     /// Each alert is muted by a silence.
     Muted,
 }
 
-/// The name of a reason.
+/// Returns the name of a reason.
 fn reason_text(reason: Reason) -> &'static str
     ensures { result.now ≡ reason_text reason }
 {
@@ -33,31 +35,32 @@ fn reason_text(reason: Reason) -> &'static str
 }
 
 impl Why {
-    /// Its name.
+    /// Returns its name.
     pub fn text(self) -> &'static str
         ensures { result.now ≡ why_text self }
     {
         match self {
             Why::Notify(reason) => reason_text(reason),
+            Why::Unjudged => "Unjudged",
             Why::Skip => "Skip",
             Why::Muted => "Muted",
         }
     }
 }
 
-/// A muted alert, and the identifiers of silences that mute it.
+/// A muted alert, and identifiers of silences that mute it.
 #[derive(Drop)]
 pub struct Muted {
     pub labels: Labels,
     pub silenced_by: Vec<Text>,
-    /// How many silences mute it beside those.
+    /// The number of further silences that mute the alert.
     pub more: u64,
 }
 
-/// Whether to notify, and all that is to be logged once that was done.
+/// The answer whether to notify, with all that is to be logged after that was done.
 #[derive(Drop)]
 pub struct Answer {
-    /// When it was decided.
+    /// The moment of the decision.
     pub decided_at: MomentText,
     /// The hashes of the alerts that fire and aren't muted.
     pub firing: Hashes,
@@ -73,6 +76,6 @@ pub struct Answer {
     pub repeat: u64,
     /// The hashes of the alerts that are resolved and aren't muted.
     pub resolved: Hashes,
-    /// How long each member's turn is, in seconds.
+    /// The length of each member's turn, in seconds.
     pub turn_seconds: u64,
 }

@@ -1,4 +1,4 @@
-//! The object that the body of a request is.
+//! The object in the body of a request.
 
 ghost use Rattle.std.specs.Prelude.{◌≢◌, IfOk, IsErrOf};
 ghost use Rattle.serde_json.specs.Data.{Data};
@@ -13,7 +13,7 @@ use serde_json::error::Category;
 use std::alloc::Global;
 use std::str;
 
-/// The object whose text the body is.
+/// Returns the object whose text the body is.
 pub fn object_in(alloc: Global, body: &[u8]) -> Result<Value, MessageError>
     ensures read { IfOk result (λ v. IsObjectText body.now (view v)) }
     ensures bad_json { IsErrOf result errors.BadJson → (d : Data) → ¬ IsObjectText body.now d }

@@ -1,17 +1,17 @@
-//! Why a body is refused.
+//! The reasons why a body is refused.
 
 use crate::key::MessageKey;
 use std::alloc::{AllocError, AllocFailed};
 use std::fmt;
 use thiserror::Error;
 
-/// Why the body of a message or of a notice is refused.
+/// The reason why the body of a message or of a notice is refused.
 #[derive(Clone, Copy, Debug, PartialEq, Eq, Error)]
 pub enum MessageError {
-    /// It is no JSON, or no object.
+    /// The body isn't JSON, or isn't an object.
     #[error("bad JSON")]
     BadJson,
-    /// What stands at this key is wanting or of another kind.
+    /// The value at this key is missing or of another kind.
     #[error("bad message: {0}")]
     BadMessage(MessageKey),
     /// Alerts were left out of the message.

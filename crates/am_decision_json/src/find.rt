@@ -1,4 +1,4 @@
-//! What stands at a key of an object.
+//! The values at the keys of an object.
 
 ghost use Rattle.std.specs.Prelude.{◌≡◌, ℕ, IfSome, Some, option_copied, option_map, option_and_then};
 ghost use Rattle.serde_json.specs.Find.{as_array, get};
@@ -10,14 +10,14 @@ use am_silence_json::moments::read_moment;
 use am_version_order::Moment;
 use serde_json::Value;
 
-/// The text at a key.
+/// Returns the text at a key.
 pub fn text_in<'v>(object: &'v Value, key: &str) -> Option<&'v str>
     ensures { option_copied result ≡ text_in key.now (view object.now) }
 {
     object.get(key).and_then(Value::as_str)
 }
 
-/// The moment whose text stands at a key.
+/// Returns the moment whose text is at a key.
 pub fn moment_in(object: &Value, key: &str) -> Option<Moment>
     ensures value { IfSome result (HasMoment key.now (view object.now)) }
     ensures only { (m : ℕ) → HasMoment key.now (view object.now) m → result ≡ Some m }
@@ -26,21 +26,21 @@ pub fn moment_in(object: &Value, key: &str) -> Option<Moment>
     read_moment(text)
 }
 
-/// The truth value at a key.
+/// Returns the truth value at a key.
 pub fn truth_in(object: &Value, key: &str) -> Option<bool>
     ensures { result ≡ truth_in key.now (view object.now) }
 {
     object.get(key).and_then(Value::as_bool)
 }
 
-/// The whole number at a key.
+/// Returns the whole number at a key.
 pub fn number_in(object: &Value, key: &str) -> Option<u64>
     ensures { result ≡ number_in key.now (view object.now) }
 {
     object.get(key).and_then(Value::as_u64)
 }
 
-/// The values of the array at a key.
+/// Returns the values of the array at a key.
 pub fn array_in<'v>(object: &'v Value, key: &str) -> Option<&'v [Value]>
     ensures { option_map (λ values. items_view values.now) result ≡ option_and_then as_array (get key.now (view object.now)) }
 {

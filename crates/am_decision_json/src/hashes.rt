@@ -31,7 +31,7 @@ impl Model for HashText {
 }
 
 impl HashText {
-    /// The text of a hash. It takes no memory.
+    /// Returns the text of a hash. It takes no memory.
     pub fn new(hash: u64) -> HashText
         ensures { result ≡ hash_text hash }
     {
@@ -48,7 +48,7 @@ impl HashText {
     }
 }
 
-/// The value of a digit: `0` to `9`, or `a` to `f`.
+/// Returns the value of a digit: `0` to `9`, or `a` to `f`.
 fn digit_value(digit: u8) -> Option<u8>
     ensures value { result ≡ digit_value digit }
     ensures below { IfSome result (λ value. value < 16) }
@@ -60,7 +60,7 @@ fn digit_value(digit: u8) -> Option<u8>
     }
 }
 
-/// The number that digits spell, the most significant first.
+/// Returns the number that digits spell, the most significant first.
 fn number_of(digits: &[u8]) -> Option<u64>
     requires { length digits.now ≤ 16 }
     ensures { result ≡ value_after 0 digits.now }
@@ -73,7 +73,7 @@ fn number_of(digits: &[u8]) -> Option<u64>
     Some(number)
 }
 
-/// The hash whose text this is.
+/// Returns the hash whose text this is.
 pub fn hash_of(text: &str) -> Option<u64>
     ensures { result ≡ hash_of text.now }
 {
@@ -85,14 +85,14 @@ pub fn hash_of(text: &str) -> Option<u64>
     }
 }
 
-/// The hash that a value is.
+/// Returns the hash that a value is.
 fn hash_in(value: &Value) -> Option<u64>
     ensures { result ≡ hash_in (view value.now) }
 {
     hash_of(value.as_str()?)
 }
 
-/// The hashes that the values are.
+/// Returns the hashes that the values are.
 fn hashes_of(alloc: Global, values: &[Value]) -> Result<Option<Hashes>, AllocError>
     ensures { IfOk result (λ hashes. hashes ≡ hashes_of (items_view values.now)) }
 {
@@ -106,7 +106,7 @@ fn hashes_of(alloc: Global, values: &[Value]) -> Result<Option<Hashes>, AllocErr
     Ok(Some(Hashes::new(hashes)))
 }
 
-/// The hashes at a key.
+/// Returns the hashes at a key.
 pub fn read_hashes(alloc: Global, object: &Value, key: &str) -> Result<Option<Hashes>, AllocError>
     ensures { IfOk result (λ hashes. hashes ≡ hashes_in key.now (view object.now)) }
 {

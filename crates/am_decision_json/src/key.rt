@@ -21,7 +21,7 @@ pub enum MessageKey {
 }
 
 impl MessageKey {
-    /// The name of the key.
+    /// Returns the name of the key.
     pub fn text(self) -> &'static str
         ensures { result.now ≡ key_text self }
     {

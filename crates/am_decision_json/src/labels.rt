@@ -10,7 +10,7 @@ use am_wire::Text;
 use serde_json::{Map, Value};
 use std::alloc::{AllocError, Global};
 
-/// A label of its own.
+/// Returns a label that owns its name and value.
 fn label_of(alloc: Global, name: &str, value: &str) -> Result<Label, AllocError>
     ensures { IfOk result (λ label. label ≡ record { name = name.now; value = value.now }) }
 {
@@ -19,7 +19,7 @@ fn label_of(alloc: Global, name: &str, value: &str) -> Result<Label, AllocError>
     Ok(Label { name, value })
 }
 
-/// The labels that the members are.
+/// Returns the labels that the members are.
 fn labels_of(alloc: Global, members: &Map<String, Value>) -> Result<Option<Labels>, AllocError>
     ensures value { IfOk result (λ labels. labels ≡ labels_of (members_view members.now.entries)) }
     ensures in_order { IfOk result (λ labels. IfSome labels AreInOrder) }
@@ -35,7 +35,7 @@ fn labels_of(alloc: Global, members: &Map<String, Value>) -> Result<Option<Label
     Ok(Some(Labels::new(labels)))
 }
 
-/// The labels of an alert, in the order of their names, or none where they are wanting or of another kind.
+/// Returns the labels of an alert, in the order of their names, or `None` if they are missing or of another kind.
 pub fn read_labels(alloc: Global, alert: &Value) -> Result<Option<Labels>, AllocError>
     ensures value { IfOk result (λ labels. labels ≡ labels_in (view alert.now)) }
     ensures in_order { IfOk result (λ labels. IfSome labels AreInOrder) }

@@ -1,4 +1,4 @@
-//! What holds of answers and notices.
+//! Laws about answers and notices.
 
 ghost use Rattle.std.specs.Prelude.{◌≡◌, ℕ, ◌<◌, ◌^◌, Some};
 ghost use Rattle.serde_json.specs.Data.{Data};
@@ -11,18 +11,18 @@ ghost use Rattle.am_decision_json.specs.Answers.{answer_data};
 ghost use Rattle.am_decision_json.specs.Notices.{IsNotice};
 ghost use Rattle.am_decision_json.specs.Sound.{IsAnswer, IsToNotify, notice_from};
 
-/// The text of a hash is read as that hash.
+/// States that the text of a hash is read as that hash.
 pub fn a_written_hash_is_read()
     ensures { (hash : ℕ) → hash < 2 ^ 64 → hash_of (hash_text hash) ≡ Some hash }
 {}
 
-/// What [`write_answer`](crate::write_answer) writes of an answer is the text of its value.
+/// States that what [`write_answer`](crate::write_answer) writes of an answer is the text of its value.
 pub fn a_written_answer_is_read()
     ensures { (a : Answer) → IsAnswer a → IsObjectText (compact_text (answer_data a)) (answer_data a) }
 {}
 
-/// What [`write_answer`](crate::write_answer) writes of an answer to notify is read as the notice that says the same, of a
-/// decision at the moment that the answer's text spells.
+/// States that what [`write_answer`](crate::write_answer) writes of an answer to notify is read as the notice that says the same,
+/// of a decision at the moment that the answer's text spells.
 pub fn a_written_answer_is_a_notice()
     // PROMISE: An answer that says to notify is read back as the notice that says the same.
     ensures { (a : Answer) (d : Data) (m : ℕ) → IsAnswer a → IsToNotify a → ReadsMoment a.decided_at m →

@@ -1,4 +1,4 @@
-//! Decisions in JSON: messages of Alertmanager's webhook, whether to notify, and what was notified.
+//! Decisions in JSON: messages of Alertmanager's webhook, answers whether to notify, and notices of what was notified.
 #![tactic(auto)]
 
 mod answer;

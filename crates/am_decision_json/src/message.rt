@@ -1,4 +1,4 @@
-//! What is to be notified: a message of Alertmanager's webhook.
+//! A message of Alertmanager's webhook, which says what is to be notified.
 
 ghost use Rattle.std.specs.Prelude.{◌≡◌, ◌≢◌, All, IfOk, IsErrOf, Ok, Err, option_map};
 ghost use Rattle.serde_json.specs.Data.{Data};
@@ -23,22 +23,22 @@ use std::alloc::Global;
 /// An alert of a message.
 #[derive(Drop)]
 pub struct Alert {
-    /// Its labels, in the order of the bytes of their names, each name once.
+    /// The alert's labels, in the byte order of their names, each name once.
     pub labels: Labels,
-    /// Whether it fires; else it is resolved.
+    /// True if the alert fires; otherwise it is resolved.
     pub is_firing: bool,
 }
 
-/// A message of Alertmanager's webhook, version 4: the alerts of a group, and to whom they go.
+/// A message of Alertmanager's webhook, version 4: the alerts of a group, and the receiver that they go to.
 #[derive(Drop)]
 pub struct Message {
     pub group_key: Text,
     pub receiver: Text,
-    /// One at least, in the message's order.
+    /// The alerts, at least one, in the message's order.
     pub alerts: Vec<Alert>,
 }
 
-/// Whether an alert of this status fires.
+/// Returns whether an alert with this status fires.
 #[tactic(auto, unfolding(crate::specs::Messages::firing_of))]
 fn firing_of(status: &str) -> Option<bool>
     ensures { result ≡ firing_of status.now }
@@ -50,14 +50,14 @@ fn firing_of(status: &str) -> Option<bool>
     }
 }
 
-/// Whether an alert fires, by its status.
+/// Returns whether an alert fires, by its status.
 fn firing_in(alert: &Value) -> Option<bool>
     ensures { result ≡ firing_in (view alert.now) }
 {
     firing_of(text_in(alert, "status")?)
 }
 
-/// The alert that a value is.
+/// Reads the alert that a value is.
 fn read_alert(alloc: Global, value: &Value) -> Result<Alert, MessageError>
     ensures read { IfOk result (λ alert. alert_of (view value.now) ≡ Ok alert) }
     ensures in_order { IfOk result IsInOrder }
@@ -74,7 +74,7 @@ fn read_alert(alloc: Global, value: &Value) -> Result<Alert, MessageError>
     Ok(Alert { labels, is_firing })
 }
 
-/// The alerts that the values are.
+/// Reads the alerts that the values are.
 fn read_each(alloc: Global, values: &[Value]) -> Result<Vec<Alert>, MessageError>
     ensures read { IfOk result (λ alerts. each alert_of (items_view values.now) ≡ Ok alerts.items) }
     ensures in_order { IfOk result (λ alerts. All IsInOrder alerts.items) }
@@ -91,7 +91,7 @@ fn read_each(alloc: Global, values: &[Value]) -> Result<Vec<Alert>, MessageError
     Ok(alerts)
 }
 
-/// Whether all values are objects.
+/// Returns whether all values are objects.
 fn are_objects(values: &[Value]) -> bool
     ensures { result ≡ are_objects (items_view values.now) }
 {
@@ -103,7 +103,7 @@ fn are_objects(values: &[Value]) -> bool
     true
 }
 
-/// Whether there are values, and all are objects.
+/// Returns whether there are values, and all are objects.
 #[tactic(auto, using(crate::proofs::Reading::has_items_is))]
 fn are_some_objects(values: &[Value]) -> bool
     ensures { result ≡ are_some_objects (items_view values.now) }
@@ -111,7 +111,7 @@ fn are_some_objects(values: &[Value]) -> bool
     !values.is_empty() && are_objects(values)
 }
 
-/// The alerts of a message: objects, one at least.
+/// Returns the values of the alerts in a message, which are objects, at least one.
 fn objects_in(object: &Value) -> Option<&[Value]>
     ensures { option_map (λ values. items_view values.now) result ≡ objects_in (view object.now) }
 {
@@ -123,7 +123,7 @@ fn objects_in(object: &Value) -> Option<&[Value]>
     }
 }
 
-/// The alerts of a message.
+/// Reads the alerts of a message.
 fn read_alerts(alloc: Global, object: &Value) -> Result<Vec<Alert>, MessageError>
     ensures read { IfOk result (λ alerts. alerts_in (view object.now) ≡ Ok alerts.items) }
     ensures in_order { IfOk result (λ alerts. All IsInOrder alerts.items) }
@@ -137,14 +137,14 @@ fn read_alerts(alloc: Global, object: &Value) -> Result<Vec<Alert>, MessageError
     }
 }
 
-/// Whether alerts were left out of a message.
+/// Returns whether alerts were left out of a message.
 fn is_truncated(object: &Value) -> bool
     ensures { result ≡ is_truncated (view object.now) }
 {
     number_in(object, "truncatedAlerts").unwrap_or(0) > 0
 }
 
-/// The message that an object is, whether or not alerts were left out of it.
+/// Reads the message that an object is, whether or not alerts were left out of it.
 #[tactic(auto, unfolding(crate::specs::Messages::message_of))]
 fn read_said(alloc: Global, object: &Value) -> Result<Message, MessageError>
     ensures read { IfOk result (Says (view object.now)) }
@@ -169,15 +169,15 @@ fn read_said(alloc: Global, object: &Value) -> Result<Message, MessageError>
     })
 }
 
-/// The message that the body of a request is: a JSON object with `groupKey`, `receiver` and `alerts`, each with `labels` and
-/// `status`. All other keys are passed over; of a key that comes twice the last counts.
+/// Reads the message in the body of a request: a JSON object with `groupKey`, `receiver` and `alerts`, each with `labels` and
+/// `status`. All other keys are ignored; if a key comes twice, the last one counts.
 ///
 /// # Errors
 ///
-/// [`MessageError::BadJson`] where the body is no JSON, or no object; else [`MessageError::BadMessage`] with the first key
-/// that is wanting or of another kind: `groupKey`, `receiver`, `alerts`, which has to be an array of objects, one at least,
-/// and then of each alert `labels` and `status`; then [`MessageError::Truncated`] where `truncatedAlerts` is a whole number
-/// above 0; [`MessageError::Memory`] where memory runs out.
+/// [`MessageError::BadJson`] if the body isn't JSON, or isn't an object; otherwise [`MessageError::BadMessage`] with the first
+/// key that is missing or of another kind: `groupKey`, `receiver`, `alerts`, which has to be an array of objects, at least one,
+/// and then `labels` and `status` of each alert; then [`MessageError::Truncated`] if `truncatedAlerts` is a whole number above 0;
+/// [`MessageError::Memory`] if memory runs out.
 pub fn read_message(alloc: Global, body: &[u8]) -> Result<Message, MessageError>
     // PROMISE: A webhook message is read as its object says, no alert left out.
     ensures message { IfOk result (λ m. (d : Data) × IsObjectText body.now d × IsMessage d m) }

@@ -1,4 +1,4 @@
-//! What was notified: an answer, as it is posted back.
+//! A notice of what was notified: an answer, as it is posted back.
 
 ghost use Rattle.std.specs.Prelude.{◌≡◌, ◌≢◌, IfOk, IfErr, IsErrOf, None, Ok, Err};
 ghost use Rattle.serde_json.specs.Data.{Data};
@@ -21,7 +21,7 @@ use am_wire::Text;
 use serde_json::Value;
 use std::alloc::Global;
 
-/// What was notified: an answer, as it is posted back.
+/// A notice of what was notified: an answer, as it is posted back.
 #[derive(Drop)]
 pub struct Notice {
     pub group_key: Text,
@@ -29,11 +29,11 @@ pub struct Notice {
     pub firing: Hashes,
     pub resolved: Hashes,
     pub repeat: Interval,
-    /// When it was decided, if that is known.
+    /// The moment of the decision, if it is known.
     pub decided_at: Option<Moment>,
 }
 
-/// A number of 32 bits.
+/// Returns a number if it has 32 bits.
 fn index_of(number: u64) -> Option<u32>
     ensures { result ≡ index_of number }
 {
@@ -44,35 +44,35 @@ fn index_of(number: u64) -> Option<u32>
     }
 }
 
-/// The number of an integration in its receiver.
+/// Returns the number of an integration in its receiver.
 fn index_in(object: &Value) -> Option<u32>
     ensures { result ≡ index_in (view object.now) }
 {
     index_of(number_in(object, "index")?)
 }
 
-/// An interval of so many seconds.
+/// Returns the interval with this number of seconds.
 fn interval_of(seconds: u64) -> Option<Interval>
     ensures { result ≡ interval_of seconds }
 {
     Interval::from_seconds(seconds)
 }
 
-/// The repeat interval.
+/// Returns the repeat interval.
 fn repeat_in(object: &Value) -> Option<Interval>
     ensures { result ≡ repeat_in (view object.now) }
 {
     interval_of(number_in(object, "repeat")?)
 }
 
-/// Whether somebody was to be notified.
+/// Returns whether somebody was to be notified.
 fn is_told(object: &Value) -> bool
     ensures { result ≡ is_told (view object.now) }
 {
     truth_in(object, "notify").unwrap_or(false)
 }
 
-/// Who was notified.
+/// Reads who was notified.
 fn read_receiver(alloc: Global, object: &Value) -> Result<Receiver, MessageError>
     ensures read { IfOk result (λ receiver. receiver_of (view object.now) ≡ Ok receiver) }
     ensures wrong { (key : MessageKey) → IsErrOf result (errors.BadMessage key) → receiver_of (view object.now) ≡ Err key }
@@ -92,7 +92,7 @@ fn read_receiver(alloc: Global, object: &Value) -> Result<Receiver, MessageError
     Ok(receiver)
 }
 
-/// The hashes of the alerts that fire, and of those that are resolved.
+/// Reads the hashes of the alerts that fire, and of those that are resolved.
 fn read_lists(alloc: Global, object: &Value) -> Result<(Hashes, Hashes), MessageError>
     ensures read { IfOk result (λ lists. hash_lists_of (view object.now) ≡ Ok lists) }
     ensures wrong { (key : MessageKey) → IsErrOf result (errors.BadMessage key) → hash_lists_of (view object.now) ≡ Err key }
@@ -108,7 +108,7 @@ fn read_lists(alloc: Global, object: &Value) -> Result<(Hashes, Hashes), Message
     Ok((firing, resolved))
 }
 
-/// When it was decided, if that is told.
+/// Reads the moment of the decision, if it is given.
 fn read_decided_at(object: &Value) -> Result<Option<Moment>, MessageError>
     ensures read { IfOk result (IsDecidedAt (view object.now)) }
     ensures wrong { IfErr result (λ e. (e ≡ errors.BadMessage keys.DecidedAt) × HasBadMoment (view object.now)) }
@@ -122,7 +122,7 @@ fn read_decided_at(object: &Value) -> Result<Option<Moment>, MessageError>
     }
 }
 
-/// The notice that an object is, but for the moment of its decision.
+/// Reads the notice that an object is, except for the moment of its decision.
 #[tactic(auto, unfolding(crate::specs::Notices::undated_in))]
 fn read_undated(alloc: Global, object: &Value) -> Result<Notice, MessageError>
     ensures read { IfOk result (IsUndated (view object.now)) }
@@ -153,7 +153,7 @@ fn read_undated(alloc: Global, object: &Value) -> Result<Notice, MessageError>
     })
 }
 
-/// The notice that an object is.
+/// Reads the notice that an object is.
 fn read_object(alloc: Global, object: &Value) -> Result<Notice, MessageError>
     ensures read { IfOk result (IsNotice (view object.now)) }
     ensures wrong { (key : MessageKey) → IsErrOf result (errors.BadMessage key) → IsFirstFault (view object.now) key }
@@ -168,14 +168,14 @@ fn read_object(alloc: Global, object: &Value) -> Result<Notice, MessageError>
     })
 }
 
-/// What the body of a request says was notified: an answer, as [`write_answer`](crate::write_answer) writes it. `muted` and
-/// `reason` are passed over, as all keys that answers don't have; of a key that comes twice the last counts.
+/// Reads the notice in the body of a request: an answer, as [`write_answer`](crate::write_answer) writes it. `muted` and `reason`
+/// are ignored, as are all keys that answers don't have; if a key comes twice, the last one counts.
 ///
 /// # Errors
 ///
-/// [`MessageError::BadJson`] where the body is no JSON, or no object; else [`MessageError::BadMessage`] with the first key
-/// that is wanting or of another kind, in the order `groupKey`, `receiver`, `integration`, `index`, `repeat`, `notify`, which
-/// has to be true, `firing`, `resolved`, `decidedAt`, which may be wanting; [`MessageError::Memory`] where memory runs out.
+/// [`MessageError::BadJson`] if the body isn't JSON, or isn't an object; otherwise [`MessageError::BadMessage`] with the first
+/// key that is missing or of another kind, in the order `groupKey`, `receiver`, `integration`, `index`, `repeat`, `notify`, which
+/// has to be true, `firing`, `resolved`, `decidedAt`, which may be missing; [`MessageError::Memory`] if memory runs out.
 pub fn read_notice(alloc: Global, body: &[u8]) -> Result<Notice, MessageError>
     ensures notice { IfOk result (λ n. (d : Data) × IsObjectText body.now d × IsNotice d n) }
     ensures bad_json { IsErrOf result errors.BadJson → (d : Data) → ¬ IsObjectText body.now d }

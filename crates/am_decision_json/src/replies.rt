@@ -1,4 +1,4 @@
-//! Bodies of replies, written behind what a buffer holds.
+//! Bodies of replies, appended to a buffer.
 
 ghost use Rattle.std.specs.Prelude.{◌≡◌, ◌++◌, IfOk};
 ghost use Rattle.serde_json.specs.Written.{compact_text};
@@ -9,12 +9,12 @@ use crate::writing::{add_answer, add_logged};
 use json::Writer;
 use std::alloc::AllocError;
 
-/// Whether to notify: compact JSON behind what `out` holds, with the keys of each object in byte order and the labels of each
-/// muted alert in theirs.
+/// Appends the answer whether to notify to `out`, as compact JSON, with the keys of each object in byte order and the labels of
+/// each muted alert in their own.
 ///
 /// # Errors
 ///
-/// [`AllocError`] where memory runs out.
+/// [`AllocError`] if memory runs out.
 pub fn write_answer(out: Vec<u8>, answer: &Answer) -> Result<Vec<u8>, AllocError>
     ensures { IfOk result (λ body. body.items ≡ out.items ++ compact_text (answer_data answer.now)) }
 {
@@ -23,11 +23,11 @@ pub fn write_answer(out: Vec<u8>, answer: &Answer) -> Result<Vec<u8>, AllocError
     Ok(writer.into_inner())
 }
 
-/// What a notice is answered, `{"logged":true}` or `{"logged":false}`, behind what `out` holds.
+/// Appends the answer to a notice, `{"logged":true}` or `{"logged":false}`, to `out`.
 ///
 /// # Errors
 ///
-/// [`AllocError`] where memory runs out.
+/// [`AllocError`] if memory runs out.
 pub fn write_logged(out: Vec<u8>, is_logged: bool) -> Result<Vec<u8>, AllocError>
     ensures { IfOk result (λ body. body.items ≡ out.items ++ compact_text (logged_data is_logged)) }
 {

@@ -1,4 +1,4 @@
-//! The parts of answers, added to a text of JSON that is being written.
+//! The parts of answers, added to a JSON text that is being written.
 
 ghost use Rattle.std.specs.Prelude.{◌≡◌, [], ◌∷◌, OnOk, codes, decimal, map};
 ghost use Rattle.std.specs.List.{flat_map};
@@ -75,11 +75,11 @@ fn add_each_label(out: &mut Writer, labels: &[Label]) -> Result<(), AllocError>
     Ok(())
 }
 
-/// Adds the labels of an alert, in their order: an object with a member for each.
+/// Adds the labels of an alert, in their order, as an object with a member for each.
 ///
 /// # Errors
 ///
-/// [`AllocError`] where memory runs out. Some tokens may be left.
+/// [`AllocError`] if memory runs out. Some tokens may have been added then.
 pub fn add_labels(out: &mut Writer, labels: &[Label]) -> Result<(), AllocError>
     ensures { OnOk result (Adds out.old out.new (data_tokens (labels_data labels.now))) }
 {
@@ -175,7 +175,7 @@ pub fn add_answer(out: &mut Writer, answer: &Answer) -> Result<(), AllocError>
     Ok(())
 }
 
-/// Adds what a notice is answered.
+/// Adds the answer to a notice.
 pub fn add_logged(out: &mut Writer, is_logged: bool) -> Result<(), AllocError>
     ensures { OnOk result (Adds out.old out.new (data_tokens (logged_data is_logged))) }
 {

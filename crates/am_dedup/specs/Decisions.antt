@@ -1,4 +1,4 @@
--- Whether a group of alerts is notified. Hashes of alerts make sets: their order and how often they come don't count.
+-- The decision of whether a group of alerts is notified. Hashes of alerts form sets: their order and repetition don't count.
 use Rattle.std.specs.Prelude.{ℕ, ◌+◌, Bool, not, ◌&&◌, ◌==◌, List, Option, Some, None, nat_lt, if◌then◌else◌}
 use Rattle.std.specs.Ordering.{nat_cmp}
 use Rattle.std.specs.FinSet.{FinSet, from_list, is_subset, len}
@@ -8,7 +8,7 @@ use Rattle.am_dedup.specs.declared.decision.Decision.{Decision}
 use Rattle.am_dedup.specs.declared.decision.Decision.TheVariants.{Skip, Notify}
 use Rattle.am_dedup.specs.declared.decision.Reason.TheVariants.{First, NewFiring, AllResolved, NewResolved, Repeat}
 
--- the set of a list's hashes
+-- a set of hashes
 abbrev pub Hashes : Type 0
 Hashes = FinSet nat_cmp
 
@@ -16,25 +16,25 @@ Hashes = FinSet nat_cmp
 abbrev pub set_of : List ℕ → Hashes
 set_of hashes = from_list hashes
 
--- no hash is in the set
+-- whether a set of hashes is empty
 abbrev pub has_none : Hashes → Bool
 has_none hashes = len hashes == 0
 
--- what the log tells of a group: which alerts were firing and which were resolved when it was notified last, and when that was
+-- the log's record of a group: the alerts firing and resolved when it was last notified, and the moment of that
 pub record Logged : Type 0 where
   pub firing : Hashes
   pub resolved : Hashes
   pub timestamp : ℕ
 
--- what an entry tells of its group
+-- the record of a group in an entry
 abbrev pub logged : Entry → Logged
 logged e = record { firing = set_of e.firing_alerts; resolved = set_of e.resolved_alerts; timestamp = e.timestamp }
 
--- so does what was told when it was notified last
+-- the record of a group in its last notice
 abbrev pub noticed : LastNotice → Logged
 noticed n = record { firing = set_of n.firing; resolved = set_of n.resolved; timestamp = n.timestamp }
 
--- the first case that holds, where the log has an entry
+-- the first case that holds, if the log has an entry
 unfoldable pub decision_after : Logged → Hashes → Hashes → ℕ → Bool → ℕ → Decision
 decision_after entry firing resolved repeat wanted now =
     if not (is_subset firing entry.firing) then Notify NewFiring else
@@ -42,7 +42,7 @@ decision_after entry firing resolved repeat wanted now =
     if wanted && not (is_subset resolved entry.resolved) then Notify NewResolved else
     if nat_lt (entry.timestamp + repeat) now then Notify Repeat else Skip
 
--- where it has none, what fires is notified for the first time
+-- if the log has no entry, firing alerts are notified for the first time
 unfoldable pub decision : Option Logged → Hashes → Hashes → ℕ → Bool → ℕ → Decision
 decision None firing resolved repeat wanted now = if has_none firing then Skip else Notify First
 decision (Some entry) firing resolved repeat wanted now = decision_after entry firing resolved repeat wanted now

@@ -1,4 +1,4 @@
-//! Whether a group of alerts is notified.
+//! The decision of whether a group of alerts is notified.
 
 ghost use Rattle.std.specs.Prelude.{◌≡◌, ◌+◌, ◌-◌, ◌%◌, IsTrue, ◌<◌, ◌≤◌, length, option_map, nat_eq, ℕ, Some, None, get_or, Bool};
 ghost use Rattle.std.specs.Prelude.{nat_lt, true, false};
@@ -11,38 +11,38 @@ ghost use Rattle.am_dedup.specs.Decisions.{Hashes, decision, decision_after, log
 use am_nflog::{Entry, HashIter, MeshEntry};
 use am_version_order::{Interval, Moment};
 
-// So many hashes are looked for in one walk over the entry's, where they come in no order.
+// The number of unordered hashes looked for in one walk over the entry's.
 const GROUP: usize = 2_048;
 
-// Where so many hashes were found before the place behind the last one, they come in no order.
+// The number of hashes out of order after which the rest are looked for by groups.
 const TURNS: usize = 8;
 
-// By so many remainders hashes are told apart, before one is searched for.
+// The number of remainders by which hashes are told apart before a search.
 const REMAINDERS: u64 = 32_768;
 
-/// Why a group is notified.
+/// The reason for notifying a group.
 #[derive(Clone, Copy, Debug, PartialEq, Eq)]
 pub enum Reason {
     /// The log has no entry of the group, and something fires.
     First,
     /// Something fires that the entry doesn't list as firing.
     NewFiring,
-    /// Nothing fires any more of what the entry lists as firing.
+    /// Nothing that the entry lists as firing fires any more.
     AllResolved,
-    /// Something is resolved that the entry doesn't list as resolved, and resolved ones are wanted.
+    /// Something is resolved that the entry doesn't list as resolved, and resolved alerts are wanted.
     NewResolved,
     /// The repeat interval is over.
     Repeat,
 }
 
-/// Whether a group is notified.
+/// The decision about a group.
 #[derive(Clone, Copy, Debug, PartialEq, Eq)]
 pub enum Decision {
     Skip,
     Notify(Reason),
 }
 
-// What was told of a group when it was notified last.
+// The record of a group's last notification.
 #[derive(Drop)]
 struct LastNotice<'a> {
     firing: HashIter<'a>,
@@ -50,9 +50,9 @@ struct LastNotice<'a> {
     timestamp: Moment,
 }
 
-/// Whether a group is notified at `now`, of which the view of the log has this entry or none. The lists of alert
-/// hashes count as sets. It takes no memory. Lists in the order of the entry's take linear time; in any other order each
-/// 2,048 hashes take one walk over the entry's, with a look into a table at each, or a search by halving at the worst.
+/// Decides whether a group is notified at `now`, given its entry in the view of the log, if any. The lists of alert hashes
+/// count as sets. This takes no memory. Lists in the order of the entry's take linear time; in any other order each 2,048 hashes
+/// take one walk over the entry's, with a look into a table at each, or a binary search at worst.
 #[tactic(auto, unfolding(crate::specs::Decisions::decision))]
 pub fn decide(
     entry: Option<&Entry>,
@@ -77,7 +77,7 @@ pub fn decide(
     decide_after(&notice, firing, resolved, repeat, send_resolved, now)
 }
 
-/// The same of a version of the log, whose hashes are read in its text.
+/// Decides the same from a version of the log, whose hashes are read in its text.
 #[tactic(auto, unfolding(crate::specs::Decisions::decision))]
 pub fn decide_over(
     version: Option<&MeshEntry>,
@@ -101,7 +101,7 @@ pub fn decide_over(
     decide_after(&notice, firing, resolved, repeat, send_resolved, now)
 }
 
-// The decision where the log has no entry.
+// Decides for a group of which the log has no entry.
 #[tactic(auto, using(crate::proofs::Sets::none_is), unfolding(crate::specs::Decisions::decision))]
 fn decide_first(firing: &[u64]) -> Decision
     ensures { (resolved : Hashes) (repeat : ℕ) (wanted : Bool) (now : ℕ) →
@@ -114,7 +114,7 @@ fn decide_first(firing: &[u64]) -> Decision
     }
 }
 
-// The decision where the log has an entry.
+// Decides for a group of which the log has an entry.
 #[tactic(auto, using(crate::proofs::Sets::none_is), unfolding(crate::specs::Decisions::decision_after))]
 fn decide_after(
     notice: &LastNotice<'_>,
@@ -143,15 +143,15 @@ fn decide_after(
     }
 }
 
-// Whether an interval that began at `start` is over.
+// Returns whether an interval that began at `start` is over.
 fn is_over(start: Moment, interval: Interval, now: Moment) -> bool
     ensures { result ≡ nat_lt (start + interval) now }
 {
     start.checked_add(interval).is_some_and(|end| end < now)
 }
 
-// Whether each of the hashes is listed. Each is looked for first behind the one found before it, and the rest of those
-// that come in no order by groups.
+// Returns whether each of the hashes is listed. Each is first looked for after the one found before it, and the rest of
+// those in no order by groups.
 fn is_within(hashes: &[u64], listed: &HashIter<'_>) -> bool
     ensures { result ≡ is_subset (set_of hashes.now) (set_of listed.now) }
 {
@@ -172,7 +172,7 @@ fn is_within(hashes: &[u64], listed: &HashIter<'_>) -> bool
     true
 }
 
-// Whether a hash is among those to come; what is left then comes behind it.
+// Returns whether a hash is among the rest; the rest then begins after it.
 fn skip_past(hash: u64, rest: &mut HashIter<'_>) -> bool
     ensures found { result ≡ list_any (λ y. nat_eq y hash) rest.old }
     ensures left { (other : ℕ) → list_any (λ y. nat_eq y other) rest.new ≡ true → list_any (λ y. nat_eq y other) rest.old ≡ true }
@@ -185,7 +185,7 @@ fn skip_past(hash: u64, rest: &mut HashIter<'_>) -> bool
     false
 }
 
-// Whether each of the hashes is listed, by groups of them.
+// Returns whether each of the hashes is listed, by groups of them.
 fn are_groups_within(hashes: &[u64], listed: &HashIter<'_>) -> bool
     ensures { result ≡ is_subset (set_of hashes.now) (set_of listed.now) }
 {
@@ -200,7 +200,7 @@ fn are_groups_within(hashes: &[u64], listed: &HashIter<'_>) -> bool
     true
 }
 
-// Whether each hash of a group is listed. The group is sorted in an array, so that no memory is taken.
+// Returns whether each hash of a group is listed. The group is sorted in an array, so that no memory is taken.
 fn is_group_within(group: &[u64], listed: &HashIter<'_>) -> bool
     requires { length group.now ≤ 2048 }
     ensures { result ≡ is_subset (set_of group.now) (set_of listed.now) }
@@ -212,7 +212,7 @@ fn is_group_within(group: &[u64], listed: &HashIter<'_>) -> bool
     is_sorted_within(sorted, listed)
 }
 
-// Whether each of the sorted hashes is listed.
+// Returns whether each of the sorted hashes is listed.
 fn is_sorted_within(sorted: &[u64], listed: &HashIter<'_>) -> bool
     requires fits { length sorted.now ≤ 2048 }
     requires sorted { IsNonDecreasing sorted.now }
@@ -227,7 +227,7 @@ fn is_sorted_within(sorted: &[u64], listed: &HashIter<'_>) -> bool
     true
 }
 
-// Whether only other hashes stand before this place.
+// Returns whether only other hashes stand before this place.
 fn is_new(sorted: &[u64], place: usize) -> bool
     requires within { place < length sorted.now }
     requires sorted { IsNonDecreasing sorted.now }
@@ -237,7 +237,7 @@ fn is_new(sorted: &[u64], place: usize) -> bool
     place == 0 || sorted[place - 1] < sorted[place]
 }
 
-// Which of the sorted hashes are listed, by their first places.
+// Returns which of the sorted hashes are listed, marked at their first places.
 fn marks_of(sorted: &[u64], listed: &HashIter<'_>) -> [bool; GROUP]
     requires fits { length sorted.now ≤ 2048 }
     requires sorted { IsNonDecreasing sorted.now }
@@ -254,7 +254,7 @@ fn marks_of(sorted: &[u64], listed: &HashIter<'_>) -> [bool; GROUP]
     marks
 }
 
-// For each remainder that a hash has, the place behind one of these hashes, and 0 for all others.
+// Returns, for each remainder of a hash, the place after one of the hashes with it, or 0 if there is none.
 fn remainders_of(hashes: &[u64]) -> [u16; REMAINDERS as usize]
     requires { length hashes.now ≤ 2048 }
     ensures { (i : ℕ) → i < length hashes.now → nat_eq (get_or result (get_or hashes.now i 0 % 32768) 0) 0 ≡ false }
@@ -266,8 +266,8 @@ fn remainders_of(hashes: &[u64]) -> [u16; REMAINDERS as usize]
     met
 }
 
-// The first place of a hash among sorted ones with these remainders. Most hashes that are not among them are told by
-// their remainder, and most others stand at the place that it has.
+// Returns the first place of a hash among sorted ones with these remainders. Most hashes that are not among them are ruled
+// out by their remainder, and most others stand at the place noted for it.
 fn met_place_of(hash: u64, sorted: &[u64], met: &[u16; REMAINDERS as usize]) -> Option<usize>
     requires sorted { IsNonDecreasing sorted.now }
     requires met { (i : ℕ) → i < length sorted.now → nat_eq (get_or met.now (get_or sorted.now i 0 % 32768) 0) 0 ≡ false }
@@ -283,7 +283,7 @@ fn met_place_of(hash: u64, sorted: &[u64], met: &[u16; REMAINDERS as usize]) -> 
     }
 }
 
-// Whether a hash stands first at this place.
+// Returns whether a hash stands first at this place.
 fn is_first_place(hash: u64, sorted: &[u64], place: usize) -> bool
     requires { IsNonDecreasing sorted.now }
     ensures { IsTrue result → position (λ y. nat_eq y hash) sorted.now ≡ Some place }
@@ -291,7 +291,7 @@ fn is_first_place(hash: u64, sorted: &[u64], place: usize) -> bool
     place < sorted.len() && sorted[place] == hash && is_new(sorted, place)
 }
 
-// The first place of a hash among sorted ones.
+// Returns the first place of a hash among sorted ones.
 fn sorted_place_of(hash: u64, sorted: &[u64]) -> Option<usize>
     requires { IsNonDecreasing sorted.now }
     ensures { result ≡ position (λ y. nat_eq y hash) sorted.now }

@@ -1,4 +1,4 @@
-//! What on-call people rely on.
+//! The laws that on-call people rely on.
 
 ghost use Rattle.std.specs.Prelude.{◌≡◌, ℕ, Bool, true, false, List, None, Some, Contains, ◌↔◌};
 ghost use Rattle.std.specs.FinSet.{contains};
@@ -7,14 +7,14 @@ ghost use Rattle.am_dedup.specs.Laws.{IsTold};
 ghost use Rattle.am_dedup.specs.declared.decision.Decision.TheVariants.{Skip, Notify};
 ghost use Rattle.am_dedup.specs.declared.decision.Reason.TheVariants.{First, NewFiring};
 
-/// A group is skipped where something fires, its entry lists all of it, no resolved one is wanted that it doesn't
-/// list, and the repeat interval isn't over.
+/// States that a group is skipped if something fires, its entry lists all of it, no resolved alert is wanted that the entry
+/// doesn't list, and the repeat interval isn't over.
 pub fn what_was_told_is_skipped()
     ensures { (entry : Logged) (firing resolved : Hashes) (repeat : ℕ) (wanted : Bool) (now : ℕ) →
         IsTold entry firing resolved repeat wanted now → decision (Some entry) firing resolved repeat wanted now ≡ Skip }
 {}
 
-/// A group is notified where something fires that its entry doesn't list, or where it has no entry.
+/// States that a group is notified if something fires that its entry doesn't list, or something fires and it has no entry.
 pub fn what_fires_untold_is_notified()
     ensures listed { (entry : Logged) (firing resolved : Hashes) (hash repeat : ℕ) (wanted : Bool) (now : ℕ) →
         contains firing hash ≡ true → contains entry.firing hash ≡ false →
@@ -23,7 +23,7 @@ pub fn what_fires_untold_is_notified()
         contains firing hash ≡ true → decision None firing resolved repeat wanted now ≡ Notify First }
 {}
 
-/// Lists of hashes count as sets: those with the same members decide alike.
+/// States that lists of hashes count as sets: those with the same members lead to the same decision.
 pub fn order_and_repetition_do_not_count()
     ensures members { (hashes : List ℕ) (hash : ℕ) → (contains (set_of hashes) hash ≡ true) ↔ Contains hashes hash }
     // PROMISE: The order and the repetition of alerts make no difference.

@@ -1,4 +1,4 @@
-//! Whether a group of alerts is notified, and when an instance is due to do so.
+//! Deduplication: whether a group of alerts is notified, and when an instance is due to do so.
 #![tactic(auto)]
 
 mod decision;

@@ -1,3 +1,4 @@
 pub mod Resting
 pub mod Sayings
+pub mod Sendings
 pub mod Steps

@@ -1,5 +1,6 @@
 -- What is replied, one call after the other.
-use Rattle.std.proofs.Common.{◌≡◌, ◌∙◌, [], None, inl, inr, refl, sym, subst, ap}
+use Rattle.std.proofs.Common.{◌≡◌, ◌≤◌, ◌∙◌, arith, [], None, inl, inr, refl, sym, subst, ap}
+use Rattle.am_wire.specs.declared.unknown.Unknown.TheVariants.{Drop}
 use Rattle.am_matcher.specs.declared.dialect.Dialect.TheVariants.{Regex}
 use Rattle.am_api_silences.specs.Answers.{IsRefusalAnswer, WhenMade}
 use Rattle.am_api_silences.specs.PendingReply.{IsMadeOf, Makes}
@@ -52,17 +53,17 @@ keeps_line reply old new is line = keeps_on old (said_next reply old) new
     (record { owed = λ owed was. next_owed owed reply old was (line_to owed reply line); gone = next_gone reply old }) (keeps_same _ new is)
 
 -- such a line is what a refusal is told by
-says_line : (line : RefusalLine) (reply : ReplyBytes) → Says (λ bytes. bytes ≡ line_bytes line) reply → IsLine reply
-says_line line (Own bytes) says = (line, says)
-says_line line (Fixed bytes) says = (memory_line, says)
+says_line : (line : RefusalLine) (reply : ReplyBytes) → 400 ≤ line.status → Says (λ bytes. bytes ≡ line_bytes line) reply → IsLine reply
+says_line line (Own bytes) refuses says = (line, refuses, says)
+says_line line (Fixed bytes) refuses says = (memory_line, grind arith, says)
 
 -- (whatever an instance is, a refusal tells nothing of it)
 no_instance : InstanceState
-no_instance = record { config = record { members = []; place = 0; retention = 0; peer_timeout = 0; dialect = Regex }; silences = []; log = []; last = 0 }
+no_instance = record { config = record { members = []; place = 0; retention = 0; peer_timeout = 0; dialect = Regex; unknown = Drop }; silences = []; log = []; last = 0 }
 
 pub line_made : (refusal : Refusal) (begun : PendingAnswer) (reply : ReplyBytes) → ((stand : InstanceState) → WhenMade (λ answered. IsRefusalAnswer refusal stand answered stand) begun)
-    → IsMadeOf begun.making reply → IsLine reply
-line_made refusal begun reply refused made = says_line (line_seen refusal) reply (refused no_instance reply made).says
+    → 400 ≤ (line_seen refusal).status → IsMadeOf begun.making reply → IsLine reply
+line_made refusal begun reply refused refuses made = says_line (line_seen refusal) reply refuses (refused no_instance reply made).says
 
 -- what it is finished with goes out
 pub by_reply : (making : PendingReply) (reply : ReplyBytes) (old new : Saying) → new ≡ said_next reply old → IsMadeOf making reply → KeepsBy making old new

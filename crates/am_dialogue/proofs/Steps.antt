@@ -1,5 +1,5 @@
 -- Steps that a member makes by itself.
-use Rattle.std.proofs.Common.{◌≡◌, inl, inr, ℕ, Bool, true, false, List, [], ◌∷◌, ◌++◌, Result, Ok, Err, refl, subst}
+use Rattle.std.proofs.Common.{◌≡◌, inl, inr, ℕ, Bool, true, false, List, [], ◌∷◌, ◌++◌, map, Result, Ok, Err, refl, subst}
 use Rattle.am_http.specs.Lines.{RefusalLine}
 use Rattle.am_http.specs.declared.refusal.Refusal.{Refusal}
 use Rattle.am_decision_json.specs.declared.notice.Notice.{Notice}
@@ -13,11 +13,13 @@ use Rattle.am_matcher.specs.declared.labels.Label.{Label}
 use Rattle.am_refusals.specs.declared.error.StepError.{StepError}
 use Rattle.am_api_silences.specs.Answers.{Answered}
 use Rattle.am_api_silences.specs.declared.replies.ReplyBytes.{ReplyBytes}
-use Rattle.am_api_decisions.specs.Asking.{AreAsked, AskedAlert, Counted, IsStopped, StopsAt}
+use Rattle.am_api_decisions.specs.Asking.{AreAsked, AskedAlert, Counted, IsStopped, StopsAt, counted_with, unasked}
 use Rattle.am_api_decisions.specs.Deciding.{IsGoingOn, Underway}
 use Rattle.am_api_decisions.specs.Noticing.{IsNoticed, IsNoticedBy, is_late, notified_event}
-use Rattle.am_api_decisions.specs.Settling.{IsDecided, IsSettledBy, decide_event, has_none}
+use Rattle.am_api_decisions.specs.Settling.{IsBrokenOff, IsDecided, IsSettledBy, decide_event, has_none}
 use Rattle.am_api_decisions.specs.declared.group.Group.{Group}
+use Rattle.am_api_decisions.specs.declared.settling.Judgement.{Judgement}
+use Rattle.am_api_decisions.specs.declared.settling.Judgement.TheVariants.{Whole, Partial}
 use Rattle.am_api_decisions.specs.declared.timing.Timing.{Timing}
 use Rattle.am_member.specs.Lives.{IsOwnEvent}
 use Rattle.am_dialogue.specs.Answered.{AreOwnSteps, ByItself}
@@ -57,17 +59,24 @@ pub going_on_made : (now most : ℕ) (before : Underway) (old : InstanceState) (
 going_on_made now most before old (Ok after) new on = asked_made now on.asked old new on.on.steps
 going_on_made now most before old (Err refusal) new stopped = stopped_made now before old _ new stopped
 
-settled_made : (muted : Bool) (timing : Timing) (group : Group) (counted : Counted) (old : InstanceState) (reply : ReplyBytes) (new : InstanceState) →
-    IsSettledBy muted timing group counted old reply new → ByItself old new
-settled_made true timing group counted old reply new whole = nothing_made old new whole.same
-settled_made false timing group counted old reply new (inl none) = nothing_made old new none.1
-settled_made false timing group counted old reply new (inr step) = one_made old new (decide_event group counted) timing.now step.0 tt step.1
+settled_made : (muted : Bool) (judgement : Judgement) (timing : Timing) (group : Group) (counted : Counted) (old : InstanceState) (reply : ReplyBytes) (new : InstanceState) →
+    IsSettledBy muted judgement timing group counted old reply new → ByItself old new
+settled_made true judgement timing group counted old reply new whole = nothing_made old new whole.same
+settled_made false judgement timing group counted old reply new (inl none) = nothing_made old new none.1
+settled_made false judgement timing group counted old reply new (inr step) = one_made old new (decide_event group counted) timing.now step.0 tt step.1
 
 -- a decision that is made
 pub decided_made : (timing : Timing) (before : Underway) (old : InstanceState) (reply : ReplyBytes) (new : InstanceState) → IsDecided timing before old reply new → ByItself old new
 decided_made timing before old reply new (inl all) =
-    made_on old all.mid new (asked_made timing.now all.asked old all.mid all.all.steps) (settled_made (has_none all.counted) timing before.group all.counted all.mid reply new all.settled)
+    made_on old all.mid new (asked_made timing.now all.asked old all.mid all.all.steps) (settled_made (has_none all.counted) Whole timing before.group all.counted all.mid reply new all.settled)
 decided_made timing before old reply new (inr cut) = stopped_made timing.now before old cut.line new cut.stopped
+
+-- a decision that is broken off
+pub broken_off_made : (timing : Timing) (before : Underway) (old : InstanceState) (reply : ReplyBytes) (new : InstanceState) → IsBrokenOff timing before old reply new → ByItself old new
+broken_off_made timing before old reply new (inl none) = nothing_made old new none.1
+broken_off_made timing before old reply new (inr settled) =
+    let counted = counted_with before.counted (map unasked before.left) in
+    settled_made (has_none counted) Partial timing before.group counted old reply new settled
 
 noticed_made : (late : Bool) (now : ℕ) (notice : Notice) (old : InstanceState) (answered : Answered) (new : InstanceState) → IsNoticedBy late now notice old answered new → ByItself old new
 noticed_made true now notice old answered new passed = nothing_made old new passed.same

@@ -1,4 +1,4 @@
--- What comes of what a connection said, and what a member does by itself.
+-- The results of what a connection said, and of the member's own steps.
 use Rattle.std.specs.Prelude.{◌≡◌, ◌⊎◌, ℕ, List, [], ◌∷◌, Option, None, Some}
 use Rattle.am_api_silences.specs.declared.pending_reply.PendingReply.{PendingReply}
 use Rattle.am_http.specs.Sessions.{Spoken, name_of}
@@ -12,28 +12,28 @@ use Rattle.am_member.specs.Sparing.{spared}
 use Rattle.am_dialogue.specs.Talks.{Closes, IsElsewhere, IsRequest, Keeps, KeepsBy, KeepsGone, Saying, Talk, WaitsNoMore}
 use Rattle.am_dialogue.specs.Talks.Saying.{Silent}
 
--- ---- what a member does by itself
+-- ---- the member's own steps
 
--- steps that a member makes by itself, one after the other
+-- The steps are the member's own, one after another.
 abbrev pub AreOwnSteps : InstanceState → List Happened → InstanceState → Type 0
 AreOwnSteps old [] new = new ≡ old
 AreOwnSteps old (step ∷ steps) new =
     IsOwnEvent step.event × IsStep old step.event step.now step.answer step.left × AreOwnSteps step.left steps new
 
--- nothing but such steps was made
+-- No steps but the member's own were made.
 pub record ByItself (old new : InstanceState) : Type 0 where
   pub steps : List Happened
   pub made : AreOwnSteps old steps new
 
--- ---- what comes of what was said
+-- ---- the results of what was said
 
--- the reply that a step has begun is what is replied; where none was, what is replied stays
+-- The reply that a step has begun is what is replied; if there is none, what is replied stays.
 abbrev pub SaysBy : Option PendingReply → Saying → Saying → Type 0
 SaysBy None old new = new ≡ old
 SaysBy (Some begun) old new = KeepsBy begun old new
 
--- Its steps were made, as the contract of `apply_session_output` says, but for what its frames ask for; and it is replied what they have
--- begun.
+-- The steps of what was said were made, as the contract of `apply_session_output` says, except for what its frames ask for; and
+-- the reply is the one that they have begun.
 pub record IsTaken (said : Spoken) (old : InstanceState) (talk : Talk) (new : InstanceState) (talk' : Talk) : Type 0 where
   pub bits : ℕ
   pub now : ℕ
@@ -44,19 +44,28 @@ pub record IsTaken (said : Spoken) (old : InstanceState) (talk : Talk) (new : In
   pub waiting : WaitsNoMore talk talk'
   pub saying : SaysBy answer.reply talk.saying talk'.saying
 
--- It waits: it is a request, and nothing was done.
+-- What was said waits: it is a request, and nothing was done.
 pub record IsKept (said : Spoken) (old : InstanceState) (talk : Talk) (new : InstanceState) (talk' : Talk) : Type 0 where
   pub request : IsRequest said
   pub same : new ≡ old
   pub waits : talk' ≡ record talk { waiting = Some said; saying = Silent }
 
--- Nothing of it is done but what the member does by itself, and no more is heard. What is replied is a line, but to what isn't about
--- silences.
-pub record IsLeft (said : Spoken) (old : InstanceState) (talk : Talk) (new : InstanceState) (talk' : Talk) : Type 0 where
-  pub own : ByItself old new
-  pub closes : Closes talk talk'
-  pub saying : Keeps talk.saying talk'.saying ⊎ (IsElsewhere said × KeepsGone talk.saying talk'.saying)
+-- Nothing was done, and the reply is the line of a refusal.
+pub record IsRefused (old : InstanceState) (saying : Saying) (new : InstanceState) (saying' : Saying) : Type 0 where
+  pub same : new ≡ old
+  pub line : Keeps saying saying'
 
--- what comes of what was said
+-- It is a request that isn't about silences: nothing was done but the member's own steps, and nothing more went out.
+pub record IsElsewhereDone (said : Spoken) (old : InstanceState) (saying : Saying) (new : InstanceState) (saying' : Saying) : Type 0 where
+  pub elsewhere : IsElsewhere said
+  pub own : ByItself old new
+  pub gone : KeepsGone saying saying'
+
+-- No more is heard: what was said is refused, or isn't about silences.
+pub record IsLeft (said : Spoken) (old : InstanceState) (talk : Talk) (new : InstanceState) (talk' : Talk) : Type 0 where
+  pub closes : Closes talk talk'
+  pub done : IsRefused old talk.saying new talk'.saying ⊎ IsElsewhereDone said old talk.saying new talk'.saying
+
+-- What was said is taken, kept, or left.
 abbrev pub IsAnswered : Spoken → InstanceState → Talk → InstanceState → Talk → Type 0
 IsAnswered said old talk new talk' = IsTaken said old talk new talk' ⊎ (IsKept said old talk new talk' ⊎ IsLeft said old talk new talk')

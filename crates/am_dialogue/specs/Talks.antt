@@ -1,11 +1,11 @@
--- What a connection is to a member's life: how far its gate and its session have come, what it said that waits, and what is replied.
-use Rattle.std.specs.Prelude.{◌≡◌, ◌⊎◌, ◌+◌, ℕ, List, [], take, drop, Option, Some, None, Err, ⊤}
+-- A connection in a member's life: the progress of its gate and its session, what it said that waits, and what is replied.
+use Rattle.std.specs.Prelude.{◌≡◌, ◌⊎◌, ◌+◌, ◌-◌, ◌≤◌, ◌++◌, ℕ, min, List, [], length, take, drop, Option, Some, None, Err, ⊤}
 use Rattle.am_api_silences.specs.Events.{IsCall}
 use Rattle.am_api_silences.specs.PendingReply.{IsMadeOf, Makes}
 use Rattle.am_api_silences.specs.Replies.{bytes_of, line_bytes}
 use Rattle.am_api_silences.specs.declared.pending_reply.PendingReply.{PendingReply}
 use Rattle.am_api_silences.specs.declared.replies.ReplyBytes.{ReplyBytes}
-use Rattle.am_gate.specs.Gates.{Way}
+use Rattle.am_gate.specs.Gates.{Way, challenge_left, challenge_sent}
 use Rattle.am_http.specs.Lines.{RefusalLine}
 use Rattle.am_http.specs.declared.cause.Cause.TheVariants.{NoSuchPath}
 use Rattle.am_http.specs.declared.request.Read.{Read}
@@ -17,8 +17,9 @@ use Rattle.am_dialogue.specs.declared.conversation.Work.TheVariants as works
 
 -- ---- what is replied
 
--- what is replied to a connection: nothing yet; a reply that a step has begun, which is being made; one to a request that isn't about
--- silences, which is being made; a whole one, which waits for the next commit; or one of which so many bytes went out
+-- what is replied to a connection: nothing yet; a reply that a step has begun, which is being made; a reply to a request that
+-- isn't about silences, which is being made; a whole reply, which waits for the next commit; or one of which this many bytes went
+-- out
 pub data Saying : Type 0 where
   Silent : Saying
   Making : PendingReply → Saying
@@ -35,34 +36,34 @@ abbrev pub pending_of : Saying → List ℕ
 pending_of (Out reply written) = drop written (bytes_of reply)
 pending_of _ = []
 
--- so many bytes more went out
+-- what is replied, after `count` more bytes went out
 abbrev pub sent_on : ℕ → Saying → Saying
 sent_on count (Out reply written) = Out reply (written + count)
 sent_on count saying = saying
 
--- a whole reply goes out, where none does yet
+-- A whole reply goes out, unless one does already.
 abbrev pub said_next : ReplyBytes → Saying → Saying
 said_next reply (Out other written) = Out other written
 said_next reply _ = Out reply 0
 
--- a line of the table of statuses
+-- The reply is the line of a refusal: its status is at least 400.
 abbrev pub IsLine : ReplyBytes → Type 0
-IsLine reply = (line : RefusalLine) × (bytes_of reply ≡ line_bytes line)
+IsLine reply = (line : RefusalLine) × (400 ≤ line.status) × (bytes_of reply ≡ line_bytes line)
 
--- What a connection is owed: nothing but such a line; the reply that its step has begun, or a line; or whatever it is replied to what it
--- asked that isn't about silences.
+-- what a connection is owed: nothing but such a line; the reply that its step has begun, or a line; or any reply to a request
+-- that isn't about silences
 pub data Owed : Type 0 where
   Line : Owed
   Reply : PendingReply → Owed
   Other : Owed
 
--- what it may be replied then
+-- The connection may be given this reply, by what it is owed.
 abbrev pub IsReplyTo : Owed → ReplyBytes → Type 0
 IsReplyTo Line reply = IsLine reply
 IsReplyTo (Reply begun) reply = IsMadeOf begun reply ⊎ IsLine reply
 IsReplyTo Other reply = ⊤
 
--- just such a reply is made, waits or goes out, where one does
+-- If a reply is made, waits or goes out, it is one that the connection is owed.
 abbrev pub IsOwed : Owed → Saying → Type 0
 IsOwed owed Silent = ⊤
 IsOwed owed (Making making) = Makes (IsReplyTo owed) making
@@ -70,21 +71,21 @@ IsOwed owed Elsewhere = owed ≡ Other
 IsOwed owed (Held reply) = IsReplyTo owed reply
 IsOwed owed (Out reply written) = IsReplyTo owed reply
 
--- nothing more went out
+-- Nothing more went out.
 abbrev pub KeepsGone : Saying → Saying → Type 0
 KeepsGone old new = gone_of new ≡ gone_of old
 
--- what is replied stays what it was owed to be, or is such a line, and nothing more went out
+-- What is replied stays what it was owed to be, or is such a line, and nothing more went out.
 pub record Keeps (old new : Saying) : Type 0 where
   pub owed : (owed : Owed) → IsOwed owed old → IsOwed owed new
   pub gone : KeepsGone old new
 
--- what is replied is finished from this, or stays what it was owed to be, and nothing more went out
+-- What is replied is finished from this, or stays what it was owed to be, and nothing more went out.
 pub record KeepsBy (making : PendingReply) (old new : Saying) : Type 0 where
   pub owed : (owed : Owed) → IsOwed owed old → Makes (IsReplyTo owed) making → IsOwed owed new
   pub gone : KeepsGone old new
 
--- ---- a connection, as a life goes by it
+-- ---- a connection, as the member's life sees it
 
 pub record Talk : Type 0 where
   pub way : Way
@@ -92,13 +93,13 @@ pub record Talk : Type 0 where
   pub waiting : Option Spoken
   pub saying : Saying
 
--- what was said that waits whole, where something does
+-- what was said that waits whole, if something does
 abbrev pub waiting_in : Work → Option Spoken
 waiting_in (works.Request said) = Some (spoken said)
 waiting_in (works.Judging said judging) = Some (spoken said)
 waiting_in _ = None
 
--- what is replied, by what is still to be done
+-- what is replied, by the work that is left to do
 abbrev pub saying_in : Work → Saying
 saying_in works.Nothing = Silent
 saying_in (works.Request said) = Silent
@@ -108,58 +109,70 @@ saying_in (works.Call call) = Elsewhere
 saying_in (works.HeldBack held) = Held held.reply
 saying_in (works.Reply outgoing) = Out outgoing.reply outgoing.written
 
--- what the code holds
+-- the connection that the code holds
 abbrev pub talk_of : Conversation → Talk
 talk_of dialogue = record { way = dialogue.gate.way; session = dialogue.session; waiting = waiting_in dialogue.work; saying = saying_in dialogue.work }
 
--- no more is heard, nothing waits, and what is replied stays or is a line
+-- the bytes that wait to go out: the rest of the challenge, and then what is replied
+abbrev pub pending_in : Talk → List ℕ
+pending_in talk = challenge_left talk.way ++ pending_of talk.saying
+
+-- the connection, after `count` more of those bytes went out
+abbrev pub sent_in : ℕ → Talk → Talk
+sent_in count talk = record talk {
+  way = challenge_sent (min count (length (challenge_left talk.way))) talk.way;
+  saying = sent_on (count - length (challenge_left talk.way)) talk.saying;
+}
+
+-- No more is heard, nothing waits, and what is replied stays or is a line.
 pub record IsClosed (old new : Talk) : Type 0 where
   pub way : new.way ≡ old.way
   pub session : new.session ≡ over (name_of old.session)
   pub waiting : new.waiting ≡ None
   pub saying : Keeps old.saying new.saying
 
--- nothing waits that didn't wait before
+-- Nothing waits that didn't wait before.
 abbrev pub WaitsNoMore : Talk → Talk → Type 0
 WaitsNoMore old new = (new.waiting ≡ old.waiting) ⊎ (new.waiting ≡ None)
 
--- the session is as it was, and nothing more waits
+-- The session is as it was, and nothing more waits.
 pub record Stays (old new : Talk) : Type 0 where
   pub way : new.way ≡ old.way
   pub session : new.session ≡ old.session
   pub waiting : WaitsNoMore old new
 
--- no more is heard, and nothing more waits
+-- No more is heard, and nothing more waits.
 pub record Closes (old new : Talk) : Type 0 where
   pub way : new.way ≡ old.way
   pub session : new.session ≡ over (name_of old.session)
   pub waiting : WaitsNoMore old new
 
--- one or the other
+-- The session is as it was, or no more is heard; and nothing more waits.
 abbrev pub Rests : Talk → Talk → Type 0
 Rests old new = Stays old new ⊎ Closes old new
 
--- The session is as it was, nothing more waits, what is replied stays what it was owed to be, and where nothing is replied, nothing is.
+-- The session is as it was, nothing more waits, and what is replied stays what it was owed to be; if nothing was replied, nothing
+-- is.
 pub record Idles (old new : Talk) : Type 0 where
   pub stays : Stays old new
   pub silent : old.saying ≡ Silent → new.saying ≡ Silent
   pub saying : Keeps old.saying new.saying
 
--- it idles, or no more is heard
+-- The connection idles, or no more is heard.
 abbrev pub Lasts : Talk → Talk → Type 0
 Lasts old new = Idles old new ⊎ IsClosed old new
 
 -- ---- what was asked
 
--- a request was said, or what was wrong with it
+-- A request was said, or a fault of one.
 abbrev pub IsRequest : Spoken → Type 0
 IsRequest said = (read : Read) × (said.request ≡ Some read)
 
--- a whole request, whose path isn't one of the API of silences
+-- A whole request was read, whose path isn't one of the API of silences.
 abbrev pub AsksElsewhere : Read → Type 0
 AsksElsewhere (Whole request) = IsCall request (Err NoSuchPath)
 AsksElsewhere _ = ⊥
 
--- such a request was said
+-- Such a request was said.
 abbrev pub IsElsewhere : Spoken → Type 0
 IsElsewhere said = (read : Read) × (said.request ≡ Some read) × AsksElsewhere read

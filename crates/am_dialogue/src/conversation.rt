@@ -1,15 +1,16 @@
 //! A connection that is served.
 
-ghost use Rattle.std.specs.Prelude.{◌≡◌, ◌≤◌, drop, length, true, Some, None, IfSome};
+ghost use Rattle.std.specs.Prelude.{◌≡◌, ◌≤◌, [], drop, length, take, true, Some, None, IfSome};
 ghost use Rattle.am_api_silences.specs.Replies.{bytes_of};
 ghost use Rattle.am_gate.specs.Gates.{before};
+ghost use Rattle.am_http.specs.Lines.{line_seen};
 ghost use Rattle.am_http.specs.Sessions.{fresh, nothing, spoken};
 ghost use Rattle.am_dialogue.specs.Answered.{SaysBy};
-ghost use Rattle.am_dialogue.specs.Talks.{IsClosed, IsRequest, Keeps, KeepsBy, KeepsGone, Lasts, Rests, Stays, pending_of, said_next, sent_on, talk_of};
+ghost use Rattle.am_dialogue.specs.Talks.{Closes, IsClosed, IsRequest, Keeps, KeepsBy, KeepsGone, Lasts, Rests, Stays, pending_in, pending_of, said_next, sent_in, sent_on, talk_of};
 ghost use Rattle.am_dialogue.specs.Talks.Saying.{Silent};
 
 use crate::counting::{Account, Census};
-use crate::turns::{Turn, bytes_of_request, is_dear_call};
+use crate::turns::{Due, Turn, bytes_of_request, is_list_call, is_long_post};
 use am_api_decisions::{Deciding, LogWriting};
 use am_api_silences::{PendingAnswer, PendingReply, Read, Refusal, ReplyBytes, Request, refuse};
 use am_gate::{Gate, Hears};
@@ -20,20 +21,21 @@ use am_instance::names_both;
 use am_member::{Judging, is_list_request};
 use std::alloc::{AllocError, Global};
 use std::mem;
+use std::time::Instant;
 
-/// How many silences of a list are written in a turn of the loop.
+/// The number of silences of a list that are written in a turn of the loop.
 const STRETCH: usize = 512;
 
-/// A connection, and what is to be done for it.
+/// A connection, and the work that is left to do for it.
 pub struct Conversation {
-    /// What stands before the session.
+    /// The gate before the session.
     pub gate: Gate,
     pub session: Session,
-    /// It is known where the request comes from.
+    /// True if it is known where the request comes from.
     is_screened: bool,
-    /// What is still to be done for it.
+    /// The work that is left to do for the connection.
     pub work: Work,
-    /// What is counted of it.
+    /// The account of the connection.
     pub account: Account,
 }
 
@@ -50,13 +52,13 @@ impl Drop for Conversation {
     }
 }
 
-/// What is still to be done for a connection.
+/// The work that is left to do for a connection.
 #[derive(Drop)]
 pub enum Work {
     Nothing,
     /// A request waits: for its place in the line, or until the first pull is over.
     Request(SessionOutput),
-    /// A request of which some patterns are still to be compiled.
+    /// Some patterns of a request are still to be compiled.
     Judging(SessionOutput, Judging),
     /// A list is being written, whose step was made.
     PendingReply(PendingReply),
@@ -64,18 +66,18 @@ pub enum Work {
     Call(CallProgress),
     /// A reply waits for the next commit.
     HeldBack(HeldBack),
-    /// A reply goes out, or did.
+    /// A reply is going out, or went out.
     Reply(Outgoing),
 }
 
-/// How far the answer to a request has come that isn't about silences.
+/// The progress of the answer to a request that isn't about silences.
 #[derive(Drop)]
 pub enum CallProgress {
-    /// A request for a decision waits for this member's turn, or until Alertmanagers were heard.
+    /// A request for a decision waits for this member's turn, or until Alertmanagers have been heard.
     Turn(Turn),
-    /// One whose moment has come waits for its place in the line.
-    Due(Turn),
-    /// A decision, of which some alerts are still to be held against the silences.
+    /// A request waits for its place in the line.
+    Due(Due),
+    /// Some alerts of a decision are still to be held against the silences.
     Deciding(Deliberation),
     /// The entries of the log are being written.
     Log(LogWriting),
@@ -87,16 +89,19 @@ pub enum CallProgress {
 #[derive(Drop)]
 pub struct Deliberation {
     pub deciding: Deciding,
-    /// Its request, where Alertmanagers are still to be heard before it is answered that the group is to be notified.
+    /// The request, if Alertmanagers are still to be heard before the answer is that the group is to be notified.
     pub unheard: Option<Request>,
+    /// The moment when the decision is broken off; without it, the decision goes on for as long as a connection may last.
+    pub limit: Option<Instant>,
 }
 
 impl Work {
-    /// How many bytes of a request it keeps.
+    /// Returns the number of bytes of a request that the work keeps.
     fn held(&self) -> usize {
         match self {
             Work::Request(said) | Work::Judging(said, _) => bytes_kept(said),
-            Work::Call(CallProgress::Turn(turn) | CallProgress::Due(turn)) => turn.bytes(),
+            Work::Call(CallProgress::Turn(turn)) => turn.bytes(),
+            Work::Call(CallProgress::Due(due)) => bytes_of_request(&due.request),
             Work::Call(
                 CallProgress::Deciding(
                     Deliberation {
@@ -110,7 +115,7 @@ impl Work {
     }
 }
 
-/// How many bytes of a request are kept with what was said.
+/// Returns the number of bytes of a request that are kept with the output of a session.
 fn bytes_kept(said: &SessionOutput) -> usize {
     match &said.request {
         Some(Read::Whole(request)) => bytes_of_request(request),
@@ -122,20 +127,20 @@ fn bytes_kept(said: &SessionOutput) -> usize {
 #[derive(Drop)]
 pub struct HeldBack {
     pub reply: ReplyBytes,
-    /// The request has changed something.
+    /// True if the request has changed something.
     pub is_change: bool,
 }
 
-/// A reply that goes out.
+/// A reply that is going out.
 #[derive(Drop)]
 pub struct Outgoing {
     pub reply: ReplyBytes,
-    /// How many bytes of it went out.
+    /// The number of its bytes that went out.
     pub written: usize,
 }
 
 impl Outgoing {
-    /// The bytes that are still to be written.
+    /// Returns the bytes that are still to be written.
     fn left(&self) -> &[u8]
         ensures { result.now ≡ drop self.now.written (bytes_of self.now.reply) }
     {
@@ -149,7 +154,7 @@ impl Outgoing {
 }
 
 impl Conversation {
-    /// Before the first byte of a connection of which this is heard. It takes no memory.
+    /// Begins a connection before its first byte; `hears` says what is heard of it. Takes no memory.
     pub fn new(alloc: Global, hears: Hears) -> Conversation
         ensures { talk_of result ≡ record { way = before; session = fresh; waiting = None; saying = Silent } }
     {
@@ -162,15 +167,16 @@ impl Conversation {
         }
     }
 
-    /// Has this be what is still to be done for it.
-    // (so that one function proves the drops of all that was still to be done)
+    /// Sets the work that is left to do for the connection.
+    // (one function, so that the drops of all former work are proved once)
     pub fn set(&mut self, work: Work)
         ensures { self.new ≡ record (self.old) { work = work } }
     {
         self.work = work;
     }
 
-    /// Keeps a request that has to wait, and gives what hasn't: lists wait for their turn, and all requests for the first pull.
+    /// Keeps a request that has to wait, and returns any other: lists and long posts wait for their turn, and all requests for the
+    /// first pull.
     pub fn hold(&mut self, said: SessionOutput, waits_for_pull: bool) -> Option<SessionOutput>
         ensures held { result ≡ None → IsRequest (spoken said) × (talk_of self.new ≡ record (talk_of self.old) { waiting = Some (spoken said); saying = Silent }) }
         ensures given { IfSome result (λ given. (given ≡ said) × (talk_of self.new ≡ talk_of self.old)) }
@@ -182,9 +188,10 @@ impl Conversation {
         Some(said)
     }
 
-    /// Why a request isn't heard that names a host or a site which isn't this member's, now that the next piece is there.
+    /// Returns the refusal of a request that names a host or a site other than this member's, now that the next piece has come.
     pub fn screen(&mut self, piece: &[u8], hosts: &[&str]) -> Option<Refusal>
-        ensures { talk_of self.new ≡ talk_of self.old }
+        ensures same { talk_of self.new ≡ talk_of self.old }
+        ensures refused { IfSome result (λ refusal. 400 ≤ (line_seen refusal).status) }
     {
         if self.is_screened {
             return None;
@@ -200,7 +207,7 @@ impl Conversation {
         }
     }
 
-    /// Has a whole reply go out, where none does yet.
+    /// Has a whole reply go out, unless one does already.
     fn say(&mut self, reply: ReplyBytes)
         ensures { talk_of self.new ≡ record (talk_of self.old) { waiting = None; saying = said_next reply (talk_of self.old).saying } }
     {
@@ -209,16 +216,18 @@ impl Conversation {
         }
     }
 
-    /// Answers a request by the line of a refusal, whatever it asks for, and hears no more.
+    /// Answers a request with the line of a refusal, whatever it asks for, and hears no more.
     pub fn refuse(&mut self, alloc: Global, refusal: &Refusal)
-        ensures { IsClosed (talk_of self.old) (talk_of self.new) }
+        ensures refused { 400 ≤ (line_seen refusal.now).status → IsClosed (talk_of self.old) (talk_of self.new) }
+        ensures closes { Closes (talk_of self.old) (talk_of self.new) }
+        ensures gone { KeepsGone (talk_of self.old).saying (talk_of self.new).saying }
     {
         self.session.stop();
         let PendingAnswer { making, .. } = refuse(alloc, refusal);
         self.say(making.finish(alloc));
     }
 
-    /// Answers a request that waited for the first pull that nobody waits for any more, or not as long as the pull may take.
+    /// Refuses a request that waited for the first pull, if nobody waits for that any more, or not for as long as it may take.
     pub fn refuse_unready(&mut self, alloc: Global, said: Option<SessionOutput>)
         ensures { IsClosed (talk_of self.old) (talk_of self.new) }
     {
@@ -229,7 +238,7 @@ impl Conversation {
         self.refuse(alloc, &Refusal::new(503, "not ready").told_to(method));
     }
 
-    /// Has a reply go out, where there is one. A list waits until it is written.
+    /// Has a reply go out, if there is one. A list waits until it is written.
     pub fn reply_with(&mut self, alloc: Global, reply: Option<PendingReply>)
         ensures stays { Stays (talk_of self.old) (talk_of self.new) }
         ensures says { SaysBy reply (talk_of self.old).saying (talk_of self.new).saying }
@@ -241,7 +250,7 @@ impl Conversation {
         }
     }
 
-    /// Has a reply wait until it is written, where none goes out yet.
+    /// Has a reply wait until it is written, unless one goes out already.
     fn make(&mut self, making: PendingReply)
         ensures stays { Stays (talk_of self.old) (talk_of self.new) }
         ensures says { KeepsBy making (talk_of self.old).saying (talk_of self.new).saying }
@@ -251,7 +260,7 @@ impl Conversation {
         }
     }
 
-    /// Has a whole reply go out, or that there was no memory for it.
+    /// Has a whole reply go out, or one saying that there was no memory for it.
     pub fn tell(&mut self, alloc: Global, reply: Result<Vec<u8>, AllocError>)
         ensures rests { Rests (talk_of self.old) (talk_of self.new) }
         ensures gone { KeepsGone (talk_of self.old).saying (talk_of self.new).saying }
@@ -262,7 +271,7 @@ impl Conversation {
         }
     }
 
-    /// Whether nothing is left to be heard, done or written.
+    /// Returns whether nothing is left to be heard, done or written.
     pub fn is_done(&self) -> bool {
         let is_idle = match &self.work {
             Work::Nothing => true,
@@ -272,7 +281,7 @@ impl Conversation {
         self.session.is_over() && is_idle
     }
 
-    /// The three digits of the status of the reply that goes out.
+    /// Returns the three digits of the status of the reply that is going out.
     pub fn status(&self) -> &[u8] {
         match &self.work {
             Work::Reply(outgoing) => outgoing.reply.as_slice().get(9..12).unwrap_or(b""),
@@ -280,8 +289,8 @@ impl Conversation {
         }
     }
 
-    /// Has the reply wait for the next commit, where there is a whole one of which nothing went out. The request has changed
-    /// something, or not.
+    /// Has the reply wait for the next commit, if it is whole and none of it went out. `is_change` says whether the request has
+    /// changed something.
     pub fn hold_back(&mut self, is_change: bool)
         ensures stays { Stays (talk_of self.old) (talk_of self.new) }
         ensures says { Keeps (talk_of self.old).saying (talk_of self.new).saying }
@@ -296,12 +305,12 @@ impl Conversation {
         self.set(work);
     }
 
-    /// Whether a reply waits for the next commit.
+    /// Returns whether a reply waits for the next commit.
     pub fn is_held_back(&self) -> bool {
         matches!(self.work, Work::HeldBack(_))
     }
 
-    /// Has the reply go out that waited for a commit, by which all is kept, or not.
+    /// Has the reply that waited for a commit go out; `is_kept` says whether the commit has kept everything.
     pub fn release(&mut self, alloc: Global, is_kept: bool)
         ensures { Lasts (talk_of self.old) (talk_of self.new) }
     {
@@ -315,7 +324,7 @@ impl Conversation {
         }
     }
 
-    /// Writes a stretch more of a list. Where none is left it goes out.
+    /// Writes another stretch of a list. If none is left, the list goes out.
     pub fn go_on(&mut self, alloc: Global, making: PendingReply)
         ensures stays { Stays (talk_of self.old) (talk_of self.new) }
         ensures says { KeepsBy making (talk_of self.old).saying (talk_of self.new).saying }
@@ -327,14 +336,14 @@ impl Conversation {
         }
     }
 
-    /// Keeps a request of which some patterns are still to be compiled.
+    /// Keeps a request some of whose patterns are still to be compiled.
     pub fn judge_later(&mut self, said: SessionOutput, judging: Judging)
         ensures { talk_of self.new ≡ record (talk_of self.old) { waiting = Some (spoken said); saying = Silent } }
     {
         self.set(Work::Judging(said, judging));
     }
 
-    /// Puts off what is still to be done for a request that isn't about silences, where no reply goes out yet.
+    /// Puts off what is left to do for a request that isn't about silences, unless a reply goes out already.
     pub fn put_off(&mut self, call: CallProgress)
         ensures stays { Stays (talk_of self.old) (talk_of self.new) }
         ensures gone { KeepsGone (talk_of self.old).saying (talk_of self.new).saying }
@@ -344,7 +353,7 @@ impl Conversation {
         }
     }
 
-    /// Writes a stretch more of the log. Where none is left it goes out.
+    /// Writes another stretch of the log. If none is left, the log goes out.
     pub fn go_on_log(&mut self, alloc: Global, writing: LogWriting)
         ensures rests { Rests (talk_of self.old) (talk_of self.new) }
         ensures gone { KeepsGone (talk_of self.old).saying (talk_of self.new).saying }
@@ -358,7 +367,7 @@ impl Conversation {
         }
     }
 
-    /// Takes out the request that waits, where one does.
+    /// Takes out the request that waits, if one does.
     pub fn take_waiting(&mut self) -> Option<SessionOutput>
         ensures stays { Stays (talk_of self.old) (talk_of self.new) }
         ensures says { (talk_of self.new).saying ≡ (talk_of self.old).saying }
@@ -372,7 +381,7 @@ impl Conversation {
         }
     }
 
-    /// Whether something waits for its place in the line.
+    /// Returns whether something waits for its place in the line.
     pub fn waits(&self) -> bool {
         match &self.work {
             Work::Request(_) | Work::Judging(_, _) | Work::PendingReply(_) => true,
@@ -381,7 +390,7 @@ impl Conversation {
         }
     }
 
-    /// The request for a decision that waits, where one does.
+    /// Returns the request for a decision that waits, if one does.
     pub fn turn(&self) -> Option<&Turn> {
         match &self.work {
             Work::Call(CallProgress::Turn(turn)) => Some(turn),
@@ -389,14 +398,56 @@ impl Conversation {
         }
     }
 
-    /// How many bytes of what came are kept.
+    /// Returns the latest moment for the answer that is being made, or waits for its place in the line, if there is one.
+    pub fn limit(&self) -> Option<Instant> {
+        match &self.work {
+            Work::Call(CallProgress::Due(due)) => due.limit,
+            Work::Call(CallProgress::Deciding(deliberation)) => deliberation.limit,
+            _ => None,
+        }
+    }
+
+    /// Returns the number of bytes that came and are kept.
     pub fn held(&self) -> usize {
         let coming = self.session.waiting().saturating_add(self.gate.waiting());
         coming.saturating_add(self.work.held())
     }
 
-    /// What is still to be written.
+    /// Returns the number of bytes of a whole reply. Those that went out are kept, too, for as long as the connection is.
+    pub fn unread(&self) -> usize {
+        match &self.work {
+            Work::HeldBack(held) => held.reply.as_slice().len(),
+            Work::Reply(outgoing) => outgoing.reply.as_slice().len(),
+            _ => 0,
+        }
+    }
+
+    /// Returns what is still to be written, or a first part of it: the challenge comes before a reply.
     pub fn output(&self) -> &[u8]
+        ensures first_part { result.now ≡ take (length result.now) (pending_in (talk_of self.now)) }
+        ensures has_byte { result.now ≡ [] → pending_in (talk_of self.now) ≡ [] }
+    {
+        let challenge = self.gate.output();
+        if challenge.is_empty() {
+            self.reply_left()
+        } else {
+            challenge
+        }
+    }
+
+    /// Notes that `count` bytes of what was still to be written went out.
+    pub fn sent(&mut self, count: usize)
+        requires within { count ≤ length (pending_in (talk_of self.old)) }
+        ensures sent { talk_of self.new ≡ sent_in count (talk_of self.old) }
+        ensures rest { pending_in (talk_of self.new) ≡ drop count (pending_in (talk_of self.old)) }
+    {
+        let challenge = self.gate.output().len();
+        self.gate.sent(count.min(challenge));
+        self.reply_sent(count.saturating_sub(challenge));
+    }
+
+    /// Returns the bytes of a reply that are still to be written.
+    fn reply_left(&self) -> &[u8]
         ensures { result.now ≡ pending_of (talk_of self.now).saying }
     {
         match &self.work {
@@ -405,8 +456,8 @@ impl Conversation {
         }
     }
 
-    /// So many bytes of what was still to be written went out.
-    pub fn sent(&mut self, count: usize)
+    /// Notes that `count` bytes of a reply went out.
+    fn reply_sent(&mut self, count: usize)
         requires within { count ≤ length (pending_of (talk_of self.old).saying) }
         ensures { talk_of self.new ≡ record (talk_of self.old) { saying = sent_on count (talk_of self.old).saying } }
     {
@@ -417,17 +468,19 @@ impl Conversation {
     }
 }
 
-/// Whether a request has to wait.
+/// Returns whether a request has to wait.
 fn must_wait(said: &SessionOutput, waits_for_pull: bool) -> bool
     ensures { result ≡ true → IsRequest (spoken said.now) }
 {
     match &said.request {
-        Some(read) => waits_for_pull || is_list_request(read) || is_dear_call(read),
+        Some(read) => {
+            waits_for_pull || is_list_request(read) || is_list_call(read) || is_long_post(read)
+        }
         None => false,
     }
 }
 
-/// The method of the request that was said, if one was.
+/// Returns the method of the request that was said, if one was.
 fn method_of(said: &SessionOutput) -> &[u8] {
     match &said.request {
         Some(Read::Whole(request)) => request.method.as_bytes(),
@@ -435,14 +488,14 @@ fn method_of(said: &SessionOutput) -> &[u8] {
     }
 }
 
-/// Whether nothing was said.
+/// Returns whether nothing was said.
 pub fn is_nothing(said: &SessionOutput) -> bool
     ensures { result ≡ true → spoken said.now ≡ nothing }
 {
     said.frames.is_empty() && said.request.is_none() && said.fault.is_none()
 }
 
-/// Whether a frame is the last part of all that a peer has, as it was asked for.
+/// Returns whether a frame is the last part of everything a peer has, as it was asked for.
 fn is_last_of_pull(frame: &Frame) -> bool {
     match frame {
         Frame::Pull(state) => names_both(state),
@@ -450,12 +503,12 @@ fn is_last_of_pull(frame: &Frame) -> bool {
     }
 }
 
-/// Whether all that a peer has is here, with what was said.
+/// Returns whether everything a peer has is here, with what was said.
 pub fn ends_pull(said: &SessionOutput) -> bool {
     said.frames.iter().any(is_last_of_pull)
 }
 
-/// Whether what was said may change what the member holds.
+/// Returns whether what was said may change what the member holds.
 pub fn may_change(said: &SessionOutput) -> bool {
     match &said.request {
         Some(Read::Whole(request)) => request.method.as_str() != "GET",

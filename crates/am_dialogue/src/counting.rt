@@ -1,4 +1,4 @@
-//! What is counted of connections: what was asked and since when, and the silences by their states.
+//! The accounts of connections (their request and its time), and the census of the silences by their states.
 
 ghost use Rattle.std.specs.Prelude.{◌<◌, IfSome};
 ghost use Rattle.am_http.specs.Sessions.{spoken};
@@ -18,10 +18,10 @@ use am_wire::Text;
 use std::alloc::{AllocError, Global};
 use std::time::{Duration, Instant};
 
-/// How many silences are counted in a turn of the loop.
+/// The number of silences that are counted in a turn of the loop.
 const STRETCH: usize = 8_192;
 
-/// What was asked of the member itself, where that is what was said.
+/// Returns the resource of the member itself that was asked for, if one was.
 pub fn asked_of_itself(said: &SessionOutput) -> Option<Resource>
     ensures { IfSome result (λ _. IsElsewhere (spoken said.now)) }
 {
@@ -31,7 +31,7 @@ pub fn asked_of_itself(said: &SessionOutput) -> Option<Resource>
     }
 }
 
-/// The resource of the member that a request names, where it does.
+/// Returns the resource of the member that a request names, if it names one.
 fn resource_in(read: &Read) -> Option<Resource> {
     match read {
         Read::Whole(request) => resource_of(&request.target),
@@ -39,7 +39,7 @@ fn resource_in(read: &Read) -> Option<Resource> {
     }
 }
 
-/// What a resource of the member itself is counted as.
+/// Returns the kind that a request for a resource of the member itself is counted as.
 fn kind_of_resource(resource: Resource) -> Request {
     match resource {
         Resource::Page => Request::Page,
@@ -51,7 +51,7 @@ fn kind_of_resource(resource: Resource) -> Request {
     }
 }
 
-/// What a call on decisions is counted as.
+/// Returns the kind that a call on decisions is counted as.
 fn kind_of_decision(method: &str, target: &str) -> Request {
     match decisions::call_of(method, target) {
         Ok(decisions::Call::Decide { .. }) => Request::Decide,
@@ -61,7 +61,7 @@ fn kind_of_decision(method: &str, target: &str) -> Request {
     }
 }
 
-/// What a call on silences is counted as.
+/// Returns the kind that a call on silences is counted as.
 fn kind_of_call(method: &str, target: &str) -> Request {
     match silences::call_of(method, target) {
         Ok(silences::Call::List { .. }) => Request::List,
@@ -72,7 +72,7 @@ fn kind_of_call(method: &str, target: &str) -> Request {
     }
 }
 
-/// What a whole request is counted as.
+/// Returns the kind that a whole request is counted as.
 fn kind_of(request: &silences::Request) -> Request {
     if let Some(resource) = resource_of(&request.target) {
         kind_of_resource(resource)
@@ -83,7 +83,7 @@ fn kind_of(request: &silences::Request) -> Request {
     }
 }
 
-/// What was asked, where that was said.
+/// Returns the kind of the request that was said, if one was.
 pub fn request_of(said: &SessionOutput) -> Option<Request> {
     match &said.request {
         Some(Read::Whole(request)) => Some(kind_of(request)),
@@ -92,7 +92,7 @@ pub fn request_of(said: &SessionOutput) -> Option<Request> {
     }
 }
 
-/// What is counted of a connection: what was asked, and since when; and whether its end is counted.
+/// The account of a connection: what was asked and when, and whether its end is counted.
 #[derive(Clone, Copy)]
 pub struct Account {
     asked: Option<(Request, Option<Instant>)>,
@@ -100,7 +100,7 @@ pub struct Account {
 }
 
 impl Account {
-    /// Nothing was asked.
+    /// Returns the account of a connection on which nothing was asked.
     pub fn new() -> Account {
         Account {
             asked: None,
@@ -108,21 +108,21 @@ impl Account {
         }
     }
 
-    /// A request came whole, or is refused.
+    /// Notes that a request came whole, or is refused.
     pub fn ask(&mut self, request: Request, now: Option<Instant>) {
         if self.asked.is_none() {
             self.asked = Some((request, now));
         }
     }
 
-    /// The connection ends; answers whether that isn't counted yet.
+    /// Notes that the connection ends, and returns whether that wasn't counted yet.
     pub fn close(&mut self) -> bool {
         let is_open = !self.is_closed;
         self.is_closed = true;
         is_open
     }
 
-    /// What was asked, and how long ago.
+    /// Returns what was asked, and how long ago.
     pub fn answered(&self, now: Option<Instant>) -> Option<(Request, Duration)> {
         let (request, since) = self.asked?;
         let time = match (since, now) {
@@ -136,16 +136,16 @@ impl Account {
 /// Silences that are being counted by their states, in the order of their keys.
 #[derive(Drop)]
 pub struct Census {
-    /// The reply has its head alone.
+    /// True if the reply has its head alone.
     pub is_bare: bool,
-    /// How many are pending, active and expired so far.
+    /// The numbers of pending, active and expired silences so far.
     pub counts: [u64; 3],
-    /// From which key on they are left, where some are counted.
+    /// The key from which on silences are left, if some are counted.
     next: Option<Text>,
     is_done: bool,
 }
 
-/// The place of a state among them.
+/// Returns the place of a state among the counts.
 fn place_of(state: State) -> usize
     ensures { result < 3 }
 {
@@ -157,7 +157,7 @@ fn place_of(state: State) -> usize
 }
 
 impl Census {
-    /// None is counted.
+    /// Begins a census with nothing counted.
     pub fn new(is_bare: bool) -> Census {
         Census {
             is_bare,
@@ -167,16 +167,16 @@ impl Census {
         }
     }
 
-    /// Whether all are counted.
+    /// Returns whether all silences are counted.
     pub fn is_done(&self) -> bool {
         self.is_done
     }
 
-    /// Counts a stretch more of them, as they are at `now`.
+    /// Counts another stretch of the silences, as they are at `now`.
     ///
     /// # Errors
     ///
-    /// [`AllocError`] where memory ran out.
+    /// [`AllocError`] if memory runs out.
     pub fn go_on(
         self,
         alloc: Global,
@@ -205,7 +205,7 @@ impl Census {
         })
     }
 
-    /// With these counts, up to a silence.
+    /// Returns the census with these counts, up to a silence.
     fn until(
         self,
         alloc: Global,

@@ -1,5 +1,5 @@
-//! What a member keeps in mind: of each connection what it said that waits, and the reply that is made or goes out; what is to
-//! be done by itself, and when; and what goes to each peer.
+//! The memory of a member: what each connection said that waits, and the reply that is made or going out; the member's own
+//! duties, and when they are due; and what goes to each peer.
 #![tactic(auto)]
 
 mod conversation;
@@ -16,4 +16,4 @@ pub use counting::{Account, Census, asked_of_itself, request_of};
 pub use room::{frame_bytes, log_said, post_bytes, request_bytes, silences_said};
 pub use share::Share;
 pub use timers::{Intervals, Timers};
-pub use turns::{Turn, Turns, Wait, is_call};
+pub use turns::{Due, Stage, Turn, Turns, Wait, is_call, is_long};

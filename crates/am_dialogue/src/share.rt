@@ -1,30 +1,30 @@
-//! What a peer is handed of all that is held.
+//! The share of everything held that a peer is handed.
 
 use am_gossip::{Frame, FullState};
 use am_instance::Handout;
 use std::mem;
 
-/// How far a peer was handed all that is held.
+/// The progress of handing a peer everything that is held.
 #[derive(Drop)]
 enum Stage {
-    /// Nothing is to be handed to it.
+    /// Nothing is to be handed to the peer.
     Nothing,
-    /// All is, over a link that isn't asked for yet.
+    /// Everything is to be handed to the peer, over a link that hasn't been asked for yet.
     Waiting,
-    /// What this has left, over the link to it once all else went out.
+    /// This handout is left, for the link to the peer once everything else went out.
     Open(Handout),
 }
 
-/// What is handed to a peer: all that is held once, however often that is wanted meanwhile.
+/// The share of a peer: everything that is held once, however often that is wanted meanwhile.
 #[derive(Drop)]
 pub struct Share {
     stage: Stage,
-    /// The peer is asked for as much: the last part is a Push.
+    /// True if the peer is asked for as much: then the last part is a Push.
     asks: bool,
 }
 
 impl Share {
-    /// Nothing is to be handed out.
+    /// Returns a share with nothing to hand out.
     pub fn none() -> Share {
         Share {
             stage: Stage::Nothing,
@@ -32,7 +32,7 @@ impl Share {
         }
     }
 
-    /// All that is held is to be handed out, and perhaps to be asked for.
+    /// Has everything that is held handed out; `asks` says whether the peer is asked for as much.
     pub fn want(&mut self, asks: bool) {
         self.asks |= asks;
         if matches!(self.stage, Stage::Nothing) {
@@ -40,17 +40,17 @@ impl Share {
         }
     }
 
-    /// Whether a link is to be asked for.
+    /// Returns whether a link is to be asked for.
     pub fn waits(&self) -> bool {
         matches!(self.stage, Stage::Waiting)
     }
 
-    /// A link to the peer is asked for: all is left.
+    /// Notes that a link to the peer is asked for: everything is left.
     pub fn open(&mut self) {
         self.stage = Stage::Open(Handout::new());
     }
 
-    /// What is left, which the caller hands out.
+    /// Takes out what is left, which the caller hands out.
     pub fn take_left(&mut self) -> Option<Handout> {
         match mem::replace(&mut self.stage, Stage::Nothing) {
             Stage::Open(left) => Some(left),
@@ -58,7 +58,7 @@ impl Share {
         }
     }
 
-    /// The frame of a part, behind which this is left.
+    /// Returns the frame of a part, after which `left` remains.
     pub fn frame_of(&mut self, part: FullState, left: Option<Handout>) -> Frame {
         if let Some(left) = left {
             self.stage = Stage::Open(left);

@@ -1,24 +1,23 @@
-//! What a member does by itself, and when.
+//! The duties of a member, and when they are due.
 
 use std::time::{Duration, Instant};
 
-/// After how many milliseconds a member looks again whether it is told to end.
+/// The time in milliseconds between two checks whether the member is told to end.
 const SIGNAL_EVERY: u64 = 100;
 
-/// After how many milliseconds a member looks again whether the clock is behind its last moment.
+/// The time in milliseconds between two checks whether the clock is behind the member's last moment.
 const CLOCK_EVERY: u64 = 1_000;
 
-/// After how many milliseconds a member asks its peers again for all they have, as long as none has answered.
+/// The time in milliseconds after which a member asks its peers again for everything they have, as long as none has answered.
 const ASK_EVERY: u64 = 1_000;
 
-/// How many milliseconds are between two Ticks at the least, however many peers ask for one.
+/// The least time in milliseconds between two Ticks, however many peers ask for one.
 const TICK_AT_MOST_EVERY: u64 = 1_000;
 
-/// After how many milliseconds at the latest a member looks again for requests that wait for the first pull, and whose time is
-/// nearly over.
+/// The most milliseconds between two looks for requests that wait for the first pull and whose time is nearly over.
 const HURRY_EVERY: u64 = 100;
 
-/// Whether a moment has come, where it is said.
+/// Returns whether a moment has come; `true` if there is none.
 fn is_reached(moment: Option<Instant>, now: Instant) -> bool {
     match moment {
         Some(moment) => moment <= now,
@@ -26,7 +25,7 @@ fn is_reached(moment: Option<Instant>, now: Instant) -> bool {
     }
 }
 
-/// Something that is done every so often.
+/// A timer for something that is done at intervals.
 #[derive(Clone, Copy)]
 struct Timer {
     every: Duration,
@@ -34,12 +33,12 @@ struct Timer {
 }
 
 impl Timer {
-    /// First at a moment, or never where no time is given.
+    /// Returns a timer that is first due at a moment, or never if there is none.
     fn from(next: Option<Instant>, every: Duration) -> Timer {
         Timer { every, next }
     }
 
-    /// Every so often from now on, where a time is given.
+    /// Returns a timer that is due every `every` from now on, or never if no time is given.
     fn every(now: Instant, every: Option<Duration>) -> Timer {
         match every {
             Some(every) => Timer::from(now.checked_add(every), every),
@@ -47,7 +46,7 @@ impl Timer {
         }
     }
 
-    /// Whether it is due. It is due again after its time then.
+    /// Returns whether the timer is due, and sets it anew if it is.
     fn is_due(&mut self, now: Instant) -> bool {
         let Some(next) = self.next else {
             return false;
@@ -59,7 +58,7 @@ impl Timer {
         true
     }
 
-    /// How long it is until it is due, and no longer than `most`.
+    /// Returns the time until the timer is due, but no more than `most`.
     fn left(&self, now: Instant, most: Option<Duration>) -> Option<Duration> {
         let Some(next) = self.next else {
             return most;
@@ -72,38 +71,38 @@ impl Timer {
     }
 }
 
-/// How often a member does what it does by itself, where it does.
+/// The intervals of a member's duties; none for a duty that the member doesn't do by itself.
 #[derive(Clone, Copy)]
 pub struct Intervals {
-    /// Drops what has expired.
+    /// The interval at which the member drops what has expired.
     pub tick: Option<Duration>,
-    /// Asks its peers for all they have.
+    /// The interval at which the member asks its peers for everything they have.
     pub pull: Option<Duration>,
-    /// Saves.
+    /// The interval at which the member saves.
     pub save: Option<Duration>,
-    /// For how long it answers nothing before a peer has answered, where it waits for that.
+    /// The most time for which the member answers nothing before a peer has answered, if it waits for that.
     pub first_pull: Option<Duration>,
 }
 
-/// What a member does by itself.
+/// The timers of a member's duties.
 #[derive(Clone, Copy)]
 pub struct Timers {
     tick: Timer,
-    /// A peer asked for a Tick.
+    /// True if a peer asked for a Tick.
     owes_tick: bool,
-    /// Before this it makes none that a peer asks for.
+    /// The moment before which the member makes no Tick that a peer asks for.
     next_tick: Option<Instant>,
     pull: Timer,
     pull_every: Option<Duration>,
     save: Timer,
     signal: Timer,
     clock: Timer,
-    /// Until when nothing is answered before a peer has answered.
+    /// The moment until which nothing is answered before a peer has answered.
     first_pull: Option<Instant>,
 }
 
 impl Timers {
-    /// All that is done every so often, from now on; `signals` says whether it is to look for signals.
+    /// Starts all timers; `signals` says whether the member is to look for signals.
     pub fn new(intervals: &Intervals, signals: bool, now: Instant) -> Timers {
         let mut duties = Timers {
             tick: Timer::every(now, intervals.tick),
@@ -123,12 +122,12 @@ impl Timers {
         duties
     }
 
-    /// Whether nothing is answered yet, since no peer has answered.
+    /// Returns whether nothing is answered yet, since no peer has answered.
     pub fn waits_for_pull(&self) -> bool {
         self.first_pull.is_some()
     }
 
-    /// A peer has answered, or is waited for no more: from now on it pulls every so often.
+    /// Notes that a peer has answered, or is no longer waited for: from now on the member pulls at its interval.
     pub fn end_first_pull(&mut self, now: Instant) {
         if self.first_pull.is_some() {
             self.first_pull = None;
@@ -136,12 +135,12 @@ impl Timers {
         }
     }
 
-    /// A peer asks for a Tick.
+    /// Notes that a peer asks for a Tick.
     pub fn owe_tick(&mut self) {
         self.owes_tick = true;
     }
 
-    /// Whether a Tick is due, by itself or since a peer asked for one.
+    /// Returns whether a Tick is due, by its timer or because a peer asked for one.
     pub fn is_tick_due(&mut self, now: Instant) -> bool {
         let own = self.tick.is_due(now);
         let next = self.next_tick;
@@ -153,7 +152,7 @@ impl Timers {
         true
     }
 
-    /// When the Tick is due that a peer asked for, where one did.
+    /// Returns when the Tick is due that a peer asked for, if one did.
     fn owed_tick(&self, now: Instant) -> Option<Instant> {
         if self.owes_tick {
             Some(self.next_tick.unwrap_or(now))
@@ -162,27 +161,27 @@ impl Timers {
         }
     }
 
-    /// Whether a save is due.
+    /// Returns whether a save is due.
     pub fn is_save_due(&mut self, now: Instant) -> bool {
         self.save.is_due(now)
     }
 
-    /// Whether peers are to be asked for all they have.
+    /// Returns whether peers are to be asked for everything they have.
     pub fn is_pull_due(&mut self, now: Instant) -> bool {
         self.pull.is_due(now)
     }
 
-    /// Whether it is to look for signals.
+    /// Returns whether the member is to look for signals.
     pub fn is_signal_due(&mut self, now: Instant) -> bool {
         self.signal.is_due(now)
     }
 
-    /// Whether it is to look at the clock.
+    /// Returns whether the member is to look at the clock.
     pub fn is_clock_due(&mut self, now: Instant) -> bool {
         self.clock.is_due(now)
     }
 
-    /// Whether no peer has answered in time.
+    /// Returns whether no peer has answered in time.
     pub fn is_first_pull_over(&self, now: Instant) -> bool {
         match self.first_pull {
             Some(end) => end <= now,
@@ -190,7 +189,7 @@ impl Timers {
         }
     }
 
-    /// How long it is until something is due.
+    /// Returns the time until something is due.
     pub fn left(&self, now: Instant) -> Option<Duration> {
         let owed_tick = Timer::from(self.owed_tick(now), Duration::ZERO);
         let mut left = None;

@@ -1,4 +1,4 @@
-//! Requests for a decision that wait for their member's turn, or until Alertmanagers were heard.
+//! Requests for a decision that wait for their member's turn, or until Alertmanagers have been heard.
 
 ghost use Rattle.std.specs.Prelude.{◌≡◌, Bool, true, false, IsTrue};
 ghost use Rattle.am_http.specs.Sessions.{spoken};
@@ -11,16 +11,17 @@ use am_http::session::SessionOutput;
 use am_http::{Cause, call_of};
 use std::time::Instant;
 
-/// The most bytes of a body that is read as soon as its turn has come. A larger one waits for its place in the line, so that
-/// what is made of it is held once.
+/// The most bytes in a body that is read as soon as its turn has come. A larger one waits for its place in the line, so that only
+/// one is held in its decoded form.
 const MOST_AT_ONCE: usize = 65_536;
 
-/// For what a request for a decision waits.
+/// The event that a request for a decision waits for.
 #[derive(Clone, Copy)]
 pub enum Wait {
-    /// For this member's turn.
+    /// The turn of this member.
     Turn,
-    /// Until an exchange is over with each Alertmanager beside the member that began in a round or later; it waits since then.
+    /// The end of an exchange, begun in this round or later, with each Alertmanager beside the member. The request waits since
+    /// `since`.
     Exchanges { round: u64, since: Instant },
 }
 
@@ -29,12 +30,12 @@ pub enum Wait {
 pub struct Turn {
     request: Request,
     wait: Wait,
-    /// When it waits no more, whatever came.
+    /// The moment when the request waits no longer, whatever came.
     limit: Instant,
 }
 
 impl Turn {
-    /// A request waits for the member's turn, which comes then.
+    /// Returns a request that waits for the member's turn, which comes at `due`.
     pub fn new(request: Request, due: Instant) -> Turn
         ensures { (are_over : Bool) → due_of result are_over ≡ due }
     {
@@ -45,7 +46,7 @@ impl Turn {
         }
     }
 
-    /// A request waits since then for the exchanges of a round, until the limit at the latest.
+    /// Returns a request that waits since `since` for the exchanges of a round, but only until the limit.
     pub fn for_exchanges(request: Request, round: u64, since: Instant, limit: Instant) -> Turn
         ensures over { due_of result true ≡ since }
         ensures under_way { due_of result false ≡ limit }
@@ -57,20 +58,20 @@ impl Turn {
         }
     }
 
-    /// The request.
-    pub fn request(&self) -> &Request {
-        &self.request
-    }
-
-    /// The request, where Alertmanagers are still to be heard before it is answered that a group is to be notified.
-    pub fn into_unheard(self) -> Option<Request> {
-        match self.wait {
-            Wait::Turn => Some(self.request),
-            Wait::Exchanges { .. } => None,
+    /// Returns the request, which now waits only for its place in the line, until the limit at the latest.
+    pub fn into_due(self, limit: Option<Instant>) -> Due {
+        let stage = match self.wait {
+            Wait::Turn => Stage::InTurn,
+            Wait::Exchanges { .. } => Stage::Heard,
+        };
+        Due {
+            request: self.request,
+            stage,
+            limit,
         }
     }
 
-    /// The round whose exchanges it waits for, where it does.
+    /// Returns the round whose exchanges the request waits for, if it does.
     pub fn round(&self) -> Option<u64> {
         match self.wait {
             Wait::Turn => None,
@@ -78,7 +79,7 @@ impl Turn {
         }
     }
 
-    /// When it waits no more, where the exchanges of its round are over, or not.
+    /// Returns when the request waits no longer; `are_over` says whether the exchanges of its round are over.
     pub fn due(&self, are_over: bool) -> Instant
         // PROMISE: A decision that waits for exchanges waits until they are over, or to its limit; one that waits for its turn, until that comes.
         ensures { result ≡ due_of self.now are_over }
@@ -89,18 +90,34 @@ impl Turn {
         }
     }
 
-    /// How many bytes it keeps.
+    /// Returns the number of bytes that the request keeps.
     pub fn bytes(&self) -> usize {
         bytes_of_request(&self.request)
     }
-
-    /// Whether its reply may take long to make.
-    pub fn is_dear(&self) -> bool {
-        is_long(&self.request)
-    }
 }
 
-/// How many requests for decisions wait, and how many may.
+/// The stage of a request that is about to be answered, once its place in the line has come.
+#[derive(Clone, Copy, PartialEq, Eq)]
+pub enum Stage {
+    /// The request's message isn't read yet.
+    Unread,
+    /// The member's turn has come.
+    InTurn,
+    /// The Alertmanagers beside the member have been heard, too.
+    Heard,
+}
+
+/// A request of a program that sends pages, which waits for its place in the line.
+#[derive(Drop)]
+pub struct Due {
+    pub request: Request,
+    pub stage: Stage,
+    /// The moment when the request is answered, whatever comes; without it, the request waits for as long as a connection may
+    /// last.
+    pub limit: Option<Instant>,
+}
+
+/// The number of requests for decisions that wait, and the maximum.
 #[derive(Clone, Copy)]
 pub struct Turns {
     waiting: u16,
@@ -108,12 +125,12 @@ pub struct Turns {
 }
 
 impl Turns {
-    /// None wait, and so many may.
+    /// Returns a count of none waiting, with a maximum of `most`.
     pub fn new(most: u16) -> Turns {
         Turns { waiting: 0, most }
     }
 
-    /// One more waits, where it may.
+    /// Counts one more request that waits, and returns `true`, unless the maximum is reached.
     pub fn begin(&mut self) -> bool {
         if self.waiting >= self.most {
             return false;
@@ -122,18 +139,18 @@ impl Turns {
         true
     }
 
-    /// How many wait.
+    /// Returns the number of requests that wait.
     pub fn count(&self) -> u64 {
         u64::from(self.waiting)
     }
 
-    /// One waits no more.
+    /// Counts one request fewer.
     pub fn end(&mut self) {
         self.waiting = self.waiting.saturating_sub(1);
     }
 }
 
-/// Whether what was read is a whole request whose path isn't one of the API of silences.
+/// Returns whether what was read is a whole request whose path isn't one of the API of silences.
 pub fn is_elsewhere(read: &Read) -> bool
     ensures { IsTrue result → AsksElsewhere read.now }
 {
@@ -146,7 +163,7 @@ pub fn is_elsewhere(read: &Read) -> bool
     }
 }
 
-/// Whether what was read is a call of a program that sends pages.
+/// Returns whether what was read is a call of a program that sends pages.
 fn is_of_decisions(read: &Read) -> bool {
     match read {
         Read::Whole(request) => is_for_decisions(request),
@@ -154,7 +171,7 @@ fn is_of_decisions(read: &Read) -> bool {
     }
 }
 
-/// Whether what was said is a call of a program that sends pages.
+/// Returns whether what was said is a call of a program that sends pages.
 pub fn is_call(said: &SessionOutput) -> bool
     ensures { IsTrue result → IsElsewhere (spoken said.now) }
 {
@@ -164,22 +181,29 @@ pub fn is_call(said: &SessionOutput) -> bool
     }
 }
 
-/// How many bytes a request keeps.
+/// Returns the number of bytes that a request keeps.
 pub fn bytes_of_request(request: &Request) -> usize {
     request.body.len().saturating_add(request.target.len())
 }
 
-/// Whether a request has so much to say that only one at a time is read.
-fn is_long(request: &Request) -> bool {
+/// Returns whether a request has so much to say that only one of its kind is read at a time.
+pub fn is_long(request: &Request) -> bool {
     request.body.len() > MOST_AT_ONCE
 }
 
-/// Whether it is one whose reply may take long to make.
-pub fn is_dear_call(read: &Read) -> bool {
+/// Returns whether a request has so much to say that it waits for its place in the line before it is read. Those of programs that
+/// send pages are put there once it is known what they ask.
+pub fn is_long_post(read: &Read) -> bool {
     match read {
-        Read::Whole(request) => {
-            is_for_decisions(request) && (is_long(request) || request.method.as_str() == "GET")
-        }
+        Read::Whole(request) => is_long(request) && !is_for_decisions(request),
+        _ => false,
+    }
+}
+
+/// Returns whether a request asks for a list that may take long to make.
+pub fn is_list_call(read: &Read) -> bool {
+    match read {
+        Read::Whole(request) => is_for_decisions(request) && request.method.as_str() == "GET",
         _ => false,
     }
 }

@@ -3,35 +3,35 @@ use Rattle.std.specs.Prelude.{ℕ, zero, suc, ◌==◌, Bool, List, [], ◌∷�
 use Rattle.std.specs.List.{flat_map}
 
 pub data Call : Type 0 where
-  -- what stands at a path is removed
+  -- what is at a path is removed
   Remove : (path : List ℕ) → Call
-  -- a new file is made at a path where nothing stands
+  -- a new file is created at a path where there is nothing
   Make : (path : List ℕ) → Call
-  -- the new file gets the permissions of what stands at a path, if anything does
+  -- the new file gets the permissions of what is at a path, if anything is
   Permit : (path : List ℕ) → Call
-  -- bytes go into the new file
+  -- bytes are written to the new file
   Write : (bytes : List ℕ) → Call
-  -- the new file, into which all these bytes went, is handed to the disk
+  -- the new file, to which all these bytes were written, is synced to the disk
   Sync : (bytes : Option (List ℕ)) → Call
-  -- what stands at a path takes the place of what stands at another one
+  -- what is at one path takes the place of what is at another
   Rename : (from to : List ℕ) → Call
-  -- the names in a directory are handed to the disk
+  -- the names in a directory are synced to the disk
   SyncDirectory : (path : List ℕ) → Call
 
 -- a call, and whether it was done
 abbrev pub Event : Type 0
 Event = Call × Bool
 
--- the bytes of a call that writes
+-- the bytes of a call, if it writes
 abbrev pub bytes_of : Event → List ℕ
 bytes_of (Write bytes, _) = bytes
 bytes_of _ = []
 
--- the bytes that went into a file
+-- the bytes written to a file
 abbrev pub written_in : List Event → List ℕ
 written_in events = flat_map bytes_of events
 
--- a call by its number, its texts, and what went into a new file
+-- the call with a number, texts, and what was written to a new file
 abbrev pub call_of : ℕ → List ℕ → List ℕ → List ℕ → Call
 call_of zero first second written = Remove first
 call_of (suc zero) first second written = Make first

@@ -1,4 +1,4 @@
--- What the system said, as a fault of a file.
+-- The errors of the system, as faults of a file.
 use Rattle.std.specs.Prelude.{◌≡◌}
 use Rattle.std.specs.declared.io.ErrorKind.{ErrorKind}
 use Rattle.std.specs.declared.io.ErrorKind.TheVariants.{OutOfMemory}
@@ -6,7 +6,7 @@ use Rattle.am_snapshot.specs.declared.error.SnapshotError.TheVariants.{Memory}
 use Rattle.am_disk.specs.declared.error.FileFault.{FileFault}
 use Rattle.am_disk.specs.declared.error.FileFault.TheVariants.{File, Snapshot}
 
--- want of memory is one of the snapshot, and anything else the kind of the system's error
+-- lack of memory is a fault of the snapshot, and anything else the kind of the system's error
 abbrev pub file_fault_of : ErrorKind → FileFault
 file_fault_of OutOfMemory = Snapshot Memory
 file_fault_of kind = File kind

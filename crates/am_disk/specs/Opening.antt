@@ -1,4 +1,4 @@
--- What the system says of a path.
+-- The system's answers about a path.
 use Rattle.std.specs.Prelude.{◌≡◌, Bool, true, false, Result, Ok, Err}
 use Rattle.std.specs.IoError.{error_kind}
 use Rattle.std.specs.declared.io.Error.{Error}
@@ -8,12 +8,12 @@ use Rattle.am_disk.specs.Faults.{file_fault_of}
 use Rattle.am_disk.specs.declared.error.FileFault.{FileFault}
 use Rattle.am_disk.specs.declared.error.FileFault.TheVariants.{NotAFile}
 
--- nothing stands there, or the system doesn't say what
+-- nothing is there, or the system doesn't say what is
 abbrev pub is_missing : ErrorKind → Result Bool FileFault
 is_missing NotFound = Ok false
 is_missing kind = Err (file_fault_of kind)
 
--- whether a file stands there; what is no file is a fault, and so is any error but that nothing stands there
+-- whether a file is there; anything other than a file is a fault, and so is any error but that nothing is there
 abbrev pub is_found : Result Bool Error → Result Bool FileFault
 is_found (Ok true) = Ok true
 is_found (Ok false) = Err NotAFile

@@ -1,4 +1,4 @@
-//! Why a file was not read or not written.
+//! The reasons why a file wasn't read or written.
 
 ghost use Rattle.std.specs.Prelude.{◌≡◌};
 
@@ -6,19 +6,19 @@ use am_snapshot::SnapshotError;
 use std::io::{self, ErrorKind};
 use thiserror::Error;
 
-/// Why a file was not read, or not written.
+/// The reason why a file wasn't read or written.
 #[derive(Clone, Copy, Debug, PartialEq, Eq, Error)]
 pub enum FileFault {
-    /// The system refused to open, sync or rename it.
+    /// The system refused to open, sync or rename the file.
     #[error("File {0:?}")]
     File(ErrorKind),
-    /// What stands in it is at fault, or not all of it was read or written.
+    /// The content is at fault, or not all of it was read or written.
     #[error("{0}")]
     Snapshot(SnapshotError),
-    /// What stands in its place is no file.
+    /// Something other than a file is in its place.
     #[error("NotAFile")]
     NotAFile,
-    /// Another process has it.
+    /// Another process has the file.
     #[error("Locked")]
     Locked,
 }

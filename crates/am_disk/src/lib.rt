@@ -1,5 +1,5 @@
-//! A state in a file: the calls that a save makes of a file system, in their order, whatever each is answered; what stands at a
-//! path, which file it names, and why a file was not read or not written.
+//! A state in a file: the calls that a save makes of a file system, in order, whatever the answer to each; what is at a path, the
+//! file that it names, and why a file wasn't read or written.
 #![tactic(auto)]
 
 mod disk;

@@ -1,4 +1,4 @@
-//! What stands at a path.
+//! The check of what is at a path.
 
 ghost use Rattle.std.specs.Prelude.{◌≡◌, ◌↔◌, Ok, Err, true, false, IsErrAnd};
 ghost use Rattle.std.specs.IoError.{error_kind};
@@ -9,11 +9,12 @@ use std::fs;
 use std::io::{self, ErrorKind};
 use std::rt::Files;
 
-/// Whether a file is there, by what the system says of its path: whether what stands there is a file, or why it doesn't say.
+/// Returns whether a file is there, given the system's answer: whether what is at the path is a file, or why the system can't
+/// say.
 ///
 /// # Errors
 ///
-/// [`FileFault::NotAFile`], and what the system says, but that nothing stands there.
+/// [`FileFault::NotAFile`], and any error of the system other than that nothing is there.
 fn found_by(said: io::Result<bool>) -> Result<bool, FileFault>
     ensures { result ≡ is_found said }
 {
@@ -25,16 +26,16 @@ fn found_by(said: io::Result<bool>) -> Result<bool, FileFault>
     }
 }
 
-/// Whether a link stands at a path.
+/// Returns whether a link is at a path.
 fn is_link<R: Files + AllocGlobal>(rt: &R, path: &str) -> bool {
     fs::read_link(rt, path).is_ok()
 }
 
-/// Returns whether a file is there, as [`is_there`] does, and refuses a link: what would be written went where it leads.
+/// Returns whether a file is there, as [`is_there`] does, and refuses a link: what is written would go where it leads.
 ///
 /// # Errors
 ///
-/// [`FileFault::NotAFile`], also of a link, and what the system says.
+/// [`FileFault::NotAFile`], also for a link, and what the system says.
 pub fn is_own_file_there<R: Files + AllocGlobal>(rt: &R, path: &str) -> Result<bool, FileFault> {
     if is_link(rt, path) {
         return Err(FileFault::NotAFile);
@@ -42,7 +43,7 @@ pub fn is_own_file_there<R: Files + AllocGlobal>(rt: &R, path: &str) -> Result<b
     is_there(rt, path)
 }
 
-/// Whether a file is there. What is no file isn't opened, since that may wait for ever.
+/// Returns whether a file is there. Something other than a file isn't opened, since that may wait forever.
 ///
 /// # Errors
 ///

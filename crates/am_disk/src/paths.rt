@@ -1,4 +1,4 @@
-//! Which file a path names.
+//! The file that a path names.
 
 ghost use Rattle.std.specs.Prelude.{◌≡◌, Ok, true};
 
@@ -13,13 +13,13 @@ use std::os::unix::fs::MetadataExt;
 use std::path::{Path, PathBuf};
 use std::rt::Files;
 
-/// How many links may stand one behind the other.
+/// The maximum number of links that may follow one another.
 const MOST_LINKS: usize = 40;
 
-/// Memory ran out.
+/// The fault when memory runs out.
 const NO_MEMORY: FileFault = FileFault::Snapshot(SnapshotError::Memory);
 
-/// The name of a file in its directory.
+/// Returns the name of a file in its directory.
 fn name_of(path: &str) -> &str {
     match path.rsplit_once('/') {
         Some((_, name)) => name,
@@ -27,12 +27,12 @@ fn name_of(path: &str) -> &str {
     }
 }
 
-/// Whether a path at which the system finds no link, and says so, may be a file's.
+/// Returns whether a path may be a file's if the system, asked for a link there, answers with this error.
 fn is_no_link(kind: ErrorKind) -> bool {
     matches!(kind, ErrorKind::InvalidInput | ErrorKind::NotFound)
 }
 
-/// Where the link leads that stands at a path, if one does.
+/// Returns where the link at a path leads, if there is one.
 fn behind_link<R: Files + AllocGlobal>(rt: &R, path: &str) -> Result<Option<PathBuf>, FileFault> {
     let link = match fs::read_link(rt, path) {
         Ok(link) => link,
@@ -45,7 +45,7 @@ fn behind_link<R: Files + AllocGlobal>(rt: &R, path: &str) -> Result<Option<Path
     }
 }
 
-/// The path behind all links that stand at the end of a path.
+/// Returns the path behind all links at the end of a path.
 fn behind_links<R: Files + AllocGlobal>(rt: &R, path: &str) -> Result<PathBuf, FileFault> {
     let Ok(mut target) = PathBuf::from_str(rt.alloc(), path) else {
         return Err(NO_MEMORY);
@@ -59,18 +59,18 @@ fn behind_links<R: Files + AllocGlobal>(rt: &R, path: &str) -> Result<PathBuf, F
     Err(FileFault::File(ErrorKind::FilesystemLoop))
 }
 
-/// The path of the file that a path names: behind the links that stand at its end. The file may be missing.
+/// Returns the path of the file that a path names, behind the links at its end. The file may be missing.
 ///
 /// # Errors
 ///
-/// [`FileFault::NotAFile`] where what stands there is something else, as a directory, and what the system says.
+/// [`FileFault::NotAFile`] if something else is there, such as a directory, and what the system says.
 pub fn target_of<R: Files + AllocGlobal>(rt: &R, path: &str) -> Result<PathBuf, FileFault> {
     let target = behind_links(rt, path)?;
     is_there(rt, target.as_str())?;
     Ok(target)
 }
 
-/// The same, or none where the system refuses to say.
+/// Returns the same, or `None` if the system refuses to say.
 fn known_target<R: Files + AllocGlobal>(rt: &R, path: &str) -> Result<Option<PathBuf>, AllocError> {
     match behind_links(rt, path) {
         Ok(target) => Ok(Some(target)),
@@ -79,7 +79,7 @@ fn known_target<R: Files + AllocGlobal>(rt: &R, path: &str) -> Result<Option<Pat
     }
 }
 
-/// Whether the system has one thing at both paths.
+/// Returns whether the system has the same thing at both paths.
 fn is_one_node<R: Files>(rt: &R, one: &str, other: &str) -> bool {
     match (fs::metadata(rt, one), fs::metadata(rt, other)) {
         (Ok(one), Ok(other)) => one.dev() == other.dev() && one.ino() == other.ino(),
@@ -87,7 +87,7 @@ fn is_one_node<R: Files>(rt: &R, one: &str, other: &str) -> bool {
     }
 }
 
-/// Whether a name is another one, or that of what a member puts beside the file of that name.
+/// Returns whether a name is another one, or that of what a member puts beside the file with that name.
 fn is_taken_by(name: &str, other: &str) -> bool {
     matches!(
         name.strip_prefix(other),
@@ -95,7 +95,7 @@ fn is_taken_by(name: &str, other: &str) -> bool {
     )
 }
 
-/// Whether two paths behind all links are of one file, or one of them of what a member puts beside the other.
+/// Returns whether two paths behind all links are of one file, or one of them is of what a member puts beside the other.
 fn is_one_target<R: Files>(rt: &R, one: &str, other: &str) -> bool {
     if is_one_node(rt, one, other) {
         return true;
@@ -105,11 +105,12 @@ fn is_one_target<R: Files>(rt: &R, one: &str, other: &str) -> bool {
         && is_one_node(rt, directory_of(one), directory_of(other))
 }
 
-/// Whether two paths name one file, by what the system says of both; or one of them names what a member puts beside the other.
+/// Returns whether two paths name one file, by what the system says of both, or one of them names what a member puts beside the
+/// other.
 ///
 /// # Errors
 ///
-/// [`AllocError`] where memory runs out.
+/// [`AllocError`] if memory runs out.
 pub fn are_one_file<R: Files + AllocGlobal>(
     rt: &R,
     one: &str,

@@ -22,7 +22,7 @@ impl Record {
         Record {}
     }
 
-    /// The same calls and one more: which it is, whether it was done, by 1, up to two texts, and the record of a new file.
+    /// Returns the same calls and one more, with its number, 1 if it was done, up to two texts, and the record of a new file.
     pub(crate) fn with(
         _before: &Record,
         _numbers: &[u64],

@@ -1,4 +1,4 @@
-//! Saving a state in a file.
+//! The saving of a state in a file.
 
 ghost use Rattle.std.specs.Prelude.{◌≡◌, ◌++◌, [], Some, length, IfOk, IfErr, OnOk};
 ghost use Rattle.am_snapshot.specs.Texts.{row_text};
@@ -12,7 +12,7 @@ use am_snapshot::{SnapshotError, save_within};
 use am_version_order::Version;
 use std::alloc::Global;
 
-/// The directory in which a file stands.
+/// Returns the directory of a file.
 pub fn directory_of(path: &str) -> &str
     ensures { IsDirectoryOf path.now result.now }
 {
@@ -23,7 +23,7 @@ pub fn directory_of(path: &str) -> &str
     }
 }
 
-/// Writes a new file that stands beside another one, hands it to the disk, and puts it in the other's place.
+/// Writes a new file beside another one, syncs it to the disk, and puts it in the other's place.
 fn replace<V: Version, D: Disk>(
     disk: &mut D,
     alloc: Global,
@@ -47,13 +47,13 @@ fn replace<V: Version, D: Disk>(
     Ok(written)
 }
 
-/// Saves a state in a file: it is written beside the file that stands, and takes its place once it is whole and on the disk;
-/// and then the directory is handed to the disk. Answers how many bytes it has, which are at most so many.
+/// Saves a state in a file: it is written beside the existing file, and takes its place once it is whole and on the disk; then
+/// the directory is synced to the disk. Returns the number of bytes written, which is at most `most`.
 ///
 /// # Errors
 ///
-/// Why it isn't saved, as a [`FileFault`]. The file that stood there stands as it was then, or the new one does where the
-/// directory alone was not handed to the disk.
+/// The reason why it isn't saved, as a [`FileFault`]. The file that was there is as it was then, or the new one is there if only
+/// the directory wasn't synced to the disk.
 pub fn save_file<V: Version, D: Disk>(
     disk: &mut D,
     alloc: Global,

@@ -1,6 +1,6 @@
-//! The file system of this machine. Its calls and their answers are noted in a record that only clauses read. What stays argued,
-//! since no proof can show it: that each method of [`SystemDisk`], and `write` of [`SystemFile`], does on this machine what it
-//! notes, and nothing else; and that the system does what it answers.
+//! The file system of this machine. Its calls and their answers are recorded in a list that only clauses read. Two things are
+//! argued and not proved, since no proof can show them: that each method of [`SystemDisk`], and `write` of [`SystemFile`], does
+//! on this machine what it records, and nothing else; and that the system does what it answers.
 
 ghost use Rattle.std.specs.Prelude.{◌≡◌, [], ◌∷◌, ◌++◌, Bool};
 ghost use Rattle.am_disk.specs.Calls.{Event, call_of, written_in};
@@ -41,7 +41,7 @@ pub struct SystemFile<F: Drop> {
 }
 
 impl<'r, R: Files> SystemDisk<'r, R> {
-    /// Nothing is called yet.
+    /// Returns a file system of which nothing has been called yet.
     pub fn new(system: &'r R) -> SystemDisk<'r, R> {
         SystemDisk {
             system,
@@ -50,7 +50,7 @@ impl<'r, R: Files> SystemDisk<'r, R> {
     }
 }
 
-/// The calls so far and one more, of up to two paths.
+/// Returns the calls so far and one more, with up to two paths.
 fn noted(log: &Record, call: u64, is_done: bool, first: &str, second: &str) -> Record
     ensures { result.events ≡ log.now.events ++ (call_of call first.now second.now [], is_done) ∷ [] }
 {
@@ -130,17 +130,17 @@ impl<R: Files> Disk for SystemDisk<'_, R> {
     }
 }
 
-/// Hands the names in a directory to the disk.
+/// Syncs the names in a directory to the disk.
 fn sync<R: Files>(system: &R, path: &str) -> io::Result<()> {
     let opened = fs::open(system, path)?;
     opened.sync_all()
 }
 
-/// Makes a file at a path at which nothing stands, with the permissions of another file, if that is there.
+/// Creates a file at a path where there is nothing, with the permissions of another file, if there is one.
 ///
 /// # Errors
 ///
-/// What the system says, as a [`FileFault`].
+/// The system's error, as a [`FileFault`].
 pub fn make_like<R: Files>(rt: &R, path: &str, other: &str) -> Result<R::File, FileFault> {
     let file = File::create_new(rt, path)?;
     if let Ok(found) = fs::metadata(rt, other) {
@@ -149,22 +149,22 @@ pub fn make_like<R: Files>(rt: &R, path: &str, other: &str) -> Result<R::File, F
     Ok(file)
 }
 
-/// Makes a file at a path, with the permissions of the file that it is to replace. Whatever stood at the path is taken away
-/// first, so that nothing is written through a link.
+/// Creates a file at a path, with the permissions of the file that it is to replace. Whatever was at the path is removed first,
+/// so that nothing is written through a link.
 ///
 /// # Errors
 ///
-/// What the system says, as a [`FileFault`].
+/// The system's error, as a [`FileFault`].
 pub fn new_file<R: Files>(rt: &R, path: &str, replaced: &str) -> Result<R::File, FileFault> {
     let _ = fs::remove_file(rt, path);
     make_like(rt, path, replaced)
 }
 
-/// Hands a directory to the disk: which files it has, and by which names.
+/// Syncs a directory to the disk: which files it has, and by which names.
 ///
 /// # Errors
 ///
-/// What the system says, as a [`FileFault`].
+/// The system's error, as a [`FileFault`].
 pub fn sync_directory<R: Files>(rt: &R, directory: &str) -> Result<(), FileFault> {
     Ok(sync(rt, directory)?)
 }

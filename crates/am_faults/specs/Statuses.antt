@@ -1,5 +1,5 @@
--- The exit status of the program where a fault stands: 1 where input is refused, 2 where the command line is, 3 where a read, a write,
--- a file or a socket failed, and 4 where memory ran out.
+-- The exit status of the program for each fault: 1 if input is refused, 2 if the command line is, 3 if a read, a write, a file or
+-- a socket failed, and 4 if memory ran out.
 use Rattle.std.specs.Prelude.{ℕ}
 use Rattle.am_disk.specs.declared.error.FileFault.{FileFault}
 use Rattle.am_disk.specs.declared.error.FileFault.TheVariants as files
@@ -19,19 +19,19 @@ use Rattle.am_snapshot.specs.declared.error.SnapshotError.TheVariants as rows
 use Rattle.am_faults.specs.declared.fault.Fault.{Fault}
 use Rattle.am_faults.specs.declared.fault.Fault.TheVariants as faults
 
--- of a row that is read or written
+-- the status for a row that is read or written
 abbrev pub row_status : SnapshotError → ℕ
 row_status (rows.Read at) = 3
 row_status (rows.Write written) = 3
 row_status rows.Memory = 4
 row_status _ = 1
 
--- of a file
+-- the status for a file
 abbrev pub file_status : FileFault → ℕ
 file_status (files.Snapshot error) = row_status error
 file_status _ = 3
 
--- of a server that is asked
+-- the status for a server that is asked
 abbrev pub server_status : ServerFault → ℕ
 server_status (servers.Connect kind) = 3
 server_status (servers.Write written) = 3
@@ -39,30 +39,30 @@ server_status (servers.Read at) = 3
 server_status servers.Memory = 4
 server_status _ = 1
 
--- of what a replica answered by gossip
+-- the status for a replica's answer by gossip
 abbrev pub answer_status : AnswerError → ℕ
 answer_status (answers.Row fault) = row_status (load_fault fault)
 answer_status answers.Memory = 4
 answer_status _ = 1
 
--- of the list that a server replied
+-- the status for the list that a server replied
 abbrev pub list_status : ListError → ℕ
 list_status lists.Memory = 4
 list_status _ = 1
 
--- of the names of members
+-- the status for the names of members
 abbrev pub names_status : ConfigError → ℕ
 names_status names.Memory = 4
 names_status _ = 2
 
--- of the file of a secret
+-- the status for the file of a secret
 abbrev pub secret_status : SecretFault → ℕ
 secret_status (secrets.File kind) = 3
 secret_status (secrets.Read at) = 3
 secret_status secrets.Memory = 4
 secret_status _ = 1
 
--- of any fault
+-- the status for any fault
 abbrev pub fault_status : Fault → ℕ
 fault_status (faults.Memory error) = 4
 fault_status (faults.Snapshot error) = row_status error

@@ -29,7 +29,7 @@ impl HasAudience for HostRuntime {
 }
 
 impl Audience {
-    /// Returns the rest of a line, which says this to a person.
+    /// Returns the rest of a line, which tells a person this sentence.
     pub fn told(self, sentence: &'static str) -> Remark {
         Remark {
             audience: self,
@@ -38,7 +38,7 @@ impl Audience {
     }
 }
 
-/// The rest of a line: a sentence behind a colon for a person, nothing for a program.
+/// The rest of a line: a sentence after a colon for a person, nothing for a program.
 #[derive(Clone, Copy)]
 pub struct Remark {
     audience: Audience,

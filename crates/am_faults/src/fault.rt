@@ -1,4 +1,4 @@
-//! What is printed of a fault.
+//! The lines that are printed of faults.
 
 ghost use Rattle.std.specs.Prelude.{◌≡◌, ◌<◌, ◌≤◌};
 ghost use Rattle.am_faults.specs.Statuses.{answer_status, fault_status, file_status, row_status, secret_status, server_status};
@@ -26,7 +26,7 @@ use std::io::ErrorKind;
 use std::net::SocketAddr;
 use thiserror::Error;
 
-/// Prints a fault of a member that runs on standard error: its words, what it means, and when it is told.
+/// Prints a fault of a running member on standard error: its words, its meaning, and its occasion.
 pub fn print<R: Eprint>(rt: &R, fault: &Fault, occasion: &Occasion<'_>) {
     let meaning = fault.meaning();
     let _ = eprintln!(rt; "am_tool: {fault}: {meaning}{occasion}");
@@ -37,7 +37,7 @@ pub fn print_count<R: Eprint>(rt: &R, count: u64, fault: &Fault, occasion: &Occa
     let _ = eprintln!(rt; "am_tool: .. and {count} more like {fault}{occasion}");
 }
 
-/// Prints a fault on standard error: its words, and to a person what it means. Gives the exit status of the program.
+/// Prints a fault on standard error: its words, and for a person its meaning. Returns the exit status of the program.
 pub fn report<R: Eprint + HasAudience>(rt: &R, fault: Fault) -> u8
     ensures status { result ≡ fault_status fault }
     ensures some { (1 ≤ result) × (result ≤ 4) }
@@ -47,7 +47,7 @@ pub fn report<R: Eprint + HasAudience>(rt: &R, fault: Fault) -> u8
     fault.status()
 }
 
-/// Prints a fault on standard error as [`report`] does, behind the name of the source that is at fault. Gives the exit status of
+/// Prints a fault on standard error as [`report`] does, after the name of the source that is at fault. Returns the exit status of
 /// the program.
 pub fn report_source<R: Eprint + HasAudience>(rt: &R, name: &str, fault: Fault) -> u8
     ensures status { result ≡ fault_status fault }
@@ -58,25 +58,25 @@ pub fn report_source<R: Eprint + HasAudience>(rt: &R, name: &str, fault: Fault) 
     fault.status()
 }
 
-/// Why a job was not done, or a part of it. It is printed as its names from outer to inner, and its numbers.
+/// The reason why a job, or a part of it, was not done. A fault is printed as its names from outer to inner, and its numbers.
 #[derive(Clone, Copy, Debug, Error)]
 pub enum Fault {
     /// Memory ran out.
     #[error("Memory")]
     Memory(#[from(alloc)] AllocError),
-    /// In a row that is loaded or folded, or in what was written of one.
+    /// A fault of a row that is loaded or folded, or of what was written of one.
     #[error("{0}")]
     Snapshot(#[from] SnapshotError),
-    /// In the file of a source.
+    /// A fault of the file of a source.
     #[error("{0}")]
     File(#[from] FileFault),
-    /// Of a source that is a server.
+    /// A fault of a source that is a server.
     #[error("{0}")]
     Server(#[from] ServerFault),
-    /// In the list that a server replied.
+    /// A fault of the list that a server replied.
     #[error("{0}")]
     List(#[from] ListError),
-    /// In what a replica answered by gossip.
+    /// A fault of a replica's answer by gossip.
     #[error(fmt = lines::write_answer_error)]
     Gossip(#[from] AnswerError),
     /// A peer is not NAME=ADDRESS:PORT.
@@ -85,16 +85,16 @@ pub enum Fault {
     /// The names of the members are at fault.
     #[error("{0}")]
     Config(#[from] ConfigError),
-    /// In the file of the silences.
+    /// A fault of the file of the silences.
     #[error("Silences {0}")]
     Silences(FileFault),
-    /// In the file of the notification log.
+    /// A fault of the file of the notification log.
     #[error("Log {0}")]
     Log(FileFault),
-    /// So many bytes at the end of the log of the silences were being written when the last process ended.
+    /// This many bytes at the end of the log of the silences were being written when the last process ended.
     #[error("Silences Torn {0}")]
     SilencesTorn(u64),
-    /// The same of the log of the notification log.
+    /// This many bytes at the end of the log of the notification log were being written when the last process ended.
     #[error("Log Torn {0}")]
     LogTorn(u64),
     /// The system refused random bytes.
@@ -109,27 +109,30 @@ pub enum Fault {
     /// The system refused a connection that came.
     #[error("Accept {0:?}")]
     Accept(ErrorKind),
-    /// In a connection.
+    /// A fault of a connection.
     #[error("{0}")]
     Connection(ConnectionFault),
-    /// At the gate of a connection.
+    /// A fault at the gate of a connection.
     #[error("{0}")]
     Gate(GateFault),
-    /// A connection gave its place to another one, after so many bytes came.
+    /// A connection gave its place to another one, after this many bytes came.
     #[error("Crowded {0}")]
     Crowded(u64),
-    /// A connection was closed since too much of what came wasn't finished, after so many bytes came.
+    /// A connection was closed since too much of what came wasn't finished, after this many bytes came.
     #[error("Unfinished {0}")]
     Unfinished(u64),
     /// The system's clock could not be read at the start.
     #[error("Clock {0:?}")]
     Clock(ErrorKind),
-    /// The system's clock is behind the moment of the last event, by so many seconds.
+    /// The system's clock is this many seconds behind the moment of the last event.
     #[error("Clock Behind {0}")]
     ClockBehind(u64),
-    /// It is no more.
+    /// The system's clock is no longer behind the moment of the last event.
     #[error("Clock CaughtUp")]
     ClockCaughtUp,
+    /// The time of a member is this many seconds ahead of what has passed, so that the member makes no Tick.
+    #[error("Clock Ahead {0}")]
+    ClockAhead(u64),
     /// No peer answered the first pull in time, so requests are answered without it.
     #[error("NoPull")]
     NoPull,
@@ -139,30 +142,33 @@ pub enum Fault {
     /// A silence isn't sent to an Alertmanager, which would refuse one of its patterns.
     #[error("Withheld Pattern {0}")]
     WithheldPattern(ShortId),
-    /// A silence isn't sent to an Alertmanager, whose matchers it wouldn't take.
+    /// A silence isn't sent to an Alertmanager, which wouldn't take its matchers.
     #[error("Withheld Matcher {0}")]
     WithheldMatcher(ShortId),
-    /// So many frames for peers found no memory.
+    /// This many matchers, receivers and moments that an Alertmanager told lost fields that aren't known here.
+    #[error("Fields Dropped {0}")]
+    FieldsDropped(u64),
+    /// There was no memory for this many frames for peers.
     #[error("Unsent Memory {0}")]
     UnsentMemory(usize),
-    /// So many frames for peers were over their limit.
+    /// This many frames for peers were over their limit.
     #[error("Unsent Limit {0}")]
     UnsentLimit(usize),
-    /// So many faults of a member were not told, since nobody read its lines.
+    /// This many faults of a member were not told, since nobody read its lines.
     #[error("Lines Lost {0}")]
     LinesLost(u64),
-    /// What was to be sent to the peer at an address is lost.
+    /// The bytes for the peer at an address are lost.
     #[error(fmt = lines::write_link_fault)]
     Lost(LinkFault, Option<SocketAddr>),
 }
 
 impl Fault {
-    /// What it means, or what is to be done, as a sentence.
+    /// Returns the meaning of the fault, or what is to be done, as a sentence.
     pub fn meaning(&self) -> &'static str {
         meaning_of(self)
     }
 
-    /// The exit status of the program, which is none of a job that is done.
+    /// Returns the exit status of the program, which is never that of a job that is done.
     pub fn status(self) -> u8
         ensures status { result ≡ fault_status self }
         ensures some { (1 ≤ result) × (result ≤ 4) }
@@ -185,11 +191,11 @@ impl Fault {
     }
 }
 
-/// How many kinds of faults a member tells apart.
-pub const KINDS: usize = 21;
+/// The number of kinds of faults that a member distinguishes.
+pub const KINDS: usize = 22;
 
 impl Fault {
-    /// Which kind of fault of a member it is, from 0 on: one for each word with which a line begins.
+    /// Returns the kind of a fault of a member, from 0 on: there is one for each word with which a line begins.
     pub fn kind(&self) -> usize
         ensures { result < KINDS }
     {
@@ -201,7 +207,7 @@ impl Fault {
             Fault::Lost(LinkFault::Connect(_), _) => 4,
             Fault::Lost(_, _) => 5,
             Fault::Connection(fault) => kind_of_connection(fault),
-            Fault::ClockBehind(_) | Fault::ClockCaughtUp => 12,
+            Fault::ClockBehind(_) | Fault::ClockCaughtUp | Fault::ClockAhead(_) => 12,
             Fault::Crowded(_) => 13,
             Fault::Unfinished(_) => 14,
             Fault::Gate(GateFault::Seal(_) | GateFault::Unsealed | GateFault::Cut) => 15,
@@ -210,12 +216,13 @@ impl Fault {
             Fault::Gossip(_) => 17,
             Fault::Unheard => 19,
             Fault::WithheldPattern(_) | Fault::WithheldMatcher(_) => 20,
+            Fault::FieldsDropped(_) => 21,
             _ => 18,
         }
     }
 }
 
-/// The kind of a fault of a connection.
+/// Returns the kind of a fault of a connection.
 fn kind_of_connection(fault: &ConnectionFault) -> usize
     ensures { result < KINDS }
 {
@@ -229,7 +236,7 @@ fn kind_of_connection(fault: &ConnectionFault) -> usize
     }
 }
 
-/// The exit status where a row is at fault.
+/// Returns the exit status for a fault of a row.
 fn status_of_snapshot(error: SnapshotError) -> u8
     ensures status { result ≡ row_status error }
     ensures some { (1 ≤ result) × (result ≤ 4) }
@@ -243,7 +250,7 @@ fn status_of_snapshot(error: SnapshotError) -> u8
     }
 }
 
-/// The exit status where a file is at fault.
+/// Returns the exit status for a fault of a file.
 fn status_of_file(fault: FileFault) -> u8
     ensures status { result ≡ file_status fault }
     ensures some { (1 ≤ result) × (result ≤ 4) }
@@ -254,7 +261,7 @@ fn status_of_file(fault: FileFault) -> u8
     }
 }
 
-/// The exit status where a server is at fault.
+/// Returns the exit status for a fault of a server.
 fn status_of_server(fault: ServerFault) -> u8
     ensures status { result ≡ server_status fault }
     ensures some { (1 ≤ result) × (result ≤ 4) }
@@ -268,7 +275,7 @@ fn status_of_server(fault: ServerFault) -> u8
     }
 }
 
-/// The exit status where what a replica answered is at fault.
+/// Returns the exit status for a fault of a replica's answer.
 fn status_of_answer(error: AnswerError) -> u8
     ensures status { result ≡ answer_status error }
     ensures some { (1 ≤ result) × (result ≤ 4) }
@@ -280,7 +287,7 @@ fn status_of_answer(error: AnswerError) -> u8
     }
 }
 
-/// The exit status where a secret is at fault.
+/// Returns the exit status for a fault of a secret.
 fn status_of_secret(fault: SecretFault) -> u8
     ensures status { result ≡ secret_status fault }
     ensures some { (1 ≤ result) × (result ≤ 4) }

@@ -1,11 +1,11 @@
-//! When a fault of a member that runs is told, and of which peer.
+//! The occasion of a fault of a running member: when it is told, and of which peer.
 
 use am_report::Word;
 use am_silence_json::moments::write_moment;
 use am_version_order::Moment;
 use std::fmt;
 
-/// When a fault is told, and the peer that it is about, where these are known.
+/// The moment when a fault is told, and the peer that it is about, if these are known.
 #[derive(Clone, Copy)]
 pub struct Occasion<'a> {
     /// The peer's name.
@@ -14,7 +14,7 @@ pub struct Occasion<'a> {
     pub moment: Option<Moment>,
 }
 
-/// How many bytes a moment's text has before the fraction of its second.
+/// The number of bytes of a moment's text before the fraction of its second.
 const TO_SECOND: usize = 19;
 
 /// Writes a moment to the second, as RFC 3339 has it.
@@ -24,7 +24,7 @@ fn write_second<W: fmt::Write>(moment: Moment, f: &mut fmt::Formatter<W>) -> fmt
     f.write_str("Z")
 }
 
-/// It is printed in parentheses, behind a blank; as nothing where nothing is known.
+/// An occasion is printed in parentheses, after a blank, or as nothing if nothing is known.
 impl fmt::Display for Occasion<'_> {
     fn fmt<W: fmt::Write>(&self, f: &mut fmt::Formatter<W>) -> fmt::Result {
         match (self.peer, self.moment) {

@@ -3,7 +3,7 @@
 use am_report::Word;
 use std::fmt::{self, Display, Formatter};
 
-/// How many bytes of an identifier a line prints: all of those that Alertmanagers and members make.
+/// The most bytes of an identifier that a line prints: all those of the identifiers that Alertmanagers and members make.
 const MOST: usize = 36;
 
 /// An identifier of a silence as a line prints it: its first 36 bytes.
@@ -14,7 +14,7 @@ pub struct ShortId {
 }
 
 impl ShortId {
-    /// The identifier of these bytes.
+    /// Returns the identifier of these bytes.
     pub fn of(id: &[u8]) -> ShortId {
         let mut bytes = [0; MOST];
         let count = id.len().min(MOST);

@@ -1,19 +1,19 @@
 //! The exit statuses of the program.
 
-/// The job is done, or help was asked for.
+/// The status of a job that is done, or if help was asked for.
 pub const DONE: u8 = 0;
 
-/// The input is refused.
+/// The status if the input is refused.
 pub const REFUSED: u8 = 1;
 
-/// The command line is refused.
+/// The status if the command line is refused.
 pub const WORDS: u8 = 2;
 
-/// A read or a write failed.
+/// The status if a read or a write failed.
 pub const OUTSIDE: u8 = 3;
 
-/// Memory ran out.
+/// The status if memory ran out.
 pub const MEMORY: u8 = 4;
 
-/// Sources are different.
+/// The status if sources are different.
 pub const DIFFERENT: u8 = 5;

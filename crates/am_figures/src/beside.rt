@@ -1,24 +1,24 @@
-//! What comes of the Alertmanagers beside a member.
+//! The figures of the Alertmanagers beside a member.
 
 use crate::counters::Counters;
 use crate::words::{WITHHELD, WithheldBy};
 use std::alloc::{AllocError, Global};
 
-/// What comes of the Alertmanagers beside a member, by their places among the members.
+/// The figures of the Alertmanagers beside a member, by their places among the members.
 #[derive(Drop)]
 pub struct Beside {
-    /// How many versions each lacked at the last exchange.
+    /// The number of versions that each lacked at the last exchange.
     pub lacked: Counters,
-    /// How often a silence was withheld from it, by cause.
+    /// The number of times a silence was withheld from each, by cause.
     withheld: Counters,
 }
 
 impl Beside {
-    /// Nothing came, of so many members.
+    /// Creates the figures of `members` members, all at 0.
     ///
     /// # Errors
     ///
-    /// [`AllocError`] where memory ran out.
+    /// Returns [`AllocError`] if memory runs out.
     pub fn new(alloc: Global, members: usize) -> Result<Beside, AllocError> {
         let causes = members.saturating_mul(WITHHELD.len());
         Ok(Beside {
@@ -27,19 +27,19 @@ impl Beside {
         })
     }
 
-    /// The one at a place lacked so many versions at an exchange.
+    /// Notes the number of versions that the Alertmanager at a place lacked at an exchange.
     pub fn lack(&mut self, place: usize, count: u64) {
         let _ = self.lacked.clear(place);
         self.lacked.add(place, count);
     }
 
-    /// A silence was withheld from the one at a place.
+    /// Counts a silence withheld from the Alertmanager at a place.
     pub fn withhold(&mut self, place: usize, cause: WithheldBy) {
         let first = place.saturating_mul(WITHHELD.len());
         self.withheld.add(first.saturating_add(cause as usize), 1);
     }
 
-    /// How often a silence was withheld from the one at a place.
+    /// Returns the number of times a silence was withheld from the Alertmanager at a place.
     pub fn all_withheld(&self, place: usize) -> u64 {
         let mut count: u64 = 0;
         for cause in 0..WITHHELD.len() {
@@ -48,7 +48,7 @@ impl Beside {
         count
     }
 
-    /// How often a silence was withheld from the one at a place, by a cause.
+    /// Returns the number of times a silence was withheld from the Alertmanager at a place, for one cause.
     pub fn withheld(&self, place: usize, cause: usize) -> u64 {
         let first = place.saturating_mul(WITHHELD.len());
         self.withheld.get(first.saturating_add(cause))

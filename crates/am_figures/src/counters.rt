@@ -9,11 +9,11 @@ pub struct Counters {
 }
 
 impl Counters {
-    /// All at 0.
+    /// Creates counters that are all at 0.
     ///
     /// # Errors
     ///
-    /// [`AllocError`] where memory ran out.
+    /// Returns [`AllocError`] if memory runs out.
     pub fn new(alloc: Global, count: usize) -> Result<Counters, AllocError> {
         let mut counts = Vec::with_capacity(alloc, count)?;
         for _ in 0..count {
@@ -22,20 +22,19 @@ impl Counters {
         Ok(Counters { counts })
     }
 
-    /// The thing at this place came so many times more. What is past the greatest number isn't counted, and a place that there
-    /// isn't has no counter.
+    /// Adds to the counter at a place. It stops at the greatest number, and a place without a counter is ignored.
     pub fn add(&mut self, place: usize, more: u64) {
         if let Some(count) = self.counts.get_mut(place) {
             *count = count.saturating_add(more);
         }
     }
 
-    /// How many times the thing at this place came.
+    /// Returns the counter at a place, or 0 if there is none.
     pub fn get(&self, place: usize) -> u64 {
         self.counts.get(place).copied().unwrap_or(0)
     }
 
-    /// The thing at this place came no time so far; answers how many times it had come.
+    /// Resets the counter at a place to 0 and returns its last value.
     pub fn clear(&mut self, place: usize) -> u64 {
         match self.counts.get_mut(place) {
             Some(count) => std::mem::replace(count, 0),

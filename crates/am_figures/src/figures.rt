@@ -1,4 +1,4 @@
-//! What a member counts.
+//! The counts of a member.
 
 use crate::beside::Beside;
 use crate::counters::Counters;
@@ -12,9 +12,9 @@ use crate::words::{
 use std::alloc::{AllocError, Global};
 use std::time::{Duration, Instant};
 
-/// What a member counts.
+/// The counts of a member.
 pub struct Figures {
-    /// When it was started, as the time since 1970.
+    /// The moment when the member was started, as the time since 1970.
     pub start: Duration,
     requests: Counters,
     pub times: Times,
@@ -25,21 +25,21 @@ pub struct Figures {
     pub taken: Counters,
     pub heard: Heard,
     pub beside: Beside,
-    /// How many frames were lost before a link took them, for want of memory and by the limit of a frame.
+    /// The numbers of frames lost before a link took them, for want of memory and by the limit of a frame.
     pub unsent_memory: u64,
     pub unsent_limit: u64,
-    /// How many connections began, and how many ended.
+    /// The numbers of connections that began and that ended.
     pub begun: u64,
     pub ended: u64,
     pub failings: Counters,
-    /// How many connections weren't accepted.
+    /// The number of connections that weren't accepted.
     pub not_accepted: u64,
     /// The saves of the silences and of the log.
     pub silences: Save,
     pub log: Save,
 }
 
-// (so that crates above cite one drop, and don't prove those of all that is inside)
+// Crates that use the figures cite this one drop, and need not prove those of their parts.
 impl Drop for Figures {
     fn drop(self) {
         let Figures {
@@ -65,11 +65,11 @@ impl Drop for Figures {
 }
 
 impl Figures {
-    /// Nothing so far, of so many members.
+    /// Creates the figures of a member of `members`, all at 0.
     ///
     /// # Errors
     ///
-    /// [`AllocError`] where memory ran out.
+    /// Returns [`AllocError`] if memory runs out.
     pub fn new(alloc: Global, members: usize, start: Duration) -> Result<Figures, AllocError> {
         Ok(Figures {
             start,
@@ -92,7 +92,7 @@ impl Figures {
         })
     }
 
-    /// A request was answered with a status, which stands in three digits, after so long.
+    /// Counts a request that was answered with a status, in three digits, and the time that it took.
     pub fn answer(&mut self, request: Request, status: &[u8], time: Duration) {
         let place = request as usize;
         let first = place.saturating_mul(STATUSES.len());
@@ -101,48 +101,48 @@ impl Figures {
         self.times.add(place, time);
     }
 
-    /// How many requests were answered with a status.
+    /// Returns the number of requests that were answered with a status.
     pub fn answered(&self, request: usize, status: usize) -> u64 {
         let first = request.saturating_mul(STATUSES.len());
         self.requests.get(first.saturating_add(status))
     }
 
-    /// Steps were made.
+    /// Counts steps.
     pub fn step(&mut self, step: Step, count: u64) {
         self.steps.add(step as usize, count);
     }
 
-    /// A frame was handed to a link.
+    /// Counts a frame handed to a link.
     pub fn send(&mut self, kind: Kind) {
         self.sent.add(kind as usize, 1);
     }
 
-    /// A frame came.
+    /// Counts a frame that came.
     pub fn take(&mut self, kind: Kind) {
         self.taken.add(kind as usize, 1);
     }
 
-    /// A connection is closed before its end.
+    /// Counts a connection closed before its end.
     pub fn fail(&mut self, failing: Failing) {
         self.failings.add(failing as usize, 1);
     }
 
-    /// A connection began.
+    /// Counts a connection that began.
     pub fn begin(&mut self) {
         self.begun = self.begun.saturating_add(1);
     }
 
-    /// A connection ended.
+    /// Counts a connection that ended.
     pub fn end(&mut self) {
         self.ended = self.ended.saturating_add(1);
     }
 
-    /// A connection wasn't accepted.
+    /// Counts a connection that wasn't accepted.
     pub fn miss(&mut self) {
         self.not_accepted = self.not_accepted.saturating_add(1);
     }
 
-    /// A save begins, of the silences or of the log.
+    /// Notes the beginning of a save, of the silences or of the log.
     pub fn begin_save(&mut self, of_silences: bool, now: Option<Instant>) {
         if of_silences {
             self.silences.begin(now);
@@ -151,7 +151,7 @@ impl Figures {
         }
     }
 
-    /// It is done.
+    /// Notes the end of a save, of the silences or of the log.
     pub fn end_save(&mut self, of_silences: bool, now: Option<Instant>, since_1970: Duration) {
         if of_silences {
             self.silences.end(now, since_1970);
@@ -160,7 +160,7 @@ impl Figures {
         }
     }
 
-    /// It failed.
+    /// Counts a failed save, of the silences or of the log.
     pub fn fail_save(&mut self, of_silences: bool) {
         if of_silences {
             self.silences.fail();
@@ -169,7 +169,7 @@ impl Figures {
         }
     }
 
-    /// Frames were lost before a link took them.
+    /// Counts frames that were lost before a link took them.
     pub fn unsent(&mut self, memory: usize, limit: usize) {
         self.unsent_memory = self.unsent_memory.saturating_add(memory as u64);
         self.unsent_limit = self.unsent_limit.saturating_add(limit as u64);

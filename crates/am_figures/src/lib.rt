@@ -1,4 +1,4 @@
-//! What a member counts while it runs, and how that is told.
+//! The counts of a member while it runs, and their figures.
 #![tactic(auto)]
 
 mod beside;

@@ -1,4 +1,4 @@
-//! What goes to peers, and what comes of them.
+//! The counts of what is sent to peers and of what comes from them.
 
 use crate::counters::Counters;
 use crate::words::{CAUSES, Cause};
@@ -12,25 +12,25 @@ pub struct PeerName<'a> {
     pub name: &'a str,
 }
 
-/// What goes to the members, and what comes of them, by place.
+/// The counts of what is sent to the members and of what comes from them, by place.
 #[derive(Drop)]
 pub struct Heard {
-    /// How many frames were handed to links.
+    /// The number of frames handed to links.
     pub sent: Counters,
-    /// How many of them are not known to have gone out.
+    /// The number of those that are not known to have gone out.
     flying: Counters,
-    /// How many were handed on last.
+    /// The number that was handed on last.
     latest: Counters,
-    /// How many were lost, by cause.
+    /// The number of lost frames, by cause.
     lost: Counters,
-    /// How many frames came.
+    /// The number of frames that came.
     pub taken: Counters,
-    /// When something was taken last, in nanoseconds since 1970; 0 where nothing was.
+    /// The moment when something was last taken, in nanoseconds since 1970; 0 if nothing was.
     last: Counters,
 }
 
 impl Heard {
-    /// Nothing went, and nothing came, of so many members.
+    /// Creates the counts of `members` members, all at 0.
     pub fn new(alloc: Global, members: usize) -> Result<Heard, AllocError> {
         let causes = members.saturating_mul(CAUSES.len());
         Ok(Heard {
@@ -43,7 +43,7 @@ impl Heard {
         })
     }
 
-    /// So many frames were handed to the link of a member.
+    /// Counts frames handed to the link of a member.
     pub fn hand_on(&mut self, place: usize, count: u64) {
         self.sent.add(place, count);
         self.flying.add(place, count);
@@ -51,12 +51,12 @@ impl Heard {
         self.latest.add(place, count);
     }
 
-    /// All that was handed to the link of a member went out.
+    /// Notes that all frames handed to the link of a member went out.
     pub fn all_out(&mut self, place: usize) {
         let _ = self.flying.clear(place);
     }
 
-    /// What waited for a member is lost. Where a link takes no more, that is what was handed on last.
+    /// Counts the frames that waited for a member as lost. If a link takes no more, these are the ones handed on last.
     pub fn lose(&mut self, place: usize, cause: Cause) {
         let flying = self.flying.clear(place);
         let latest = self.latest.get(place).min(flying);
@@ -69,31 +69,31 @@ impl Heard {
         self.add_lost(place, cause, lost);
     }
 
-    /// So many frames for a member are lost.
+    /// Counts lost frames for a member.
     pub fn add_lost(&mut self, place: usize, cause: Cause, count: u64) {
         let first = place.saturating_mul(CAUSES.len());
         self.lost.add(first.saturating_add(cause as usize), count);
     }
 
-    /// How many frames for a member are lost by a cause.
+    /// Returns the number of frames for a member that were lost by a cause.
     pub fn lost(&self, place: usize, cause: usize) -> u64 {
         let first = place.saturating_mul(CAUSES.len());
         self.lost.get(first.saturating_add(cause))
     }
 
-    /// So many frames of a member came.
+    /// Counts frames from a member.
     pub fn take(&mut self, place: usize, count: u64) {
         self.taken.add(place, count);
     }
 
-    /// Something of a member was taken now: a frame, or all that it answered.
+    /// Notes that something from a member was taken now: a frame, or a whole answer.
     pub fn hear(&mut self, place: usize, since_1970: Duration) {
         let nanos = u64::try_from(since_1970.as_nanos()).unwrap_or(u64::MAX);
         let _ = self.last.clear(place);
         self.last.add(place, nanos);
     }
 
-    /// When something of a member was taken last, in nanoseconds since 1970; 0 where nothing was.
+    /// Returns the moment when something from a member was last taken, in nanoseconds since 1970, or 0 if nothing was.
     pub fn last(&self, place: usize) -> u64 {
         self.last.get(place)
     }

@@ -1,24 +1,24 @@
-//! How the saves of a state go.
+//! The counts of a state's saves.
 
 use std::time::{Duration, Instant};
 
-/// How the saves of a state go.
+/// The counts of a state's saves.
 #[derive(Clone, Copy)]
 pub struct Save {
-    /// Since when one is made, where it is.
+    /// The beginning of the save under way, if there is one.
     begun: Option<Instant>,
-    /// When the last one was done, as the time since 1970; 0 before the first.
+    /// The moment when the last save was done, as the time since 1970; 0 before the first.
     pub done: Duration,
-    /// How long that one took.
+    /// The time that the last save took.
     pub took: Duration,
-    /// How many were done.
+    /// The number of saves that were done.
     pub count: u64,
-    /// How many failed.
+    /// The number of saves that failed.
     pub failed: u64,
 }
 
 impl Save {
-    /// None was made.
+    /// Returns the counts before the first save.
     pub fn none() -> Save {
         Save {
             begun: None,
@@ -29,12 +29,12 @@ impl Save {
         }
     }
 
-    /// One begins.
+    /// Notes the beginning of a save.
     pub fn begin(&mut self, now: Option<Instant>) {
         self.begun = now;
     }
 
-    /// It is done.
+    /// Notes the end of a save.
     pub fn end(&mut self, now: Option<Instant>, since_1970: Duration) {
         if let (Some(begun), Some(now)) = (self.begun, now) {
             self.took = now.saturating_duration_since(begun);
@@ -44,7 +44,7 @@ impl Save {
         self.count = self.count.saturating_add(1);
     }
 
-    /// It failed.
+    /// Counts a failed save.
     pub fn fail(&mut self) {
         self.begun = None;
         self.failed = self.failed.saturating_add(1);

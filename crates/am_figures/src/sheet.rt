@@ -1,4 +1,4 @@
-//! Families of figures, as they are made.
+//! Families of figures in the making.
 
 use crate::counters::Counters;
 use crate::peers::PeerName;
@@ -7,36 +7,36 @@ use am_wire::Text;
 use std::alloc::{AllocError, Global};
 use std::time::Duration;
 
-/// What is told of a member beside what it counts.
+/// The facts about a member that are shown beside its counts.
 #[derive(Drop)]
 pub struct Shown<'a> {
     /// The version of the program.
     pub version: &'a str,
-    /// How many members there are, itself too.
+    /// The number of members, including this one.
     pub members: u64,
-    /// The other ones.
+    /// The other members.
     pub peers: Vec<PeerName<'a>>,
-    /// The Alertmanagers beside it.
+    /// The Alertmanagers beside the member.
     pub beside: Vec<PeerName<'a>>,
-    /// How many silences are pending, active and expired.
+    /// The numbers of pending, active and expired silences.
     pub silences: [u64; 3],
-    /// How many entries the log holds.
+    /// The number of entries in the log.
     pub entries: u64,
-    /// How many requests wait for the member's turn.
+    /// The number of requests that wait for the member's turn.
     pub waiting: u64,
-    /// How far the clock is behind the moment of the last event.
+    /// The time by which the clock is behind the moment of the last event.
     pub behind: Duration,
-    /// It answers requests.
+    /// True if the member answers requests.
     pub is_ready: bool,
-    /// The processor time that it took, in hundredths of a second.
+    /// The processor time taken by the member, in hundredths of a second.
     pub ticks: u64,
-    /// How many bytes of it are in memory.
+    /// The number of bytes that the member has in memory.
     pub resident: u64,
-    /// How many files and sockets it has open.
+    /// The number of files and sockets that the member has open.
     pub files: u64,
 }
 
-/// So many seconds.
+/// Converts a time into a number of seconds.
 pub fn seconds(time: Duration) -> Number {
     Number::Nanos {
         whole: time.as_secs(),
@@ -44,7 +44,7 @@ pub fn seconds(time: Duration) -> Number {
     }
 }
 
-/// So many seconds, of nanoseconds.
+/// Converts nanoseconds into a number of seconds.
 pub fn seconds_of(nanos: u64) -> Number {
     Number::Nanos {
         whole: nanos / 1_000_000_000,
@@ -52,7 +52,7 @@ pub fn seconds_of(nanos: u64) -> Number {
     }
 }
 
-/// The labels of a figure, by their names.
+/// Returns the labels of a figure from their names and values.
 fn labels_of(alloc: Global, words: &[(&'static str, &str)]) -> Result<Vec<Label>, AllocError> {
     let mut labels = Vec::with_capacity(alloc, words.len())?;
     for (name, word) in words {
@@ -96,7 +96,7 @@ pub fn add_family(
     Ok(())
 }
 
-/// A figure that has no label.
+/// A figure with no label.
 #[derive(Clone, Copy)]
 pub struct Figure {
     pub name: &'static str,
@@ -105,7 +105,7 @@ pub struct Figure {
     pub number: Number,
 }
 
-/// Adds the families of figures that have no label.
+/// Adds the families of figures with no label.
 pub fn add_singles(
     alloc: Global,
     out: &mut Vec<Family>,
@@ -119,7 +119,7 @@ pub fn add_singles(
     Ok(())
 }
 
-/// The counters of a label's words.
+/// Returns the counters as figures, labelled by words.
 pub fn by_word(
     alloc: Global,
     label: &'static str,
@@ -134,7 +134,7 @@ pub fn by_word(
     Ok(samples)
 }
 
-/// The numbers of a label's words.
+/// Returns the numbers as figures, labelled by words.
 pub fn of_words(
     alloc: Global,
     label: &'static str,
@@ -148,7 +148,7 @@ pub fn of_words(
     Ok(samples)
 }
 
-/// The counters of those who stand under a label.
+/// Returns the counters as figures, labelled by peers.
 pub fn by_peer(
     alloc: Global,
     label: &'static str,

@@ -1,4 +1,4 @@
-//! All that is told of a member in figures.
+//! All figures of a member.
 
 use crate::beside::Beside;
 use crate::counters::Counters;
@@ -19,10 +19,10 @@ use std::alloc::{AllocError, Global};
 /// The states of silences.
 const SILENCES: [&str; 3] = ["pending", "active", "expired"];
 
-/// Why frames are lost before a link takes them.
+/// The reasons for losing frames before a link takes them.
 const UNSENT: [&str; 2] = ["memory", "limit"];
 
-/// Adds of what the program was built.
+/// Adds the figure of the program's build.
 fn add_build(alloc: Global, out: &mut Vec<Family>, version: &str) -> Result<(), AllocError> {
     let mut samples = Vec::with_capacity(alloc, 1)?;
     let words = [("version", version)];
@@ -36,7 +36,7 @@ fn add_build(alloc: Global, out: &mut Vec<Family>, version: &str) -> Result<(), 
     )
 }
 
-/// Adds how many silences are in each state.
+/// Adds the number of silences in each state.
 fn add_silences(alloc: Global, out: &mut Vec<Family>, counts: [u64; 3]) -> Result<(), AllocError> {
     let [pending, active, expired] = counts;
     let numbers = [
@@ -53,7 +53,7 @@ fn add_silences(alloc: Global, out: &mut Vec<Family>, counts: [u64; 3]) -> Resul
     )
 }
 
-/// What it holds.
+/// Adds the figures of what the member holds.
 fn add_held(alloc: Global, out: &mut Vec<Family>, shown: &Shown<'_>) -> Result<(), AllocError> {
     add_build(alloc, out, shown.version)?;
     add_silences(alloc, out, shown.silences)?;
@@ -93,7 +93,7 @@ fn add_counter(
     add_family(out, name, help, Kind::Counter, samples)
 }
 
-/// What it did.
+/// Adds the figures of what the member did.
 fn add_done(
     alloc: Global,
     out: &mut Vec<Family>,
@@ -114,7 +114,7 @@ fn add_done(
     )
 }
 
-/// Adds how many requests of one call were answered, by status.
+/// Adds the number of answered requests of one call, by status.
 fn add_answered(
     alloc: Global,
     out: &mut Vec<Sample>,
@@ -130,7 +130,7 @@ fn add_answered(
     Ok(())
 }
 
-/// Requests by what they asked for and by status.
+/// Returns the figures of requests, by call and by status.
 fn answered(alloc: Global, figures: &Figures) -> Result<Vec<Sample>, AllocError> {
     let mut samples = Vec::with_capacity(alloc, REQUESTS.len() * STATUSES.len())?;
     for (place, request) in REQUESTS.iter().enumerate() {
@@ -139,7 +139,7 @@ fn answered(alloc: Global, figures: &Figures) -> Result<Vec<Sample>, AllocError>
     Ok(samples)
 }
 
-/// Adds how long the requests of one call took.
+/// Adds the durations of the requests of one call.
 fn add_times(
     alloc: Global,
     out: &mut Vec<Sample>,
@@ -158,7 +158,7 @@ fn add_times(
     add_sample(alloc, out, "_count", &words, Number::Whole(count))
 }
 
-/// How long requests took.
+/// Returns the figures of the durations of requests.
 fn durations(alloc: Global, times: &Times) -> Result<Vec<Sample>, AllocError> {
     let mut samples = Vec::new(alloc);
     for (place, request) in REQUESTS.iter().enumerate() {
@@ -167,7 +167,7 @@ fn durations(alloc: Global, times: &Times) -> Result<Vec<Sample>, AllocError> {
     Ok(samples)
 }
 
-/// What came by HTTP, and its connections.
+/// Adds the figures of requests over HTTP and of their connections.
 fn add_requests(
     alloc: Global,
     out: &mut Vec<Family>,
@@ -199,7 +199,7 @@ fn add_requests(
     )
 }
 
-/// Its connections.
+/// Adds the figures of connections.
 fn add_connections(
     alloc: Global,
     out: &mut Vec<Family>,
@@ -241,7 +241,7 @@ fn add_connections(
     )
 }
 
-/// Adds the frames for a peer that were lost, by cause.
+/// Adds the number of lost frames for a peer, by cause.
 fn add_lost(
     alloc: Global,
     out: &mut Vec<Sample>,
@@ -256,7 +256,7 @@ fn add_lost(
     Ok(())
 }
 
-/// Frames that were lost, by peer and cause.
+/// Returns the figures of lost frames, by peer and cause.
 fn lost(alloc: Global, peers: &[PeerName<'_>], heard: &Heard) -> Result<Vec<Sample>, AllocError> {
     let mut samples = Vec::new(alloc);
     for peer in peers {
@@ -265,7 +265,7 @@ fn lost(alloc: Global, peers: &[PeerName<'_>], heard: &Heard) -> Result<Vec<Samp
     Ok(samples)
 }
 
-/// When something of each of those was taken last who stand under a label.
+/// Returns the moments when something was last taken from each peer, as figures labelled by peers.
 fn last_heard(
     alloc: Global,
     label: &'static str,
@@ -280,7 +280,7 @@ fn last_heard(
     Ok(samples)
 }
 
-/// Adds how often silences were withheld from an Alertmanager, by cause.
+/// Adds the number of silences withheld from an Alertmanager, by cause.
 fn add_withheld(
     alloc: Global,
     out: &mut Vec<Sample>,
@@ -295,7 +295,7 @@ fn add_withheld(
     Ok(())
 }
 
-/// How often silences were withheld, by Alertmanager and cause.
+/// Returns the figures of withheld silences, by Alertmanager and cause.
 fn withheld(
     alloc: Global,
     all: &[PeerName<'_>],
@@ -308,7 +308,7 @@ fn withheld(
     Ok(samples)
 }
 
-/// What goes to the members, and comes of them.
+/// Adds the figures of what is sent to the members and of what comes from them.
 fn add_cluster(
     alloc: Global,
     out: &mut Vec<Family>,
@@ -349,7 +349,7 @@ fn add_cluster(
     )
 }
 
-/// What goes to each peer, and comes of it.
+/// Adds the figures of what is sent to each peer and of what comes from it.
 fn add_peers(
     alloc: Global,
     out: &mut Vec<Family>,
@@ -383,7 +383,7 @@ fn add_peers(
     )
 }
 
-/// What goes to each Alertmanager beside it, and comes of it.
+/// Returns the figures of what is sent to each Alertmanager beside the member and of what comes from it.
 fn add_beside(
     alloc: Global,
     out: &mut Vec<Family>,
@@ -418,11 +418,11 @@ struct SaveFigure {
     name: &'static str,
     help: &'static str,
     kind: Kind,
-    /// Of the silences and of the log.
+    /// The numbers for the silences and for the log.
     numbers: [Number; 2],
 }
 
-/// How the saves go.
+/// Returns the figures of the saves.
 fn save_figures(silences: &Save, log: &Save) -> [SaveFigure; 4] {
     [
         SaveFigure {
@@ -452,7 +452,7 @@ fn save_figures(silences: &Save, log: &Save) -> [SaveFigure; 4] {
     ]
 }
 
-/// Adds how the saves go.
+/// Adds the figures of the saves.
 fn add_saves(
     alloc: Global,
     out: &mut Vec<Family>,
@@ -466,7 +466,7 @@ fn add_saves(
     Ok(())
 }
 
-/// What the process takes.
+/// Adds the figures of the process.
 fn add_process(
     alloc: Global,
     out: &mut Vec<Family>,
@@ -508,7 +508,7 @@ fn add_process(
     )
 }
 
-/// Adds all that is told of a member.
+/// Adds all figures of a member.
 fn add_all(
     alloc: Global,
     out: &mut Vec<Family>,
@@ -526,11 +526,11 @@ fn add_all(
     add_process(alloc, out, figures, shown)
 }
 
-/// All that is told of a member in figures.
+/// Returns all figures of a member.
 ///
 /// # Errors
 ///
-/// [`AllocError`] where memory ran out.
+/// Returns [`AllocError`] if memory runs out.
 pub fn families(
     alloc: Global,
     figures: &Figures,

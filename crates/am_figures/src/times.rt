@@ -1,28 +1,28 @@
-//! How long requests took.
+//! The durations of requests.
 
 use crate::counters::Counters;
 use crate::words::REQUESTS;
 use std::alloc::{AllocError, Global};
 use std::time::Duration;
 
-/// The bounds of the buckets, in milliseconds. The last one has none.
+/// The bounds of the buckets, in milliseconds. The last bucket has none.
 const BOUNDS: [u64; 9] = [1, 5, 25, 100, 250, 500, 1_000, 2_500, 5_000];
 
-/// The bounds in seconds, as they are told.
+/// The bounds in seconds, as they are written.
 pub const BOUND_WORDS: [&str; 10] = [
     "0.001", "0.005", "0.025", "0.1", "0.25", "0.5", "1", "2.5", "5", "+Inf",
 ];
 
-/// How long requests took, by what they asked for.
+/// The durations of requests, by call.
 #[derive(Drop)]
 pub struct Times {
-    /// How many took so long that no smaller bound holds.
+    /// The number of requests in each bucket, which is that of the smallest bound that holds.
     buckets: Counters,
-    /// How many nanoseconds they took together.
+    /// The total duration in nanoseconds.
     sums: Counters,
 }
 
-/// The place of the bucket of a time.
+/// Returns the place of the bucket for a duration.
 fn bucket_of(time: Duration) -> usize {
     for (place, bound) in BOUNDS.iter().enumerate() {
         if time <= Duration::from_millis(*bound) {
@@ -33,7 +33,7 @@ fn bucket_of(time: Duration) -> usize {
 }
 
 impl Times {
-    /// No request came.
+    /// Creates the durations of no requests.
     pub fn new(alloc: Global) -> Result<Times, AllocError> {
         Ok(Times {
             buckets: Counters::new(alloc, REQUESTS.len() * BOUND_WORDS.len())?,
@@ -41,7 +41,7 @@ impl Times {
         })
     }
 
-    /// A request took so long.
+    /// Adds the duration of a request.
     pub fn add(&mut self, request: usize, time: Duration) {
         let first = request.saturating_mul(BOUND_WORDS.len());
         self.buckets.add(first.saturating_add(bucket_of(time)), 1);
@@ -49,13 +49,13 @@ impl Times {
         self.sums.add(request, nanos);
     }
 
-    /// How many requests fell into a bucket alone.
+    /// Returns the number of requests in a bucket alone.
     pub fn bucket(&self, request: usize, bucket: usize) -> u64 {
         let first = request.saturating_mul(BOUND_WORDS.len());
         self.buckets.get(first.saturating_add(bucket))
     }
 
-    /// How many nanoseconds they took together.
+    /// Returns the total duration of the requests of a call, in nanoseconds.
     pub fn sum(&self, request: usize) -> u64 {
         self.sums.get(request)
     }

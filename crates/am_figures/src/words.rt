@@ -1,6 +1,6 @@
-//! The words that labels may have: none comes from who asks.
+//! The words that labels may have. None comes from a client.
 
-/// What a request asks for.
+/// The call of a request.
 #[derive(Clone, Copy)]
 pub enum Request {
     List,
@@ -16,11 +16,11 @@ pub enum Request {
     Status,
     Receivers,
     Metrics,
-    /// None of these.
+    /// The request is for none of these.
     Other,
 }
 
-/// Their words, in that order.
+/// The words for requests, in the order of [`Request`].
 pub const REQUESTS: [&str; 14] = [
     "list",
     "get",
@@ -43,7 +43,7 @@ pub const STATUSES: [&str; 11] = [
     "200", "400", "403", "404", "405", "413", "431", "500", "501", "503", "other",
 ];
 
-/// The place of a status among them.
+/// Returns the place of a status in [`STATUSES`], or that of `other`.
 pub fn status_place(status: &[u8]) -> usize {
     for (place, word) in STATUSES.iter().enumerate() {
         if word.as_bytes() == status {
@@ -53,7 +53,7 @@ pub fn status_place(status: &[u8]) -> usize {
     10
 }
 
-/// What makes a step of the instance.
+/// The cause of a step of the instance.
 #[derive(Clone, Copy)]
 pub enum Step {
     List,
@@ -68,12 +68,12 @@ pub enum Step {
     Tick,
 }
 
-/// Their words, in that order.
+/// The words for steps, in the order of [`Step`].
 pub const STEPS: [&str; 10] = [
     "list", "get", "post", "delete", "mutes", "decide", "notified", "delta", "state", "tick",
 ];
 
-/// What a frame is to Alertmanager: news of one thing, or all that is held; or a Tick, which it hasn't.
+/// The kind of a frame in Alertmanager's terms: news of one thing, or all that is held; or a Tick, which Alertmanager doesn't have.
 #[derive(Clone, Copy)]
 pub enum Kind {
     Update,
@@ -81,10 +81,10 @@ pub enum Kind {
     Tick,
 }
 
-/// Their words, in that order.
+/// The words for kinds, in the order of [`Kind`].
 pub const KINDS: [&str; 3] = ["update", "full_state", "tick"];
 
-/// Why frames for a peer are lost.
+/// The cause of losing frames for a peer.
 #[derive(Clone, Copy)]
 pub enum Cause {
     Connect,
@@ -94,20 +94,20 @@ pub enum Cause {
     Memory,
 }
 
-/// Their words, in that order.
+/// The words for causes, in the order of [`Cause`].
 pub const CAUSES: [&str; 5] = ["connect", "write", "time", "full", "memory"];
 
-/// Why a silence is withheld from an Alertmanager: it would refuse a pattern, or wouldn't take the matchers.
+/// The reason for withholding a silence from an Alertmanager, which would refuse a pattern, or wouldn't take the matchers.
 #[derive(Clone, Copy)]
 pub enum WithheldBy {
     Pattern,
     Matcher,
 }
 
-/// Their words, in that order.
+/// The words for reasons, in the order of [`WithheldBy`].
 pub const WITHHELD: [&str; 2] = ["pattern", "matcher"];
 
-/// Why a connection is closed before its end.
+/// The reason for closing a connection before its end.
 #[derive(Clone, Copy)]
 pub enum Failing {
     Read,
@@ -117,30 +117,31 @@ pub enum Failing {
     Unfinished,
 }
 
-/// Their words, in that order.
+/// The words for reasons, in the order of [`Failing`].
 pub const FAILINGS: [&str; 5] = ["read", "write", "time", "crowded", "unfinished"];
 
-/// The states of which files are saved.
+/// The states that are saved in files.
 pub const STATES: [&str; 2] = ["sil", "nfl"];
 
-/// Why a group is notified, or why not.
-pub const DECISIONS: [&str; 7] = [
+/// The decisions whether to notify a group, with their reasons.
+pub const DECISIONS: [&str; 8] = [
     "First",
     "NewFiring",
     "AllResolved",
     "NewResolved",
     "Repeat",
+    "Unjudged",
     "Skip",
     "Muted",
 ];
 
-/// The place of the first one by which a group isn't notified.
-pub const SKIPPED: usize = 5;
+/// The place of the first decision not to notify a group.
+pub const SKIPPED: usize = 6;
 
-/// The place of the one that is no step's, since no alert is left.
-pub const MUTED: usize = 6;
+/// The place of the decision that comes from no step, since no alert is left.
+pub const MUTED: usize = 7;
 
-/// The place of the decision whose word a text begins with, if one does.
+/// Returns the place of the decision whose word a text begins with, if there is one.
 pub fn decision_word(text: &str) -> Option<usize> {
     for (place, word) in DECISIONS.iter().enumerate() {
         if text.starts_with(*word) {

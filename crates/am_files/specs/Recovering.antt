@@ -1,4 +1,4 @@
--- What a start makes of what it finds.
+-- The state that a start recovers from what it finds.
 use Rattle.std.specs.Prelude.{ℕ, List, [], ◌++◌, Option, Some, None, Result}
 use Rattle.am_version_order.specs.Versions.{Version}
 use Rattle.am_wire.specs.declared.error.WireError.{WireError}
@@ -7,18 +7,18 @@ use Rattle.am_journal.specs.Blocks.{recovered}
 use Rattle.am_merge.specs.Views.{HoldsBest}
 use Rattle.am_files.specs.Logs.{AreInBatches}
 
--- what a file has that may be missing, where that is known; nothing, where it is missing
+-- the content of a file, if it is known; empty if the file is missing
 abbrev pub content_of : {R : Type 0} → (R → Option (List ℕ)) → Option R → Option (List ℕ)
 content_of remaining None = Some []
 content_of remaining (Some reader) = remaining reader
 
--- a map has of each key the best among the versions of a row
+-- A map has, for each key, the best version among those of a row.
 pub record HoldsRow {K X : Type 0} (seen : X → Version K) (reads : ℕ → List ℕ → Result X WireError) (row : List ℕ) (map : List X) : Type 0 where
   pub versions : List X
   pub all : AreMessages reads row versions
   pub best : HoldsBest seen versions map
 
--- a map has of each key the best among the versions of a file and of all whole batches of two logs
+-- A map has, for each key, the best version among those of a file and of all whole batches of two logs.
 pub record IsRecovered {K X : Type 0} (seen : X → Version K) (reads : ℕ → List ℕ → Result X WireError) (row first second : List ℕ) (map : List X) : Type 0 where
   pub in_row : List X
   pub in_first : List X

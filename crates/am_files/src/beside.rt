@@ -1,4 +1,4 @@
-//! What stands beside a file.
+//! The files that stand beside a state's file.
 
 use am_disk::{FileFault, directory_of, sync_directory};
 use am_snapshot::SnapshotError;
@@ -7,19 +7,19 @@ use std::fs;
 use std::io::ErrorKind;
 use std::rt::Files;
 
-/// What came since the file was written, or since it was begun to be written anew.
+/// The ending of the log of what has come since the file was written, or since it began to be written anew.
 pub const LOG: &str = ".log";
 
-/// What came before that, while the file is written anew.
+/// The ending of the log of what came before that, kept while the file is written anew.
 pub const OLD_LOG: &str = ".log.old";
 
-/// The file as it is written anew.
+/// The ending of the new file, while the file is written anew.
 pub const NEW: &str = ".new";
 
-/// What is locked while a process has the file.
+/// The ending of the file that is locked while a process has the state's file.
 pub const LOCK: &str = ".lock";
 
-/// The path of what stands beside a file, by how its name ends.
+/// Returns the path of the file beside `path` whose name ends in `ending`.
 ///
 /// # Errors
 ///
@@ -31,11 +31,11 @@ pub fn beside(alloc: Global, path: &str, ending: &str) -> Result<String, FileFau
     }
 }
 
-/// Removes what stands beside a file, and answers whether something did.
+/// Removes the file beside `path` with this ending, and returns whether there was one.
 ///
 /// # Errors
 ///
-/// What the system says.
+/// The error that the system reports.
 pub fn remove<R: Files + AllocGlobal>(rt: &R, path: &str, ending: &str) -> Result<bool, FileFault> {
     let name = beside(rt.alloc(), path, ending)?;
     match fs::remove_file(rt, name.as_str()) {
@@ -45,12 +45,12 @@ pub fn remove<R: Files + AllocGlobal>(rt: &R, path: &str, ending: &str) -> Resul
     }
 }
 
-/// Removes both logs beside a file, the older one first, and for good: were it alone to come back, what the other one ended
+/// Removes both logs beside a file. The older one goes first, and for good: if it alone came back, what the other one had ended
 /// would be there again.
 ///
 /// # Errors
 ///
-/// What the system says.
+/// The error that the system reports.
 pub fn remove_logs<R: Files + AllocGlobal>(rt: &R, path: &str) -> Result<(), FileFault> {
     if remove(rt, path, OLD_LOG)? {
         sync_directory(rt, directory_of(path))?;

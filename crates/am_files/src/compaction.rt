@@ -1,23 +1,25 @@
-//! A file that is written anew in stretches, while its state changes.
+//! Writing a file anew in stretches while its state changes.
 //!
-//! Why a start has all of it, whatever moment a crash comes at. The disk may undo what was done to names since the directory was
-//! handed to it. Write L for the old log, M for the one behind it, F for the file as it stood, and G for the new one. Each batch
-//! is committed to one log, and M has those behind L's; so of each key L and M end with its last version, as one log would.
+//! A start has the whole state, at whatever moment a crash comes. The disk may undo what was done to names since the directory
+//! was last handed to it. Write L for the old log, M for the one after it, F for the file as it stood, and G for the new one.
+//! Each batch is committed to one log, and M has the batches after those of L; so L and M together end with the last version of
+//! each key, as one log would.
 //!
-//! 1. L is renamed, M made with a closed gate, and both handed to the disk before M has a batch. A crash leaves F and all of L,
-//!    under either name, and perhaps an empty M.
-//! 2. G has, of each key, what the map had at some moment behind that, and counts for nothing before it is renamed. A crash
+//! 1. L is renamed, M is made with a closed gate, and both are handed to the disk before M has a batch. A crash leaves F and all
+//!    of L, under either name, and perhaps an empty M.
+//! 2. G has, for each key, what the map had at some moment after that, and counts for nothing before it is renamed. A crash
 //!    leaves F, L and M, or G, L and M. Either way the join has the last version of each key that F, L or M has, since what came
-//!    later than its piece is in M. A version that is neither in F nor in G had expired and gone from the map: then it is in L
-//!    or M where an older one of its key is, behind that.
+//!    after its piece was written is in M. A version that is neither in F nor in G had expired and left the map: then, if L or M
+//!    has an older version of its key, it is there too, after that one.
 //! 3. L goes only once G's name is on the disk, so no crash leaves F without L.
-//! 4. Where that is undone, L is back beside G and M, as in 2, or beside what M became, which is renamed onto L's name first.
-//!    It is whole then: what has lost its name is made shorter only once the disk has the directory without that name, and so is
-//!    F. Then nothing leads to it, whatever crash comes.
-//! 5. A save of all removes L, hands that to the disk, and then removes M: L never stands without M, whose ends it lacks.
-//! 6. Where L stands at the begin, nothing is renamed; G has all of L and M, and the rest is as above.
+//! 4. If that is undone, L is back beside G and M, as in 2, or beside the file that M became, which is renamed onto L's name
+//!    first. L is whole then: a file that has lost its name is made shorter only once the disk has the directory without that
+//!    name, and no name leads to it after that, whatever crash comes. The same holds for F.
+//! 5. A save of the whole state removes L, hands that to the disk, and then removes M: L never stands without M, whose ends it
+//!    lacks.
+//! 6. If L stands at the beginning, nothing is renamed; G has all of L and M, and the rest is as above.
 //!
-//! It ends, with G removed, where the logs lack something: then a save of all is due.
+//! If the logs lack something, the compaction ends and G is removed: then a save of the whole state is due.
 
 use crate::beside::{NEW, beside};
 use crate::spent::opened_to_go;
@@ -30,31 +32,31 @@ use std::fs::{self, File};
 use std::io::Write;
 use std::rt::Files;
 
-/// The most bytes of a stretch, but where one version has more.
+/// The most bytes in a stretch, unless one version alone has more.
 const MOST_OF_STRETCH: usize = 262_144;
 
-/// How far a file is written anew.
+/// The progress of writing a file anew.
 #[derive(Drop)]
 pub struct Compaction<K> {
     stage: Stage<K>,
-    /// How many bytes were written.
+    /// The number of bytes written so far.
     written: u64,
 }
 
-/// What is done next.
+/// The next step of a compaction.
 #[derive(Drop)]
 enum Stage<K> {
-    /// What lost its name the last time is given back.
+    /// The bytes of files that lost their names the last time are given back.
     GiveBack,
     /// The new file is made.
     Make,
-    /// The versions from a key on are written into it, or all of them.
+    /// The versions from a key on, or all of them, are written into the new file.
     Write(File, Option<K>),
-    /// It is whole, and handed to the disk.
+    /// The new file is whole, and is handed to the disk.
     HandOver(File),
-    /// It takes the place of the other one.
+    /// The new file takes the place of the old one.
     Rename,
-    /// The directory is handed to the disk, without a name for the one that stood there.
+    /// The directory is handed to the disk, without a name for the file that was replaced.
     Settle(Option<File>),
     /// The old log is removed.
     EndLog,
@@ -63,7 +65,7 @@ enum Stage<K> {
 }
 
 impl<K: Drop> Compaction<K> {
-    /// Nothing is written yet. Before, [`StateFile::part_logs`] has begun a new log.
+    /// Begins a compaction with nothing written yet. [`StateFile::part_logs`] has to have begun a new log before.
     pub fn new() -> Compaction<K> {
         Compaction {
             stage: Stage::GiveBack,
@@ -71,18 +73,18 @@ impl<K: Drop> Compaction<K> {
         }
     }
 
-    /// So many bytes are written, and this is next.
+    /// Returns the compaction whose next step is `stage`, with `written` bytes written so far.
     fn at(stage: Stage<K>, written: u64) -> Option<Compaction<K>> {
         Some(Compaction { stage, written })
     }
 }
 
-/// Does what is next, and answers what is left. The state is as it is now, and of at most so many bytes.
+/// Takes the next step, and returns what is left to do. `held` is the state as it is now, and the file has at most `most` bytes.
 ///
 /// # Errors
 ///
-/// Why the file isn't written anew, which ends it. The one that stood there stands as it was then, or the new one does where the
-/// directory was not handed to the disk, or the old log not removed; the logs have what they had.
+/// The reason why the file isn't written anew, which ends the compaction. The old file stands as it was, or the new one does if
+/// the directory couldn't be handed to the disk or the old log couldn't be removed; the logs have what they had.
 pub fn compact<V: Version, R: Files<File = File> + AllocGlobal>(
     rt: &R,
     file: &mut StateFile,
@@ -110,7 +112,7 @@ where
     done
 }
 
-/// The versions from a key on, or all of them.
+/// Returns the versions from a key on, or all of them.
 fn left_of<'a, V: Version>(held: &'a Held<V>, from: Option<&V::Key>) -> Iter<'a, V> {
     match from {
         Some(key) => held.iter_from(key),
@@ -118,7 +120,7 @@ fn left_of<'a, V: Version>(held: &'a Held<V>, from: Option<&V::Key>) -> Iter<'a,
     }
 }
 
-/// Writes the first of these versions behind so many bytes, and hands them to the disk.
+/// Writes the first of these versions after the `written` bytes, and hands them to the disk.
 fn write_stretch<V: Version, R: AllocGlobal>(
     rt: &R,
     mut new: File,
@@ -141,7 +143,7 @@ where
     Ok(Compaction::at(stage, written))
 }
 
-/// How many bytes there are with these, of at most so many.
+/// Returns the number of bytes with this row added, and refuses more than `most`.
 fn with_more(written: u64, row: &[u8], most: u32) -> Result<u64, FileFault> {
     let written = written.saturating_add(row.len() as u64);
     if written > u64::from(most) {
@@ -150,14 +152,14 @@ fn with_more(written: u64, row: &[u8], most: u32) -> Result<u64, FileFault> {
     Ok(written)
 }
 
-/// Writes bytes behind those of a file, and hands them to the disk.
+/// Appends bytes to a file, and hands them to the disk.
 fn write_down(file: &mut File, bytes: &[u8]) -> Result<(), FileFault> {
     file.write_all(bytes)?;
     file.sync_data()?;
     Ok(())
 }
 
-/// Does what is next, other than to write versions, and answers what is left.
+/// Takes the next step, other than writing versions, and returns what is left to do.
 fn go_on<K: Drop, R: Files<File = File> + AllocGlobal>(
     rt: &R,
     file: &mut StateFile,
@@ -197,7 +199,7 @@ fn go_on<K: Drop, R: Files<File = File> + AllocGlobal>(
     Ok(Compaction::at(next, written))
 }
 
-/// The new file beside this one.
+/// Makes the new file beside this one.
 fn made<R: Files<File = File> + AllocGlobal>(rt: &R, path: &str) -> Result<File, FileFault> {
     let name = beside(rt.alloc(), path, NEW)?;
     new_file(rt, name.as_str(), path)

@@ -1,5 +1,5 @@
-//! The files of a state: one that has all of it, the logs beside it of what came since, and how the one is written anew while
-//! the state changes.
+//! The files of a state: one that has all of it, the logs beside it with what came since, and the compaction that writes the file
+//! anew while the state changes.
 #![tactic(auto)]
 
 mod beside;

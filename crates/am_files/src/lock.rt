@@ -1,15 +1,16 @@
-//! A file that is one process's at a time.
+//! A file that only one process has at a time.
 
 use crate::beside::{LOCK, beside};
 use am_disk::FileFault;
 use std::fs::{self, File, OpenOptions, TryLockError};
 use std::rt::Files;
 
-/// The locked file beside a file, which a save doesn't replace.
+/// Opens and locks the lock file beside `path`, which a save doesn't replace.
 ///
 /// # Errors
 ///
-/// [`FileFault::Locked`] where another process has it, and [`FileFault::NotAFile`]; what the system says, and want of memory.
+/// [`FileFault::Locked`] if another process has it, [`FileFault::NotAFile`], the error that the system reports, or want of
+/// memory.
 pub fn lock_beside<R: Files<File = File> + AllocGlobal>(
     rt: &R,
     path: &str,
@@ -29,7 +30,7 @@ fn open_lock<R: Files<File = File>>(rt: &R, name: &str) -> Result<File, FileFaul
     Ok(how.open(rt, name)?)
 }
 
-/// Locks a file, where no other process has.
+/// Locks a file, unless another process has it locked.
 fn locked(file: File) -> Result<File, FileFault> {
     match file.try_lock() {
         Ok(()) => Ok(file),

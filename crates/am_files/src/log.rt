@@ -9,10 +9,10 @@ use std::alloc::Global;
 use std::fs::{self, File, OpenOptions};
 use std::rt::Files;
 
-/// The most bytes of a batch, but where one row has more: what comes beyond is a batch of its own.
+/// The most bytes in a batch, unless one row alone has more: what comes beyond is a batch of its own.
 const MOST_OF_BATCH: usize = 1 << 24;
 
-/// How many bytes a log may have before the file of its state is written anew, where that has fewer.
+/// The least size in bytes at which a log is outgrown, even if the file of its state is smaller.
 const LEAST_OUTGROWN: u64 = 1 << 20;
 
 /// The log of a state.
@@ -24,7 +24,7 @@ pub struct StateLog {
     batch: Vec<u8>,
 }
 
-/// The log that stands in a file, whose whole blocks take so many bytes.
+/// Returns the log in a file whose whole blocks end at byte `end`.
 fn log_in(file: File, end: u64) -> Result<Journal<LogFile<Found>>, FileFault> {
     let Some(found) = Found::new(end) else {
         return Err(NO_LOG);
@@ -35,7 +35,7 @@ fn log_in(file: File, end: u64) -> Result<Journal<LogFile<Found>>, FileFault> {
     }
 }
 
-/// A new log beside a file, where none stands: it has the permissions of the file, and is in its directory from now on.
+/// Makes a new log beside a file that has none. The log has the permissions of the file, and is in its directory from now on.
 fn new_log<R: Files<File = File> + AllocGlobal>(
     rt: &R,
     file: &str,
@@ -46,8 +46,8 @@ fn new_log<R: Files<File = File> + AllocGlobal>(
     Ok(journal)
 }
 
-/// The log beside a file that was read up to its end. It is in its directory from now on: the process that made it may have
-/// ended before it handed that to the disk.
+/// Opens the log beside a file, which was read up to its end. The log is in its directory from now on: the process that made it
+/// may have ended before it handed that to the disk.
 fn old_log<R: Files<File = File> + AllocGlobal>(
     rt: &R,
     file: &str,
@@ -62,11 +62,11 @@ fn old_log<R: Files<File = File> + AllocGlobal>(
 }
 
 impl StateLog {
-    /// The log beside the file of this path, which was read so far.
+    /// Opens the log beside the file of this path, which was read up to `read`, or makes a new one.
     ///
     /// # Errors
     ///
-    /// What the system says.
+    /// The error that the system reports.
     pub fn open<R: Files<File = File> + AllocGlobal>(
         rt: &R,
         path: &str,
@@ -82,16 +82,16 @@ impl StateLog {
         })
     }
 
-    /// Whether what is added to it will be on the disk.
+    /// Returns whether what is added to the log will be on the disk.
     pub fn is_trusted(&self) -> bool {
         self.journal.is_some()
     }
 
-    /// Adds rows to those that wait. Where they are many, those before them are committed.
+    /// Adds rows to those that wait. If they are too many for one batch, those before them are committed first.
     ///
     /// # Errors
     ///
-    /// Why they don't wait, or weren't committed.
+    /// The reason why the rows don't wait, or why those before them weren't committed.
     pub fn append(&mut self, alloc: Global, rows: &[u8]) -> Result<(), FileFault> {
         if rows.len() > MOST_OF_BATCH.saturating_sub(self.batch.len()) {
             self.commit(alloc)?;
@@ -102,11 +102,11 @@ impl StateLog {
         }
     }
 
-    /// Hands to the disk what waits. Where that fails, the log is trusted no more, and nothing waits.
+    /// Hands the waiting rows to the disk. If that fails, the log is no longer trusted, and nothing waits.
     ///
     /// # Errors
     ///
-    /// Why it isn't on the disk.
+    /// The reason why the rows aren't on the disk.
     pub fn commit(&mut self, alloc: Global) -> Result<(), FileFault> {
         if self.batch.is_empty() {
             return Ok(());
@@ -125,7 +125,7 @@ impl StateLog {
         }
     }
 
-    /// Whether it is larger than the file of the state, which has so many bytes, and than 1 MiB.
+    /// Returns whether the log is larger than the file of the state, which has `file` bytes, and larger than 1 MiB.
     pub fn is_outgrown(&self, file: u64) -> bool {
         match &self.journal {
             Some(journal) => journal.len() > file.max(LEAST_OUTGROWN),
@@ -133,12 +133,12 @@ impl StateLog {
         }
     }
 
-    /// Begins a new one, and leaves what was committed so far as the old log, where none stands. What waits goes into the new
+    /// Begins a new log, and leaves what was committed so far as the old log, if there is none. The waiting rows go into the new
     /// one.
     ///
     /// # Errors
     ///
-    /// What the system says. Where the old log stands then and no new one, none is trusted.
+    /// The error that the system reports. If the old log then stands without a new one, no log is trusted.
     pub fn rotate<R: Files<File = File> + AllocGlobal>(
         &mut self,
         rt: &R,
@@ -155,11 +155,11 @@ impl StateLog {
         Ok(())
     }
 
-    /// Begins it anew, now that all is in the file of the state. What waits is there, too.
+    /// Begins the log anew, now that everything is in the file of the state, including the rows that wait.
     ///
     /// # Errors
     ///
-    /// What the system says. The log isn't trusted then.
+    /// The error that the system reports. The log isn't trusted then.
     pub fn begin_anew<R: Files<File = File> + AllocGlobal>(
         &mut self,
         rt: &R,

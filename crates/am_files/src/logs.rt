@@ -1,4 +1,4 @@
-//! The logs beside a file, as one reads them who doesn't have the file: nothing is locked, written, cut or handed to the disk.
+//! The logs beside a file, for a reader that doesn't own the file: nothing is locked, written, cut or handed to the disk.
 
 ghost use Rattle.std.specs.Prelude.{OnOk, IfSome};
 ghost use Rattle.am_snapshot.specs.Saving.{FitsRow};
@@ -11,7 +11,7 @@ use am_disk::{FileFault, is_there, target_of};
 use am_merge::Held;
 use am_snapshot::{SnapshotError, row_length_within};
 use am_version_order::Version;
-use am_wire::Message;
+use am_wire::{Message, Unknown};
 use std::alloc::Global;
 use std::fs::File;
 use std::io::{BufReader, ErrorKind, Read};
@@ -23,23 +23,23 @@ pub struct Logs {
     opened: Vec<OpenedLog>,
 }
 
-/// A log that is opened.
+/// An open log.
 #[derive(Drop)]
 struct OpenedLog {
     path: String,
     file: WholeFile,
 }
 
-/// Why a log isn't read.
+/// The reason why a log isn't read.
 #[derive(Drop)]
 pub struct LogFault {
-    /// Its path; none where memory ran out before there was one.
+    /// The path of the log, or none if memory ran out before there was one.
     pub path: Option<String>,
-    /// What is wrong.
+    /// The fault.
     pub fault: FileFault,
 }
 
-/// That memory ran out.
+/// Returns the fault for want of memory.
 fn no_memory() -> LogFault {
     LogFault {
         path: None,
@@ -48,24 +48,24 @@ fn no_memory() -> LogFault {
 }
 
 impl Logs {
-    /// No logs.
+    /// Returns no logs.
     pub fn none(alloc: Global) -> Logs {
         Logs {
             opened: Vec::new(alloc),
         }
     }
 
-    /// Opens the logs that stand beside a file, behind all links. Beside what is no file, or isn't reached, there are none: who
-    /// opens that is told why.
+    /// Opens the logs that stand beside a file, after following all links. If `path` names no file, or isn't reached, there are
+    /// no logs: opening the file itself tells the caller why.
     ///
-    /// The file is to be opened behind this. What a member takes goes from `FILE.log` to `FILE.log.old`, which is the same file
-    /// renamed, and from there to `FILE`, before `FILE.log.old` is removed. So who opens them in this order misses nothing that
-    /// was on the disk before, whatever is renamed and removed meanwhile; what is met twice is joined twice, which makes no
-    /// difference.
+    /// The file has to be opened after its logs. What a member takes goes from `FILE.log` to `FILE.log.old`, which is the same
+    /// file renamed, and from there to `FILE`, before `FILE.log.old` is removed. So a reader that opens them in this order misses
+    /// nothing that was on the disk before, whatever is renamed and removed meanwhile; what is met twice is joined twice, which
+    /// makes no difference.
     ///
     /// # Errors
     ///
-    /// The first [`LogFault`] that stands.
+    /// The first [`LogFault`].
     pub fn open<R: Files<File = File> + AllocGlobal>(rt: &R, path: &str) -> Result<Logs, LogFault> {
         let mut logs = Logs::none(rt.alloc());
         let target = match target_of(rt, path) {
@@ -78,7 +78,7 @@ impl Logs {
         Ok(logs)
     }
 
-    /// Opens one more log, where it stands there.
+    /// Opens one more log, if there is one.
     fn add<R: Files<File = File> + AllocGlobal>(
         &mut self,
         rt: &R,
@@ -104,27 +104,28 @@ impl Logs {
         }
     }
 
-    /// Whether there are any.
+    /// Returns whether there are any logs.
     pub fn are_there(&self) -> bool {
         !self.opened.is_empty()
     }
 
-    /// Joins what they have into a state, up to the first block of each that isn't whole: what stands behind is being written,
-    /// or was when a process ended, and nobody was answered of it.
+    /// Joins the versions of the logs into a state, treating unknown fields as `unknown` says, up to the first block of each log
+    /// that isn't whole: what follows is still being written, or was when a process ended, and nobody got an answer about it.
     ///
     /// # Errors
     ///
-    /// The first [`LogFault`] that stands, [`SnapshotError::TooLarge`] where the state comes to over so many bytes, and
-    /// [`ErrorKind::UnexpectedEof`] where a log was removed and made shorter while it was read.
+    /// The first [`LogFault`]: [`SnapshotError::TooLarge`] if the state comes to more than `most` bytes, and
+    /// [`ErrorKind::UnexpectedEof`] if a log was removed and made shorter while it was read.
     pub fn join<V: Version + Message>(
         self,
         alloc: Global,
+        unknown: Unknown,
         held: &mut Held<V>,
         most: u32,
     ) -> Result<(), LogFault> {
         for log in self.opened {
             let OpenedLog { path, file } = log;
-            if let Err(fault) = join_file(alloc, held, file, most) {
+            if let Err(fault) = join_file(alloc, unknown, held, file, most) {
                 return Err(LogFault {
                     path: Some(path),
                     fault,
@@ -135,7 +136,7 @@ impl Logs {
     }
 }
 
-/// Opens a log, where it stands there. It may be renamed or removed at any moment.
+/// Opens a log, if there is one. It may be renamed or removed at any moment.
 fn open_log<R: Files<File = File>>(rt: &R, path: &str) -> Result<Option<WholeFile>, FileFault> {
     if !is_there(rt, path)? {
         return Ok(None);
@@ -147,30 +148,32 @@ fn open_log<R: Files<File = File>>(rt: &R, path: &str) -> Result<Option<WholeFil
     }
 }
 
-/// Joins what is left of a log into a state of at most so many bytes.
+/// Joins what is left of a log into a state of at most `most` bytes.
 fn join_within<V: Version + Message, R: Read>(
     alloc: Global,
+    unknown: Unknown,
     held: &mut Held<V>,
     reader: &mut R,
     most: u32,
 ) -> Result<(), FileFault>
-    ensures joined { OnOk result (IfSome (R.remaining reader.old) (λ log. JoinsLog V.seen V.reads held.old log held.new)) }
+    ensures joined { OnOk result (IfSome (R.remaining reader.old) (λ log. JoinsLog V.seen (V.reads unknown) held.old log held.new)) }
     ensures fits { OnOk result (FitsRow V.seen most held.new) }
 {
-    join_batches(alloc, held, reader)?;
+    join_batches(alloc, unknown, held, reader)?;
     match row_length_within(held, most) {
         Some(_) => Ok(()),
         None => Err(FileFault::Snapshot(SnapshotError::TooLarge)),
     }
 }
 
-/// Joins what an open log has into a state of at most so many bytes.
+/// Joins the versions of an open log into a state of at most `most` bytes.
 fn join_file<V: Version + Message>(
     alloc: Global,
+    unknown: Unknown,
     held: &mut Held<V>,
     file: WholeFile,
     most: u32,
 ) -> Result<(), FileFault> {
     let mut reader = BufReader::new(alloc, file)?;
-    join_within(alloc, held, &mut reader, most)
+    join_within(alloc, unknown, held, &mut reader, most)
 }

@@ -1,4 +1,4 @@
-//! What the logs beside a file have.
+//! The contents of the logs beside a file.
 
 ghost use Rattle.std.specs.Prelude.{◌≡◌, OnOk, IfOk, IfSome};
 ghost use Rattle.am_merge.specs.Views.{HoldsBest};
@@ -10,41 +10,42 @@ use am_journal::{Batches, LogError, settle};
 use am_merge::{Held, HeldBuilder};
 use am_snapshot::SnapshotError;
 use am_version_order::Version;
-use am_wire::{Message, Messages, RowFault, WireError};
+use am_wire::{Message, Messages, RowFault, Unknown, WireError};
 use std::alloc::Global;
 use std::fs::{self, File};
 use std::io::{BufReader, ErrorKind, Read};
 use std::rt::Files;
 
-/// The fault of a log to which nothing is added any more: it failed before, which was told then, or it is as long as one may be.
+/// The fault of a log to which nothing is added any more: it failed before, which was reported then, or it is as long as a log
+/// may be.
 pub const NO_LOG: FileFault = FileFault::File(ErrorKind::Other);
 
-/// What was read of a log.
+/// The end of a log that was read.
 #[derive(Clone, Copy)]
 pub struct LogEnd {
-    /// How many bytes its whole blocks take.
+    /// The number of bytes that its whole blocks take.
     pub end: u64,
-    /// How many bytes stand behind them, of what was being written when the last process ended.
+    /// The number of bytes after them, which were being written when the last process ended.
     pub torn: u64,
 }
 
-/// What was read of both logs beside a file, where they stand there.
+/// The ends of both logs beside a file, if there are any.
 #[derive(Clone, Copy)]
 pub struct FoundLogs {
-    /// Of `FILE.log.old`.
+    /// The end of `FILE.log.old`.
     pub old: Option<LogEnd>,
-    /// Of `FILE.log`.
+    /// The end of `FILE.log`.
     pub log: Option<LogEnd>,
 }
 
 impl FoundLogs {
-    /// How many bytes of both were being written when the last process ended.
+    /// Returns the number of bytes of both logs that were being written when the last process ended.
     pub fn torn(&self) -> u64 {
         torn_of(self.old).saturating_add(torn_of(self.log))
     }
 }
 
-/// How many bytes of a log were being written.
+/// Returns the number of bytes of a log that were being written.
 fn torn_of(log: Option<LogEnd>) -> u64 {
     match log {
         Some(log) => log.torn,
@@ -52,7 +53,7 @@ fn torn_of(log: Option<LogEnd>) -> u64 {
     }
 }
 
-/// The fault of a file, where a log is at fault.
+/// Converts a log's error to a file's fault.
 pub fn fault_of(error: LogError) -> FileFault {
     match error {
         LogError::Memory => FileFault::Snapshot(SnapshotError::Memory),
@@ -61,13 +62,13 @@ pub fn fault_of(error: LogError) -> FileFault {
     }
 }
 
-/// How many versions are read at least before a map is built of them.
+/// The least number of versions that are read before a map is built of them.
 const MANY: usize = 65_536;
 
-/// The fault where memory ran out.
+/// The fault for want of memory.
 const NO_MEMORY: FileFault = FileFault::Snapshot(SnapshotError::Memory);
 
-/// The versions of a map, which has none then, with room for as many as are read before a map is built of them.
+/// Takes the versions out of a map, leaving it empty, with room for as many more as are read before a map is built of them.
 fn builder_of<V: Version>(held: &mut Held<V>) -> Result<HeldBuilder<V>, FileFault>
     ensures { IfOk result (λ builder. builder ≡ held.old) }
 {
@@ -78,7 +79,7 @@ fn builder_of<V: Version>(held: &mut Held<V>) -> Result<HeldBuilder<V>, FileFaul
     }
 }
 
-/// The map of the greatest version of each key.
+/// Builds the map of the greatest version of each key.
 fn build<V: Version>(builder: HeldBuilder<V>) -> Result<Held<V>, FileFault>
     ensures { IfOk result (HoldsBest V.seen builder) }
 {
@@ -88,7 +89,7 @@ fn build<V: Version>(builder: HeldBuilder<V>) -> Result<Held<V>, FileFault>
     }
 }
 
-/// The map of the greatest version of each key, as versions again.
+/// Builds the map of the greatest version of each key, and takes its versions out again.
 fn rebuild<V: Version>(builder: HeldBuilder<V>) -> Result<HeldBuilder<V>, FileFault>
     ensures { IfOk result (HoldsBest V.seen builder) }
 {
@@ -96,7 +97,7 @@ fn rebuild<V: Version>(builder: HeldBuilder<V>) -> Result<HeldBuilder<V>, FileFa
     builder_of(&mut held)
 }
 
-/// How many versions there may be, where there are so many, before a map is built of them.
+/// Returns the number of versions at which a map is built of them, if there are `count` now.
 fn most_of(count: usize) -> usize {
     count.saturating_add(count.max(MANY))
 }
@@ -104,50 +105,53 @@ fn most_of(count: usize) -> usize {
 /// Adds the versions of a batch to others.
 fn read_batch<V: Version + Message>(
     alloc: Global,
+    unknown: Unknown,
     builder: &mut HeldBuilder<V>,
     batch: &[u8],
 ) -> Result<(), WireError>
-    ensures { OnOk result (ReadsOn V.seen V.reads builder.old batch.now builder.new) }
+    ensures { OnOk result (ReadsOn V.seen (V.reads unknown) builder.old batch.now builder.new) }
 {
-    for message in Messages::<V>::new(alloc, batch) {
+    for message in Messages::<V>::within(alloc, unknown, batch, 0) {
         let version = message?;
         builder.push(version)?;
     }
     Ok(())
 }
 
-/// Adds the versions of a batch, whose fault is that of a file.
+/// Adds the versions of a batch to others, with its error as a file's fault.
 fn read_on<V: Version + Message>(
     alloc: Global,
+    unknown: Unknown,
     builder: &mut HeldBuilder<V>,
     batch: &[u8],
 ) -> Result<(), FileFault>
-    ensures { OnOk result (ReadsOn V.seen V.reads builder.old batch.now builder.new) }
+    ensures { OnOk result (ReadsOn V.seen (V.reads unknown) builder.old batch.now builder.new) }
 {
-    match read_batch(alloc, builder, batch) {
+    match read_batch(alloc, unknown, builder, batch) {
         Ok(()) => Ok(()),
         Err(fault) => Err(FileFault::Snapshot(SnapshotError::from(RowFault::from(fault)))),
     }
 }
 
-/// The map of the greatest version of each key, among those that were read and those of all whole batches that are left of a
-/// log.
+/// Reads the whole batches that are left of a log, and returns the map of the greatest version of each key among theirs and those
+/// that were read before.
 ///
 /// # Errors
 ///
-/// The first [`FileFault`] that stands.
+/// The first [`FileFault`].
 fn read_rest<V: Version + Message, R: Read>(
     alloc: Global,
+    unknown: Unknown,
     mut builder: HeldBuilder<V>,
     batches: &mut Batches,
     reader: &mut R,
 ) -> Result<Held<V>, FileFault>
-    ensures { IfOk result (λ held. IfSome (R.remaining reader.old) (λ log. JoinsLog V.seen V.reads builder log held)) }
+    ensures { IfOk result (λ held. IfSome (R.remaining reader.old) (λ log. JoinsLog V.seen (V.reads unknown) builder log held)) }
 {
     let mut most = most_of(builder.len());
     'blocks: for _ in 0..u64::MAX {
         match batches.next(reader) {
-            Ok(Some(batch)) => read_on(alloc, &mut builder, &batch)?,
+            Ok(Some(batch)) => read_on(alloc, unknown, &mut builder, &batch)?,
             Ok(None) => return build(builder),
             Err(error) => return Err(fault_of(error)),
         }
@@ -159,26 +163,27 @@ fn read_rest<V: Version + Message, R: Read>(
     Err(NO_LOG)
 }
 
-/// Joins what is left of a log into a state: of each key it has the greatest version then, among its own and those of all whole
-/// batches.
+/// Joins what is left of a log into a state: afterwards it has the greatest version of each key among its own and those of all
+/// whole batches, with unknown fields treated as `unknown` says.
 ///
 /// # Errors
 ///
-/// The first [`FileFault`] that stands. The state may be empty then.
+/// The first [`FileFault`]. The state may be empty then.
 pub fn join_batches<V: Version + Message, R: Read>(
     alloc: Global,
+    unknown: Unknown,
     held: &mut Held<V>,
     reader: &mut R,
 ) -> Result<LogEnd, FileFault>
-    ensures { OnOk result (IfSome (R.remaining reader.old) (λ log. JoinsLog V.seen V.reads held.old log held.new)) }
+    ensures { OnOk result (IfSome (R.remaining reader.old) (λ log. JoinsLog V.seen (V.reads unknown) held.old log held.new)) }
 {
     held.has_values();
     let mut batches = Batches::new(alloc);
     match batches.next(reader) {
         Ok(Some(first)) => {
             let mut builder = builder_of(held)?;
-            read_on(alloc, &mut builder, &first)?;
-            *held = read_rest(alloc, builder, &mut batches, reader)?;
+            read_on(alloc, unknown, &mut builder, &first)?;
+            *held = read_rest(alloc, unknown, builder, &mut batches, reader)?;
             Ok(end_of(&batches))
         }
         Ok(None) => Ok(end_of(&batches)),
@@ -186,20 +191,20 @@ pub fn join_batches<V: Version + Message, R: Read>(
     }
 }
 
-/// Where a log ends that was read whole.
+/// Returns the end of a log that was read whole.
 fn end_of(batches: &Batches) -> LogEnd {
     LogEnd {
         end: batches.end(),
-        // (one is the closed gate)
+        // (one byte is the closed gate)
         torn: batches.behind().saturating_sub(1),
     }
 }
 
-/// A file that is to be read, if one is there.
+/// Opens a file for reading, if there is one.
 ///
 /// # Errors
 ///
-/// [`FileFault::NotAFile`], and what the system says.
+/// [`FileFault::NotAFile`], or the error that the system reports.
 pub fn opened<R: Files<File = File> + AllocGlobal>(
     rt: &R,
     path: &str,
@@ -211,11 +216,11 @@ pub fn opened<R: Files<File = File> + AllocGlobal>(
     Ok(Some(BufReader::new(rt.alloc(), file)?))
 }
 
-/// A log beside a file, if one is there: as it stands on the disk. A link is refused, since a member renames its logs.
+/// Opens a log beside a file, if there is one, as it stands on the disk. A link is refused, since a member renames its logs.
 ///
 /// # Errors
 ///
-/// Those of [`opened`], of a link [`FileFault::NotAFile`].
+/// Those of [`opened`], and [`FileFault::NotAFile`] for a link.
 pub fn opened_log<R: Files<File = File> + AllocGlobal>(
     rt: &R,
     path: &str,

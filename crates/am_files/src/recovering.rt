@@ -1,4 +1,4 @@
-//! What a start makes of what it finds.
+//! Recovery of a state from what a start finds.
 
 ghost use Rattle.std.specs.Prelude.{OnOk, IfOk, IfSome};
 ghost use Rattle.am_files.specs.Logs.{JoinsLog};
@@ -10,7 +10,7 @@ use am_disk::FileFault;
 use am_merge::Held;
 use am_snapshot::load_within;
 use am_version_order::Version;
-use am_wire::Message;
+use am_wire::{Message, Unknown};
 use std::alloc::Global;
 use std::fs::File;
 use std::io::Read;
@@ -20,18 +20,20 @@ use std::rt::Files;
 #[derive(Drop)]
 pub struct Recovered<V: Version> {
     pub held: Held<V>,
-    /// What was read of its logs.
+    /// The ends of its logs.
     pub logs: FoundLogs,
 }
 
-/// The state that a file of at most so many bytes and two logs hold together, each of which may be missing: of each key the
-/// greatest version, among those of the file and those of all whole batches of both logs.
+/// Returns the state that a file of at most `most` bytes and two logs hold together, each of which may be missing: the greatest
+/// version of each key among those of the file and those of all whole batches of both logs, with unknown fields treated as
+/// `unknown` says.
 ///
 /// # Errors
 ///
-/// The first [`FileFault`] that stands, in this order.
+/// The first [`FileFault`], in this order.
 pub fn recover<V: Version + Message, R: Read + Drop>(
     alloc: Global,
+    unknown: Unknown,
     file: Option<R>,
     most: u32,
     old_log: Option<R>,
@@ -40,11 +42,11 @@ pub fn recover<V: Version + Message, R: Read + Drop>(
     // PROMISE: A start holds the greatest version of each key in the file and both logs.
     ensures { IfOk result (λ recovered. IfSome (content_of R.remaining file) (λ row.
         IfSome (content_of R.remaining old_log) (λ first. IfSome (content_of R.remaining log) (λ second.
-        IsRecovered V.seen V.reads row first second recovered.held)))) }
+        IsRecovered V.seen (V.reads unknown) row first second recovered.held)))) }
 {
-    let mut held = load_any(alloc, file, most)?;
-    let old_end = join_any(alloc, &mut held, old_log)?;
-    let end = join_any(alloc, &mut held, log)?;
+    let mut held = load_any(alloc, unknown, file, most)?;
+    let old_end = join_any(alloc, unknown, &mut held, old_log)?;
+    let end = join_any(alloc, unknown, &mut held, log)?;
     Ok(Recovered {
         held,
         logs: FoundLogs {
@@ -54,68 +56,73 @@ pub fn recover<V: Version + Message, R: Read + Drop>(
     })
 }
 
-/// The state that a file holds, if one is there.
+/// Reads the state that a file holds, if there is one.
 fn load_any<V: Version + Message, R: Read + Drop>(
     alloc: Global,
+    unknown: Unknown,
     file: Option<R>,
     most: u32,
 ) -> Result<Held<V>, FileFault>
-    ensures { IfOk result (λ held. IfSome (content_of R.remaining file) (λ row. HoldsRow V.seen V.reads row held)) }
+    ensures { IfOk result (λ held. IfSome (content_of R.remaining file) (λ row. HoldsRow V.seen (V.reads unknown) row held)) }
 {
     match file {
-        Some(mut reader) => load_one(alloc, &mut reader, most),
+        Some(mut reader) => load_one(alloc, unknown, &mut reader, most),
         None => {
             let mut nothing: &[u8] = &[];
-            load_one(alloc, &mut nothing, most)
+            load_one(alloc, unknown, &mut nothing, most)
         }
     }
 }
 
-/// The state that a file holds.
+/// Reads the state that a file holds.
 fn load_one<V: Version + Message, R: Read>(
     alloc: Global,
+    unknown: Unknown,
     reader: &mut R,
     most: u32,
 ) -> Result<Held<V>, FileFault>
-    ensures { IfOk result (λ held. IfSome (R.remaining reader.old) (λ row. HoldsRow V.seen V.reads row held)) }
+    ensures { IfOk result (λ held. IfSome (R.remaining reader.old) (λ row. HoldsRow V.seen (V.reads unknown) row held)) }
 {
-    Ok(load_within(alloc, reader, most)?)
+    Ok(load_within(alloc, unknown, reader, most)?)
 }
 
-/// Joins what a log has into a state, if one is there.
+/// Joins the versions of a log into a state, if there is one, treating unknown fields as `unknown` says.
 ///
 /// # Errors
 ///
 /// Those of [`join_batches`].
 pub fn join_any<V: Version + Message, R: Read + Drop>(
     alloc: Global,
+    unknown: Unknown,
     held: &mut Held<V>,
     log: Option<R>,
 ) -> Result<Option<LogEnd>, FileFault>
-    ensures { OnOk result (IfSome (content_of R.remaining log) (λ batches. JoinsLog V.seen V.reads held.old batches held.new)) }
+    ensures { OnOk result (IfSome (content_of R.remaining log) (λ batches. JoinsLog V.seen (V.reads unknown) held.old batches held.new)) }
 {
     match log {
-        Some(mut reader) => Ok(Some(join_batches(alloc, held, &mut reader)?)),
+        Some(mut reader) => Ok(Some(join_batches(alloc, unknown, held, &mut reader)?)),
         None => {
             let mut nothing: &[u8] = &[];
-            join_batches(alloc, held, &mut nothing)?;
+            join_batches(alloc, unknown, held, &mut nothing)?;
             Ok(None)
         }
     }
 }
 
-/// The state that a file of at most so many bytes and the logs beside it hold together. Nothing is written.
+/// Reads the state that a file of at most `most` bytes and the logs beside it hold together, treating unknown fields as `unknown`
+/// says. Nothing is written.
 ///
 /// # Errors
 ///
-/// Those of [`recover`], and what the system says.
+/// Those of [`recover`], and the error that the system reports.
 pub fn load_state<V: Version + Message, R: Files<File = File> + AllocGlobal>(
     rt: &R,
+    unknown: Unknown,
     path: &str,
     most: u32,
 ) -> Result<Recovered<V>, FileFault> {
     let file = opened(rt, path)?;
     let old = opened_log(rt, path, OLD_LOG)?;
     let log = opened_log(rt, path, LOG)?;
-    recover(rt.alloc(), file, most, old, log)
+    recover(rt.alloc(), unknown, file, most, old, log)
 }

@@ -1,12 +1,13 @@
 //! Files that have lost their names, given back to the system a piece at a time.
 //!
-//! Who ends a file waits while the system gives back what it had: where a disk is told of that at once, 20 ms for 20 MB. So a
-//! file that is replaced or removed is kept open, and made shorter by a piece in a turn, before it is closed.
+//! Closing a file waits while the system gives back its bytes: if the disk is told of that at once, 20 ms for 20 MB. So a file
+//! that is replaced or removed is kept open, and is made shorter by a piece each turn, before it is closed.
 //!
-//! Nobody may miss the bytes that go. A crash doesn't: the disk has the directory without the name by then. Nor does who comes
-//! by another name, or through a hard link: a file that has a name isn't made shorter. Who opened it before it lost its name may
-//! still read it, and no lock tells of all of those; so it stays whole until the file of the state is written anew once more,
-//! and a [`WholeFile`](crate::WholeFile) tells who reads for longer that it was made shorter.
+//! Nobody may miss the bytes that go. A crash doesn't: the disk has the directory without the name by then. Nor does a reader
+//! that comes by another name, or through a hard link: a file that has a name isn't made shorter. A reader that opened it before
+//! it lost its name may still be reading, and no lock tells of all such readers; so the file stays whole until the file of the
+//! state is written anew once more, and a [`WholeFile`](crate::WholeFile) tells a reader that takes longer that the file was made
+//! shorter.
 
 use crate::whole_file::is_named;
 use am_disk::is_there;
@@ -14,7 +15,7 @@ use std::alloc::Global;
 use std::fs::{File, OpenOptions};
 use std::rt::Files;
 
-/// How many bytes are given back in a turn.
+/// The number of bytes that are given back in a turn.
 const PIECE: u64 = 262_144;
 
 /// Files that have lost their names, kept open.
@@ -24,21 +25,21 @@ pub struct SpentFiles {
 }
 
 impl SpentFiles {
-    /// None.
+    /// Returns no files.
     pub fn none(alloc: Global) -> SpentFiles {
         SpentFiles {
             files: Vec::new(alloc),
         }
     }
 
-    /// Keeps one more, where it was opened. Where memory runs out, it is closed.
+    /// Keeps one more file, if it was opened. If memory runs out, the file is closed.
     pub fn keep(&mut self, file: Option<File>) {
         if let Some(file) = file {
             let _ = self.files.push(file);
         }
     }
 
-    /// Makes the last of them shorter by a piece, or closes it where less is left. Answers whether there are any yet.
+    /// Makes the last file shorter by a piece, or closes it if less is left. Returns whether there are any files left.
     pub fn give_back(&mut self) -> bool {
         let is_left = match self.files.last() {
             Some(file) => is_shortened(file),
@@ -50,13 +51,13 @@ impl SpentFiles {
         !self.files.is_empty()
     }
 
-    /// Closes all of them, which takes as long as it takes.
+    /// Closes all files, however long that takes.
     pub fn close(&mut self) {
         self.files.clear();
     }
 }
 
-/// Makes a file shorter by a piece, where it has no name and has more than that. Answers whether it did.
+/// Makes a file shorter by a piece, if it has no name and more bytes than that. Returns whether it did.
 fn is_shortened(file: &File) -> bool {
     let Ok(found) = file.metadata() else {
         return false;
@@ -66,8 +67,8 @@ fn is_shortened(file: &File) -> bool {
         && file.set_len(found.len().saturating_sub(PIECE)).is_ok()
 }
 
-/// Opens a file that is about to lose its name. None where it isn't there, or can't be opened: then the system gives back all of
-/// it once the name is gone.
+/// Opens a file that is about to lose its name. Returns `None` if it isn't there or can't be opened: then the system gives back
+/// all of it once the name is gone.
 pub fn opened_to_go<R: Files<File = File>>(rt: &R, path: &str) -> Option<File> {
     if !matches!(is_there(rt, path), Ok(true)) {
         return None;

@@ -1,4 +1,4 @@
-//! The files of a state, which are one process's own for as long as it lives.
+//! The files of a state, which belong to one process for as long as it lives.
 
 use crate::beside::{NEW, OLD_LOG, beside, remove, remove_logs};
 use crate::lock::lock_beside;
@@ -12,7 +12,7 @@ use am_disk::{
 use am_merge::Held;
 use am_snapshot::{SnapshotError, row_length_within};
 use am_version_order::Version;
-use am_wire::Message;
+use am_wire::{Message, Unknown};
 use std::alloc::Global;
 use std::fs::{self, File};
 use std::io::ErrorKind;
@@ -22,50 +22,51 @@ use std::rt::Files;
 /// A file of a state that no other process has, and the logs beside it.
 #[derive(Drop)]
 pub struct StateFile {
-    /// Where it stands, behind all links.
+    /// The path of the file, after following all links.
     path: PathBuf,
     /// The file beside it, which is locked until this is dropped.
     _lock: File,
-    /// The log beside it, where one is kept.
+    /// The log beside it, if one is kept.
     log: Option<StateLog>,
-    /// A log stands beside it that is to go once all is in the file.
+    /// True if a log stands beside it that is to go once the whole state is in the file.
     owes_save: bool,
-    /// How many bytes of the logs were being written when the last process ended.
+    /// The number of bytes of the logs that were being written when the last process ended.
     torn: u64,
-    /// How many bytes it has.
+    /// The size of the file in bytes.
     pub(crate) size: u64,
     /// The files that it replaced, and the old logs.
     pub(crate) spent: SpentFiles,
 }
 
-/// A state as it is opened.
+/// A state, just opened.
 #[derive(Drop)]
 pub struct OpenedState<V: Version> {
     pub file: StateFile,
-    /// What the file has, joined with what the logs beside it have.
+    /// The state of the file, joined with that of the logs beside it.
     pub held: Held<V>,
 }
 
-/// The file that a path names, and the state that it and the logs beside it hold. A file has at most so many bytes; a log is
-/// kept from now on, or not.
+/// Opens the file that a path names, with the state that the file and the logs beside it hold, treating unknown fields as
+/// `unknown` says. The file has at most `most` bytes; `keeps_log` says whether a log is kept from now on.
 ///
 /// # Errors
 ///
-/// The first [`FileFault`] that stands.
+/// The first [`FileFault`].
 pub fn open_state<V: Version + Message, R: Files<File = File> + AllocGlobal>(
     rt: &R,
+    unknown: Unknown,
     path: &str,
     most: u32,
     keeps_log: bool,
 ) -> Result<OpenedState<V>, FileFault> {
     let path = target_of(rt, path)?;
     let lock = lock_beside(rt, path.as_str())?;
-    let Recovered { held, logs } = load_state(rt, path.as_str(), most)?;
+    let Recovered { held, logs } = load_state(rt, unknown, path.as_str(), most)?;
     let file = state_file(rt, path, lock, logs, keeps_log)?;
     Ok(OpenedState { file, held })
 }
 
-/// The file at a path that was locked and read, with its logs.
+/// Returns the file at a path that was locked and read, with its logs.
 fn state_file<R: Files<File = File> + AllocGlobal>(
     rt: &R,
     path: PathBuf,
@@ -90,7 +91,7 @@ fn state_file<R: Files<File = File> + AllocGlobal>(
     })
 }
 
-/// How many bytes a file has; 0 where there is none.
+/// Returns the size of a file in bytes, or 0 if there is none.
 fn size_of<R: Files>(rt: &R, path: &str) -> Result<u64, FileFault> {
     match fs::metadata(rt, path) {
         Ok(found) => Ok(found.len()),
@@ -100,35 +101,35 @@ fn size_of<R: Files>(rt: &R, path: &str) -> Result<u64, FileFault> {
 }
 
 impl StateFile {
-    /// Where it stands, behind all links.
+    /// Returns the path of the file, after following all links.
     pub fn path(&self) -> &str {
         self.path.as_str()
     }
 
-    /// Whether a log stands beside it that is to go once all is in the file: one of an earlier time where none is kept, or one
-    /// that an earlier compaction has left.
+    /// Returns whether a log stands beside the file that is to go once the whole state is in the file: one of an earlier time if
+    /// none is kept, or one that an earlier compaction left.
     pub fn owes_save(&self) -> bool {
         self.owes_save
     }
 
-    /// How many bytes at the end of its logs were being written when the last process ended. Where a log is kept, they are cut
-    /// off.
+    /// Returns the number of bytes at the end of the logs that were being written when the last process ended. If a log is kept,
+    /// they are cut off.
     pub fn torn(&self) -> u64 {
         self.torn
     }
 
-    /// Saves a state of at most so many bytes, and begins its log anew. Answers how many bytes it has.
+    /// Saves a state of at most `most` bytes, and begins its log anew. Returns the size of the file in bytes.
     ///
     /// # Errors
     ///
-    /// Why it isn't saved, or the log not begun.
+    /// The reason why the state isn't saved, or the log not begun.
     pub fn save<V: Version, R: Files<File = File> + AllocGlobal>(
         &mut self,
         rt: &R,
         held: &Held<V>,
         most: u32,
     ) -> Result<u64, FileFault> {
-        // (it may be for want of room that all is saved)
+        // (want of room may be the reason for this save)
         self.spent.close();
         let bytes = save_file(
             &mut SystemDisk::new(rt),
@@ -143,7 +144,7 @@ impl StateFile {
         Ok(bytes)
     }
 
-    /// Begins the log anew, where one is kept, and removes those of an earlier time. All they had is in the file.
+    /// Begins the log anew, if one is kept, and removes those of an earlier time. Everything they had is in the file.
     fn end_logs<R: Files<File = File> + AllocGlobal>(&mut self, rt: &R) -> Result<(), FileFault> {
         let path = self.path.as_str();
         match &mut self.log {
@@ -156,13 +157,13 @@ impl StateFile {
         }
     }
 
-    /// Begins to write the file anew, which is to have at most so many bytes: what is committed from now on goes into a new log,
-    /// and the one before it is left as `FILE.log.old`. Where that stands already, nothing is renamed: what is written has all
-    /// of both logs. Answers how many bytes the state has now.
+    /// Begins to write the file anew, which is to have at most `most` bytes: what is committed from now on goes into a new log,
+    /// and the one before it is left as `FILE.log.old`. If that stands already, nothing is renamed: the new file has everything
+    /// in both logs. Returns the size of the state in bytes.
     ///
     /// # Errors
     ///
-    /// [`SnapshotError::TooLarge`], with nothing done, and what the system says.
+    /// [`SnapshotError::TooLarge`], with nothing done, or the error that the system reports.
     pub fn part_logs<V: Version, R: Files<File = File> + AllocGlobal>(
         &mut self,
         rt: &R,
@@ -182,7 +183,7 @@ impl StateFile {
         Ok(bytes)
     }
 
-    /// Ends the old log, and answers it where it is open. All it had is in the file.
+    /// Removes the old log, and returns it if it could be opened. Everything it had is in the file.
     pub(crate) fn end_old_log<R: Files<File = File> + AllocGlobal>(
         &mut self,
         rt: &R,
@@ -206,12 +207,12 @@ impl StateFile {
         Ok(())
     }
 
-    /// Removes what was written of the file anew.
+    /// Removes the new file, as far as it was written.
     pub fn drop_new<R: Files + AllocGlobal>(&self, rt: &R) {
         let _ = remove(rt, self.path.as_str(), NEW);
     }
 
-    /// Whether what is added to its log will be on the disk, where one is kept.
+    /// Returns whether what is added to the log will be on the disk, if one is kept.
     pub fn is_trusted(&self) -> bool {
         match &self.log {
             Some(log) => log.is_trusted(),
@@ -219,11 +220,11 @@ impl StateFile {
         }
     }
 
-    /// Adds rows to those that wait for the next commit of the log, where one is kept.
+    /// Adds rows to those that wait for the next commit of the log, if one is kept.
     ///
     /// # Errors
     ///
-    /// Why they don't wait.
+    /// The reason why the rows don't wait.
     pub fn append(&mut self, alloc: Global, rows: &[u8]) -> Result<(), FileFault> {
         match &mut self.log {
             Some(log) => log.append(alloc, rows),
@@ -231,11 +232,11 @@ impl StateFile {
         }
     }
 
-    /// Hands to the disk what waits, where a log is kept.
+    /// Hands the waiting rows to the disk, if a log is kept.
     ///
     /// # Errors
     ///
-    /// Why it isn't on the disk.
+    /// The reason why the rows aren't on the disk.
     pub fn commit(&mut self, alloc: Global) -> Result<(), FileFault> {
         match &mut self.log {
             Some(log) => log.commit(alloc),
@@ -243,7 +244,7 @@ impl StateFile {
         }
     }
 
-    /// Whether a log is kept that has outgrown the file.
+    /// Returns whether a log is kept that has outgrown the file.
     pub fn is_outgrown(&self) -> bool {
         match &self.log {
             Some(log) => log.is_outgrown(self.size),

@@ -6,7 +6,7 @@ use std::io::{self, ErrorKind, Read};
 use std::os::unix::fs::MetadataExt;
 use std::rt::Files;
 
-/// Whether a file has a name in some directory.
+/// Returns whether a file has a name in some directory.
 pub fn is_named(found: &Metadata) -> bool {
     found.nlink() > 0
 }
@@ -16,16 +16,16 @@ pub fn is_named(found: &Metadata) -> bool {
 #[derive(Drop)]
 pub struct WholeFile {
     file: File,
-    /// How many bytes it had when it was opened, and had its name.
+    /// The size of the file in bytes when it was opened, and had its name.
     size: u64,
 }
 
 impl WholeFile {
-    /// Opens the file at a path. Where that loses its name meanwhile, the one is opened that stands there then.
+    /// Opens the file at a path. If it loses its name meanwhile, the file that stands there then is opened.
     ///
     /// # Errors
     ///
-    /// What the system says.
+    /// The error that the system reports.
     pub fn open<R: Files<File = File>>(rt: &R, path: &str) -> Result<WholeFile, FileFault> {
         let (file, found) = opened(rt, path)?;
         let (file, found) = if is_named(&found) {
@@ -40,14 +40,14 @@ impl WholeFile {
     }
 }
 
-/// A file that is opened, and what the system says of it.
+/// Opens a file, and returns it with what the system knows of it.
 fn opened<R: Files<File = File>>(rt: &R, path: &str) -> Result<(File, Metadata), FileFault> {
     let file = fs::open(rt, path)?;
     let found = file.metadata()?;
     Ok((file, found))
 }
 
-/// Where it is shorter at its end than it was, that is [`ErrorKind::UnexpectedEof`].
+/// Reading fails with [`ErrorKind::UnexpectedEof`] if the file has become shorter by the time its end is reached.
 impl Read for WholeFile {
     fn read(&mut self, buf: &mut [u8]) -> io::Result<usize> {
         let read = self.file.read(buf)?;

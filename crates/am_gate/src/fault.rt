@@ -1,24 +1,24 @@
-//! Why no more is heard of a connection at its gate.
+//! The faults for which a gate ends a connection.
 
 use am_seal::SealError;
 use thiserror::Error;
 
-/// Why no more is heard of a connection. It is printed as its words in the program's line.
+/// The reason why nothing more is heard of a connection. It is printed as its words in the program's line.
 #[derive(Clone, Copy, Debug, PartialEq, Eq, Error)]
 pub enum GateFault {
-    /// Frames came where none are heard.
+    /// Frames came at an entrance that hears none.
     #[error("Door Frames")]
     Frames,
-    /// A request came where only frames are heard.
+    /// A request came at an entrance that hears only frames.
     #[error("Door Requests")]
     Requests,
-    /// Frames came unsealed, and members have a secret.
+    /// Frames came unsealed, and the members have a secret.
     #[error("Seal Missing")]
     Unsealed,
-    /// The input ended in a sealed frame, or in the greeting before.
+    /// The input ended in a sealed frame, or in the greeting before it.
     #[error("Seal Cut")]
     Cut,
-    /// A sealed frame isn't taken.
+    /// A sealed frame isn't accepted.
     #[error("Seal {0}")]
     Seal(SealError),
 }

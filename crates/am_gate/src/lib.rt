@@ -1,5 +1,5 @@
-//! What stands before the session of a connection: whether requests and frames are heard that come so, and where members have a
-//! secret, that each frame is one that a member sealed.
+//! The gate before the session of a connection: whether requests and frames are heard at an entrance, and, if members have a
+//! secret, whether each frame is one that a member sealed.
 #![tactic(auto)]
 
 mod fault;

@@ -1,14 +1,15 @@
-//! What passes to the session as it came, and what is turned back.
+//! What passes to the session unchanged, and what is turned back.
 
-ghost use Rattle.std.specs.Prelude.{◌≡◌};
+ghost use Rattle.std.specs.Prelude.{◌≡◌, ◌+◌, ◌≤◌, drop, length};
 ghost use Rattle.am_http.specs.Sessions.{nothing};
 ghost use Rattle.am_gate.specs.Gates.{IsTurnedBack, PassesOn, told, told_by, way_of};
 
 use crate::fault::GateFault;
 use am_http::session::{Session, SessionOutput};
+use am_seal::Sequence;
 use std::alloc::Global;
 
-/// What is heard of those who come by an entrance.
+/// The kinds of input that are heard at an entrance.
 #[derive(Clone, Copy, PartialEq, Eq)]
 pub enum Hears {
     Requests,
@@ -16,30 +17,65 @@ pub enum Hears {
     Both,
 }
 
-/// What a piece of a connection said.
+/// The output for a piece of a connection.
 #[derive(Drop)]
 pub struct Heard {
     pub said: SessionOutput,
-    /// Why no more is heard behind that.
+    /// The reason why nothing more is heard after that.
     pub fault: Option<GateFault>,
 }
 
-/// How far a connection is at its gate.
+/// The progress of a connection at its gate.
 #[derive(Drop)]
 pub enum State {
     /// No byte came.
     Fresh,
-    /// All goes to the session.
+    /// Everything goes to the session.
     Open,
-    /// The bytes of a greeting that came behind the first byte of a sealed connection.
+    /// The bytes of a greeting so far, behind the first byte of a sealed connection.
     Greeting(Vec<u8>),
-    /// The bytes of a sealed frame that isn't whole.
-    Sealed(Vec<u8>),
-    /// No more is heard.
+    /// A greeting came, and sealed frames follow it.
+    Sealed(Sealing),
+    /// Nothing more is heard.
     Closed,
 }
 
-/// What the session says of a piece.
+/// The progress of a connection whose frames are sealed.
+#[derive(Drop)]
+pub struct Sealing {
+    /// The place of the next frame, behind the challenge that this connection answers.
+    pub place: Sequence,
+    /// The number of bytes of the challenge that were sent.
+    pub out: usize,
+    /// The bytes of a frame that isn't whole.
+    pub waiting: Vec<u8>,
+}
+
+impl Sealing {
+    /// Returns the bytes of the challenge that are still to be written.
+    pub fn left(&self) -> &[u8]
+        ensures { result.now ≡ drop self.now.out self.now.place.challenge }
+    {
+        let challenge = self.place.challenge.as_slice();
+        if self.out < challenge.len() {
+            &challenge[self.out..]
+        } else {
+            &[]
+        }
+    }
+
+    /// Records that `count` more bytes of the challenge were sent.
+    pub fn sent(&mut self, count: usize)
+        requires within { count ≤ length (drop self.old.out self.old.place.challenge) }
+        ensures { self.new ≡ record (self.old) { out = self.old.out + count } }
+    {
+        let challenge = self.place.challenge.as_slice();
+        let end = challenge.len().max(self.out);
+        self.out = end.min(self.out.saturating_add(count));
+    }
+}
+
+/// Returns what the session says of a piece.
 pub fn pass_on(session: &mut Session, piece: &[u8]) -> (Heard, State)
     ensures { PassesOn session.old piece.now (told_by result.0) (way_of result.1) session.new }
 {
@@ -47,7 +83,7 @@ pub fn pass_on(session: &mut Session, piece: &[u8]) -> (Heard, State)
     (Heard { said, fault: None }, State::Open)
 }
 
-/// No more is heard, for this reason.
+/// Stops the session for this reason: nothing more is heard.
 pub fn turn_back(alloc: Global, session: &mut Session, fault: GateFault) -> (Heard, State)
     ensures { IsTurnedBack fault session.old (told_by result.0) (way_of result.1) session.new }
 {
@@ -59,7 +95,7 @@ pub fn turn_back(alloc: Global, session: &mut Session, fault: GateFault) -> (Hea
     (heard, State::Closed)
 }
 
-/// Nothing was said yet.
+/// Returns that nothing was said, with this state.
 pub fn wait(alloc: Global, state: State) -> (Heard, State)
     ensures said { told_by result.0 ≡ told nothing }
     ensures state { way_of result.1 ≡ way_of state }

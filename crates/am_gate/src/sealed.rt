@@ -1,23 +1,35 @@
-//! A sealed connection: a greeting, and sealed frames behind it.
+//! A sealed connection: a greeting, the challenge that is sent back, and sealed frames that answer it.
 
 ghost use Rattle.std.specs.Prelude.{◌≡◌, ◌++◌, IfSome};
 ghost use Rattle.am_gate.specs.Gates.{Greets, IsFailed, IsGreeted, IsKept, Unseals, greeting, told_by, way_of};
 
 use crate::fault::GateFault;
-use crate::passing::{Heard, State, turn_back, wait};
+use crate::passing::{Heard, Sealing, State, turn_back, wait};
 use am_gossip::{FrameError, read_hello};
 use am_http::session::{Session, SessionOutput};
-use am_seal::{Lock, Opened, open_piece};
+use am_seal::{CHALLENGE, Lock, Opened, Sequence, open_piece};
 use std::alloc::Global;
 
-/// Has the frames be said that were opened. No more is heard where one wasn't taken behind them; else these bytes wait.
-fn keep(session: &mut Session, opened: Opened, waiting: Vec<u8>) -> (Heard, State)
-    ensures { IsKept opened.frames.items opened.fault waiting.items session.old (told_by result.0) (way_of result.1) session.new }
+/// Returns the opened frames. If one behind them wasn't accepted, nothing more is heard; otherwise `waiting` waits, and `out`
+/// bytes of the challenge were sent.
+fn keep(session: &mut Session, opened: Opened, out: usize, waiting: Vec<u8>) -> (Heard, State)
+    ensures { IsKept opened.frames.items opened.fault opened.next out waiting.items session.old (told_by result.0) (way_of result.1) session.new }
 {
-    let Opened { frames, fault } = opened;
+    let Opened {
+        frames,
+        fault,
+        next,
+    } = opened;
     let said = SessionOutput::heard(frames, None);
     match fault {
-        None => (Heard { said, fault: None }, State::Sealed(waiting)),
+        None => {
+            let sealing = Sealing {
+                place: next,
+                out,
+                waiting,
+            };
+            (Heard { said, fault: None }, State::Sealed(sealing))
+        }
         Some(error) => {
             session.stop();
             let fault = Some(GateFault::Seal(error));
@@ -26,45 +38,52 @@ fn keep(session: &mut Session, opened: Opened, waiting: Vec<u8>) -> (Heard, Stat
     }
 }
 
-/// The frames of right sums that end in a piece, from the peer that greeted so.
+/// Returns the frames with right sums that end in a piece, from the peer that greeted.
 pub fn unseal(
     alloc: Global,
     session: &mut Session,
     lock: Lock<'_>,
-    waiting: Vec<u8>,
+    sealing: Sealing,
     piece: &[u8],
 ) -> (Heard, State)
-    ensures { Unseals lock.entry session.old (waiting.items ++ piece.now) (told_by result.0) (way_of result.1) session.new }
+    ensures { Unseals lock.entry sealing.place sealing.out session.old (sealing.waiting.items ++ piece.now) (told_by result.0) (way_of result.1) session.new }
 {
+    let Sealing {
+        place,
+        out,
+        waiting,
+    } = sealing;
     let mut waiting = waiting;
     let Some(sender) = session.name() else {
         return turn_back(alloc, session, GateFault::Unsealed);
     };
-    let opened = open_piece(alloc, lock, sender, &mut waiting, piece);
-    keep(session, opened, waiting)
+    let opened = open_piece(alloc, lock, sender, place, &mut waiting, piece);
+    keep(session, opened, out, waiting)
 }
 
-/// What a greeting says, and the sealed frames behind it.
+/// Returns what a greeting says, and the sealed frames behind it that answer a challenge.
 fn greeted(
     alloc: Global,
     session: &mut Session,
     lock: Lock<'_>,
+    challenge: [u8; CHALLENGE],
     name: &str,
     greeting: &[u8],
     behind: &[u8],
 ) -> (Heard, State)
-    ensures { IsGreeted lock.entry name.now session.old greeting.now behind.now (told_by result.0) (way_of result.1) session.new }
+    ensures { IsGreeted lock.entry challenge name.now session.old greeting.now behind.now (told_by result.0) (way_of result.1) session.new }
 {
     let said = session.feed(greeting);
     if said.fault.is_some() {
         return (Heard { said, fault: None }, State::Closed);
     }
     let mut waiting = Vec::new(alloc);
-    let opened = open_piece(alloc, lock, name, &mut waiting, behind);
-    keep(session, opened, waiting)
+    let place = Sequence::new(challenge);
+    let opened = open_piece(alloc, lock, name, place, &mut waiting, behind);
+    keep(session, opened, 0, waiting)
 }
 
-/// The bytes of a greeting that isn't whole wait.
+/// Returns the state in which the bytes of a greeting that isn't whole wait.
 fn wait_on(alloc: Global, bytes: &[u8]) -> Option<State>
     ensures { IfSome result (λ state. way_of state ≡ greeting bytes.now) }
 {
@@ -74,14 +93,20 @@ fn wait_on(alloc: Global, bytes: &[u8]) -> Option<State>
     }
 }
 
-/// What the bytes say that came of a sealed connection behind its first byte.
-fn greet(alloc: Global, session: &mut Session, lock: Lock<'_>, bytes: &[u8]) -> (Heard, State)
-    ensures { Greets lock.entry session.old bytes.now (told_by result.0) (way_of result.1) session.new }
+/// Returns what the bytes behind the first byte of a sealed connection so far say.
+fn greet(
+    alloc: Global,
+    session: &mut Session,
+    lock: Lock<'_>,
+    challenge: [u8; CHALLENGE],
+    bytes: &[u8],
+) -> (Heard, State)
+    ensures { Greets lock.entry challenge session.old bytes.now (told_by result.0) (way_of result.1) session.new }
 {
     match read_hello(bytes) {
         Ok(Some((name, len))) => {
             let (greeting, behind) = bytes.split_at(len);
-            greeted(alloc, session, lock, name, greeting, behind)
+            greeted(alloc, session, lock, challenge, name, greeting, behind)
         }
         Ok(None) => match wait_on(alloc, bytes) {
             Some(state) => wait(alloc, state),
@@ -91,7 +116,7 @@ fn greet(alloc: Global, session: &mut Session, lock: Lock<'_>, bytes: &[u8]) -> 
     }
 }
 
-/// The greeting is at fault.
+/// Stops the session because its greeting is at fault.
 fn fail(alloc: Global, session: &mut Session, error: FrameError) -> (Heard, State)
     ensures { IsFailed error session.old (told_by result.0) (way_of result.1) session.new }
 {
@@ -103,19 +128,20 @@ fn fail(alloc: Global, session: &mut Session, error: FrameError) -> (Heard, Stat
     (heard, State::Closed)
 }
 
-/// What a piece says behind the bytes that came of a sealed greeting.
+/// Returns what a piece says that follows the bytes of a sealed greeting so far.
 pub fn greet_on(
     alloc: Global,
     session: &mut Session,
     lock: Lock<'_>,
+    challenge: [u8; CHALLENGE],
     bytes: Vec<u8>,
     piece: &[u8],
 ) -> (Heard, State)
-    ensures { Greets lock.entry session.old (bytes.items ++ piece.now) (told_by result.0) (way_of result.1) session.new }
+    ensures { Greets lock.entry challenge session.old (bytes.items ++ piece.now) (told_by result.0) (way_of result.1) session.new }
 {
     let mut bytes = bytes;
     match bytes.extend_from_slice(piece) {
-        Ok(()) => greet(alloc, session, lock, &bytes),
+        Ok(()) => greet(alloc, session, lock, challenge, &bytes),
         Err(_) => fail(alloc, session, FrameError::Memory),
     }
 }

@@ -12,37 +12,37 @@ use Rattle.am_gossip.specs.declared.frame.Part.{Part}
 use Rattle.am_gossip.specs.declared.frame.StateKey.TheVariants as keys
 use Rattle.am_gossip.specs.Parts.{reads_part, writes_part, reads_parts, writes_parts}
 
--- what kind of frame it is
+-- the kind of a frame
 abbrev pub kind_of : Frame → FrameKind
 kind_of (Delta p) = kinds.Delta
 kind_of (Push parts) = kinds.Push
 kind_of (Pull parts) = kinds.Pull
 kind_of Tick = kinds.Tick
 
--- the one payload that is written for a frame
+-- the canonical payload of a frame
 abbrev pub payload_text : Frame → List ℕ
 payload_text (Delta p) = writes_part p
 payload_text (Push parts) = writes_parts parts
 payload_text (Pull parts) = writes_parts parts
 payload_text Tick = []
 
--- the one text that is written for a frame
+-- the canonical text of a frame
 abbrev pub frame_text : Frame → List ℕ
 frame_text f = code_of (kind_of f) ∷ (shortest (length (payload_text f)) ++ payload_text f)
 
--- bytes that begin with others
+-- the second bytes begin with the first
 abbrev pub BeginsWith : List ℕ → List ℕ → Type 0
 BeginsWith front bytes = (rest : List ℕ) × (bytes ≡ front ++ rest)
 
--- the payload keeps the limit of its kind
+-- the payload is within the limit of its kind
 abbrev pub fits : Frame → Bool
 fits f = nat_le (length (payload_text f)) (limit (kind_of f))
 
--- the parts of a full state, by the rows of both states, the silences first
+-- the parts of a full state, from the rows of both states, with the silences first
 abbrev pub states : List ℕ → List ℕ → List Part
 states silences log = record { key = keys.Sil; bytes = silences } ∷ record { key = keys.Nfl; bytes = log } ∷ []
 
--- the frame of a kind that a payload spells, or the first fault in it
+-- the frame of a kind that a payload spells, or its first fault
 unfoldable pub reads_payload : FrameKind → List ℕ → Result Frame FrameError
 reads_payload kinds.Delta bytes = reads_part 0 bytes >>= (λ p. Ok (Delta p))
 reads_payload kinds.Push bytes = reads_parts bytes >>= (λ parts. Ok (Push parts))

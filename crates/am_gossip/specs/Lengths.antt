@@ -1,4 +1,4 @@
--- A length that comes byte by byte.
+-- The reading of lengths byte by byte.
 use Rattle.std.specs.Prelude.{◌≡◌, ℕ, ◌+◌, ◌≤◌, List, [], ◌∷◌, ◌++◌, length, All, Ok, Err}
 use Rattle.am_wire.specs.declared.error.WireError.TheVariants.{LongVarint}
 use Rattle.am_wire.specs.Varint.{total, varint_at}
@@ -12,7 +12,7 @@ pub record IsGroups (g : Groups) (bytes : List ℕ) : Type 0 where
   pub value : g.value ≡ total bytes
   pub go_on : All (λ b. 128 ≤ b) bytes
 
--- what one byte behind them makes of the number, whatever follows
+-- one more byte has this effect on the number, whatever follows
 abbrev pub Continues : List ℕ → ℕ → Next → Type 0
 Continues bytes byte (More g) = IsGroups g (bytes ++ byte ∷ [])
 Continues bytes byte (Whole n) = (rest : List ℕ) → varint_at 0 (bytes ++ byte ∷ rest) ≡ Ok (n, length bytes + 1)

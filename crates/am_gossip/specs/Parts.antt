@@ -16,50 +16,50 @@ use Rattle.am_gossip.specs.Keys.{key_of, key_text}
 abbrev pub part_table : Table
 part_table = table_of (text_row 1 ∷ blob_row 2 ∷ [])
 
--- the part of these fields, where its key names a state
+-- the part that these fields make, if its key names a state
 abbrev pub part_value : List FieldAt → Option Part
 part_value es = option_map (λ key. record { key = key; bytes = last_text 2 es }) (key_of (last_text 1 es))
 
--- a part has no test that a wire fault could tell
+-- the fault that a part's tests find, which is none that a wire error could express
 abbrev pub part_tests : ℕ → List FieldAt → Option WireError
 part_tests place es = None
 
--- a key that names no state is found where the part ends
+-- the part, or the fault of a key that names no state, which is found at the part's end
 abbrev pub known : Result (Option Part) WireError → Result Part FrameError
 known (Ok (Some p)) = Ok p
 known (Ok None) = Err UnknownState
 known (Err e) = Err (Wire e)
 
--- the part that the bytes spell, or the first fault; they begin at the offset `at`
+-- the part that the bytes spell, or their first fault; they begin at the offset `at`
 unfoldable pub reads_part : ℕ → List ℕ → Result Part FrameError
 reads_part at bytes = known (read_by part_table part_tests part_value at at bytes)
 
--- the one text that is written for a part
+-- the canonical text of a part
 unfoldable pub writes_part : Part → List ℕ
 writes_part p = writes_text 1 (key_text p.key) ++ writes_text 2 p.bytes
 
 -- ---- a full state
--- number 1 is a part, which is bytes; other numbers are passed over
+-- the wire types of a full state's fields: the number 1 is a part, which is bytes, and other numbers are skipped
 abbrev pub parts_fit : ℕ → WireType → Bool
 parts_fit number kind = if number == 1 then is_bytes kind else true
 
--- the part in a field, where it is one
+-- the part in a field, if there is one
 unfoldable pub parts_in : FieldAt → Result (List Part) FrameError
 parts_in e =
     if e.number == 1
     then (elim e.payload [ delimited_at at bytes ↦ reads_part at bytes >>= (λ p. Ok (p ∷ [])) | _ ↦ Ok [] ])
     else Ok []
 
--- the parts in fields that come one after the other, or the first fault
+-- the parts in a list of fields, or the first fault
 unfoldable pub parts_of : List (Result FieldAt WireError) → Result (List Part) FrameError
 parts_of [] = Ok []
 parts_of (Ok e ∷ items) = parts_in e >>= λ parts. parts_of items >>= λ others. Ok (parts ++ others)
 parts_of (Err e ∷ items) = Err (Wire e)
 
--- the parts that the bytes spell, or the first fault
+-- the parts that the bytes spell, or their first fault
 unfoldable pub reads_parts : List ℕ → Result (List Part) FrameError
 reads_parts bytes = parts_of (fields_of parts_fit 0 bytes)
 
--- the one text that is written for a full state
+-- the canonical text of a full state
 unfoldable pub writes_parts : List Part → List ℕ
 writes_parts parts = writes_messages writes_part 1 parts

@@ -1,4 +1,4 @@
-//! Frames as they are written. How long each part is, is known before anything is written.
+//! The writing of frames. The length of each part is computed before anything is written.
 
 ghost use Rattle.std.specs.Prelude.{◌≡◌, ℕ, List, ◌++◌, ◌+◌, ◌<◌, ◌≤◌, ◌^◌, ◌⊎◌, ◌↔◌, Err, length, OnOk, OnErr, IfOk, IfErr};
 ghost use Rattle.am_wire.specs.Sizes.{counted};
@@ -17,10 +17,10 @@ use am_wire::write_varint;
 use am_wire::writing::varint_size;
 use std::alloc::{AllocError, Global};
 
-/// The tag of a part in a full state: bytes under the number 1.
+/// The tag of a part in a full state: that of bytes with the number 1.
 const PART_TAG: u64 = 10;
 
-/// How many bytes a field has whose payload is so many bytes.
+/// Returns the length of a field whose payload has `size` bytes.
 fn delimited_len(number: u32, size: u64) -> u64
     requires number { number < 2 ^ 29 }
     requires size { size + 20 < 2 ^ 64 }
@@ -30,7 +30,7 @@ fn delimited_len(number: u32, size: u64) -> u64
     varint_size(u64::from(number) * 8 + 2) + varint_size(size) + size
 }
 
-/// How many bytes a field of so many bytes has; where there are none, it is left out.
+/// Returns the length of a field of `size` bytes, which is left out if there are none.
 fn bytes_len(number: u32, size: u64) -> u64
     requires number { number < 2 ^ 29 }
     requires size { size + 20 < 2 ^ 64 }
@@ -44,7 +44,7 @@ fn bytes_len(number: u32, size: u64) -> u64
     }
 }
 
-/// How many bytes a part has that holds so many bytes.
+/// Returns the length of a part that holds `size` bytes.
 #[tactic(auto, unfolding(crate::specs::Parts::writes_part))]
 fn part_size(key: StateKey, size: u64) -> u64
     requires { size + 100 < 2 ^ 64 }
@@ -61,7 +61,7 @@ fn part_len(part: &Part) -> u64
     part_size(part.key, part.bytes.as_slice().len() as u64)
 }
 
-/// How many bytes a full state has.
+/// Returns the length of a full state.
 #[tactic(auto, unfolding(crate::specs::Parts::writes_parts))]
 fn parts_len(parts: &[Part]) -> u128
     ensures { result ≡ length (writes_parts parts.now) }
@@ -83,7 +83,7 @@ fn payload_len(frame: &Frame) -> u128
     }
 }
 
-// Each of these leaves at the front what was there, whatever it answers.
+// Each function here that appends keeps the bytes in front of what it appends, even if it fails.
 fn append_varint(out: &mut Vec<u8>, value: u64) -> Result<(), AllocError>
     ensures ok { OnOk result (out.new.items ≡ out.old.items ++ shortest value) }
     ensures front { BeginsWith out.old.items out.new.items }
@@ -92,7 +92,7 @@ fn append_varint(out: &mut Vec<u8>, value: u64) -> Result<(), AllocError>
     Ok(())
 }
 
-/// Writes bytes as a field; where there are none, it is left out.
+/// Appends bytes as a field, which is left out if there are none.
 fn push_bytes(out: &mut Vec<u8>, number: u32, bytes: &[u8]) -> Result<(), AllocError>
     requires { number < 2 ^ 29 }
     ensures ok { OnOk result (out.new.items ≡ out.old.items ++ writes_text number bytes.now) }
@@ -115,7 +115,7 @@ fn push_part(out: &mut Vec<u8>, part: &Part) -> Result<(), AllocError>
     push_bytes(out, 2, part.bytes.as_slice())
 }
 
-/// Writes a part as a field of a full state.
+/// Appends a part as a field of a full state.
 fn take_item(out: &mut Vec<u8>, part: &Part) -> Result<(), AllocError>
     ensures ok { OnOk result (out.new.items ≡ out.old.items ++ writes_delimited 1 (writes_part part.now)) }
     ensures front { BeginsWith out.old.items out.new.items }
@@ -147,7 +147,7 @@ fn push_payload(out: &mut Vec<u8>, frame: &Frame) -> Result<(), AllocError>
     }
 }
 
-/// How many bytes a frame's payload has, where it keeps the limit of its kind.
+/// Returns the length of a frame's payload, or [`FrameError::Length`] if it is over the limit of its kind.
 fn payload_size(frame: &Frame) -> Result<u64, FrameError>
     ensures exact { IfOk result (λ size. size ≡ length (payload_text frame.now)) }
     ensures within { OnOk result (length (payload_text frame.now) ≤ limit (kind_of frame.now)) }
@@ -160,7 +160,7 @@ fn payload_size(frame: &Frame) -> Result<u64, FrameError>
     Ok(size as u64)
 }
 
-/// Writes a frame whose payload has so many bytes.
+/// Appends a frame whose payload has `size` bytes.
 fn push_frame(out: &mut Vec<u8>, frame: &Frame, size: u64) -> Result<(), AllocError>
     requires { size ≡ length (payload_text frame.now) }
     ensures ok { OnOk result (out.new.items ≡ out.old.items ++ frame_text frame.now) }
@@ -171,13 +171,13 @@ fn push_frame(out: &mut Vec<u8>, frame: &Frame, size: u64) -> Result<(), AllocEr
     push_payload(out, frame)
 }
 
-/// Writes a frame in its one form: the byte of its kind, the length of its payload in the shortest spelling, and
-/// the payload. It takes memory once, for exactly these bytes.
+/// Returns the canonical text of a frame: the byte of its kind, the length of its payload in the shortest spelling, and the
+/// payload. Memory is allocated once, for exactly these bytes.
 ///
 /// # Errors
 ///
-/// [`FrameError::Length`] for a payload over its kind's limit, of 4,194,304 bytes for a Delta and 67,108,864 for a
-/// Push or a Pull, whatever memory there is; else [`FrameError::Memory`].
+/// [`FrameError::Length`] for a payload over its kind's limit, which is 4,194,304 bytes for a Delta and 67,108,864 for a Push
+/// or a Pull, whatever memory there is; or else [`FrameError::Memory`].
 pub fn encode_frame(alloc: Global, frame: &Frame) -> Result<Vec<u8>, FrameError>
     // PROMISE: A frame is written in its one form.
     ensures written { IfOk result (λ bytes. bytes.items ≡ frame_text frame.now) }
@@ -191,11 +191,11 @@ pub fn encode_frame(alloc: Global, frame: &Frame) -> Result<Vec<u8>, FrameError>
     Ok(out)
 }
 
-/// Writes a frame, in the form of [`encode_frame`], behind what `out` holds.
+/// Appends the canonical text of a frame, as [`encode_frame`] returns it.
 ///
 /// # Errors
 ///
-/// As [`encode_frame`]. Either leaves what `out` holds as it was.
+/// As for [`encode_frame`]. The bytes in `out` are unchanged after either.
 pub fn append_frame(out: &mut Vec<u8>, frame: &Frame) -> Result<(), FrameError>
     ensures written { OnOk result (out.new.items ≡ out.old.items ++ frame_text frame.now) }
     ensures unchanged { OnErr result (out.new.items ≡ out.old.items) }
@@ -211,15 +211,15 @@ pub fn append_frame(out: &mut Vec<u8>, frame: &Frame) -> Result<(), FrameError>
     Ok(())
 }
 
-/// Whether the payload of a frame keeps the limit of its kind. It takes no memory.
+/// Returns whether the payload of a frame is within the limit of its kind. Nothing is allocated.
 pub fn frame_fits(frame: &Frame) -> bool
     ensures { result ≡ fits frame.now }
 {
     payload_len(frame) <= u128::from(frame.kind().limit())
 }
 
-/// Whether a Delta keeps its limit whose part holds so many bytes, where [`u64::MAX`] stands for every number that is
-/// no less. It takes no memory.
+/// Returns whether a Delta is within its limit if its part holds `size` bytes; [`u64::MAX`] represents every number that is
+/// at least that. Nothing is allocated.
 pub fn delta_fits(key: StateKey, size: u64) -> bool
     ensures { (part : Part) → part.key ≡ key → size ≡ counted (length part.bytes) → result ≡ fits (frames.Delta part) }
 {
@@ -227,8 +227,8 @@ pub fn delta_fits(key: StateKey, size: u64) -> bool
     size <= limit && part_size(key, size) <= limit
 }
 
-/// Whether a Push, or a Pull, keeps its limit whose parts hold so many bytes of silences and so many of the log. It
-/// takes no memory.
+/// Returns whether a Push, or a Pull, is within its limit if its parts hold `silences` bytes of silences and `log` bytes of
+/// the log. Nothing is allocated.
 #[tactic(auto, unfolding(crate::specs::Parts::writes_parts))]
 pub fn states_fit(silences: u64, log: u64) -> bool
     ensures push { (row_of_silences row_of_log : List ℕ) → length row_of_silences ≡ silences → length row_of_log ≡ log →

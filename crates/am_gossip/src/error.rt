@@ -1,4 +1,4 @@
-//! Why a frame could not be read or written.
+//! The reasons why a frame can't be read or written.
 
 ghost use Rattle.std.specs.Prelude.{◌≡◌};
 ghost use Rattle.am_gossip.specs.declared.error.FrameError.TheVariants.{Memory};
@@ -8,22 +8,22 @@ use am_wire::WireError;
 use std::alloc::{AllocError, AllocFailed};
 use thiserror::Error;
 
-/// The first fault that stands, in the order in which a stream is read.
+/// The first fault, in the order in which a stream is read.
 #[derive(Clone, Copy, Debug, PartialEq, Eq, Error)]
 pub enum FrameError {
-    /// No frame begins with this byte.
+    /// The byte is not one with which a frame begins.
     #[error("Kind")]
     Kind,
     /// The length of a greeting or a frame is out of its range.
     #[error("Length")]
     Length,
-    /// A fault in a payload; offsets count from the payload's first byte.
+    /// A payload has this fault; offsets count from the payload's first byte.
     #[error("{0}")]
     Wire(WireError),
-    /// A part's key names no state.
+    /// The key of a part names no state.
     #[error("UnknownState")]
     UnknownState,
-    /// The stream ended with an earlier fault.
+    /// The stream has ended with an earlier fault.
     #[error("Ended")]
     Ended,
     #[error("Memory")]

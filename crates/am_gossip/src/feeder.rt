@@ -11,16 +11,16 @@ use crate::reading::{End, Read, finish_frame, read_frames};
 use std::alloc::Global;
 use std::marker::Model;
 
-/// What a piece of a stream brought.
+/// The result of reading a piece of a stream.
 #[derive(Drop)]
 pub struct Fed {
     /// The frames that end in the piece, in their order.
     pub frames: Vec<Frame>,
-    /// What stands behind them, where it is a fault.
+    /// The fault behind the frames, if there is one.
     pub fault: Option<FrameError>,
 }
 
-/// Reads the frames in the bytes behind those read so far; what is left of the bytes is held.
+/// Reads the frames in the bytes that follow those read so far, and keeps the rest of the bytes in `held`.
 fn take_rest(
     alloc: Global,
     mut frames: Vec<Frame>,
@@ -39,7 +39,7 @@ fn take_rest(
     Ok((frames, end))
 }
 
-/// Reads the frames in what is held and a piece behind it; what is left of both is held.
+/// Reads the frames in the bytes held and a piece behind them, and keeps the rest of both in `held`.
 fn take_piece(
     alloc: Global,
     held: &mut Vec<u8>,
@@ -67,10 +67,10 @@ fn take_piece(
     }
 }
 
-/// Reads a stream of frames that comes in pieces.
+/// A reader of a stream of frames that arrives in pieces.
 ///
-/// Contracts see it as the rest that waits, or nothing after a fault. It looks at each byte of a header once, and
-/// at a payload once it is whole; only bytes of a frame that isn't whole are held.
+/// Contracts see it as the rest that is held, or as nothing after a fault. It examines each byte of a header once, and a
+/// payload once it is whole. It holds only the bytes of a frame that isn't whole.
 #[derive(Drop)]
 pub struct Feeder {
     alloc: Global,
@@ -91,7 +91,7 @@ impl Model for Feeder {
 }
 
 impl Feeder {
-    /// At the beginning of a stream. It takes no memory.
+    /// Returns a reader at the beginning of a stream. Nothing is allocated.
     pub fn new(alloc: Global) -> Self
         ensures { result ≡ Some [] }
     {
@@ -102,7 +102,7 @@ impl Feeder {
         }
     }
 
-    /// How many bytes wait for the rest of their frame; 0 after a fault. It takes no memory.
+    /// Returns the number of bytes that are held until the rest of their frame arrives; 0 after a fault. Nothing is allocated.
     pub fn waiting(&self) -> usize
         ensures { result ≡ length (rest_bytes self.now) }
     {
@@ -113,15 +113,14 @@ impl Feeder {
         }
     }
 
-    /// Reads the next piece of the stream: the frames that end in it, and the fault that stands behind them, if
-    /// there is one.
+    /// Reads the next piece of the stream, and returns the frames that end in it, and the fault behind them if there is one.
     ///
-    /// Where the pieces are cut makes no difference.
+    /// The result doesn't depend on how the stream is cut into pieces.
     ///
     /// # Errors
     ///
-    /// [`FrameError::Ended`] after a fault, else [`FrameError::Memory`] where memory runs out, which leaves the feeder as
-    /// it was.
+    /// [`FrameError::Ended`] after a fault; otherwise [`FrameError::Memory`] if memory runs out, which leaves the feeder
+    /// unchanged.
     pub fn feed(&mut self, piece: &[u8]) -> Result<Fed, FrameError>
         // PROMISE: A peer's bytes are the frames that they spell, up to the first fault.
         ensures frames { IfOk result (λ fed. fed.frames.items ≡ (stream_of (rest_bytes self.old ++ piece.now)).frames) }

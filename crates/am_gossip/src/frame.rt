@@ -1,4 +1,4 @@
-//! Frames and what they carry.
+//! Frames and their content.
 
 ghost use Rattle.std.specs.Prelude.{◌≡◌, IfOk};
 ghost use Rattle.am_gossip.specs.Keys.{key_of, key_text};
@@ -9,17 +9,17 @@ use am_wire::Bytes;
 use std::alloc::{AllocError, Global};
 use std::marker::Model;
 
-/// The state that a part belongs to.
+/// The state to which a part belongs.
 #[derive(Clone, Copy, Debug, PartialEq, Eq)]
 pub enum StateKey {
-    /// Silences.
+    /// The silences.
     Sil,
     /// The notification log.
     Nfl,
 }
 
 impl StateKey {
-    /// The state that a key names.
+    /// Returns the state that a key names, if there is one.
     pub fn from_text(text: &str) -> Option<StateKey>
         ensures { result ≡ key_of text.now }
     {
@@ -30,7 +30,7 @@ impl StateKey {
         }
     }
 
-    /// Its key.
+    /// Returns the key of the state.
     pub fn as_str(self) -> &'static str
         ensures { result.now ≡ key_text self }
     {
@@ -41,7 +41,7 @@ impl StateKey {
     }
 }
 
-/// Versions of one state, as a row of messages.
+/// Some versions of one state, as a row of messages.
 #[derive(Drop)]
 pub struct Part {
     pub key: StateKey,
@@ -49,11 +49,11 @@ pub struct Part {
 }
 
 impl Part {
-    /// A copy.
+    /// Returns a copy.
     ///
     /// # Errors
     ///
-    /// [`AllocError`] where memory runs out.
+    /// [`AllocError`] if memory runs out.
     pub fn try_clone(&self, alloc: Global) -> Result<Part, AllocError>
         ensures { IfOk result (λ copy. copy ≡ self.now) }
     {
@@ -65,7 +65,7 @@ impl Part {
     }
 }
 
-/// Parts in their order, which may hold one state twice. Contracts see the list.
+/// A list of parts in their order, which may contain the same state twice. Contracts see the list.
 #[derive(Drop)]
 pub struct FullState {
     parts: Vec<Part>,
@@ -81,7 +81,7 @@ impl Model for FullState {
 }
 
 impl FullState {
-    /// These parts. It takes no memory.
+    /// Returns a state of these parts, without allocating.
     pub fn new(parts: Vec<Part>) -> FullState
         ensures { result ≡ parts.items }
     {
@@ -94,11 +94,11 @@ impl FullState {
         self.parts.as_slice()
     }
 
-    /// A copy.
+    /// Returns a copy.
     ///
     /// # Errors
     ///
-    /// [`AllocError`] where memory runs out.
+    /// [`AllocError`] if memory runs out.
     pub fn try_clone(&self, alloc: Global) -> Result<FullState, AllocError>
         ensures { IfOk result (λ copy. copy ≡ self.now) }
     {
@@ -109,7 +109,7 @@ impl FullState {
         Ok(FullState { parts })
     }
 
-    /// Gives the parts back. It takes no memory.
+    /// Returns the vector of the parts, without allocating.
     pub fn into_vec(self) -> Vec<Part>
         ensures { result.items ≡ self }
     {
@@ -118,7 +118,7 @@ impl FullState {
     }
 }
 
-/// What one peer sends to another.
+/// A message from one peer to another.
 #[derive(Drop)]
 pub enum Frame {
     Delta(Part),
@@ -139,11 +139,11 @@ impl Frame {
         }
     }
 
-    /// A copy.
+    /// Returns a copy.
     ///
     /// # Errors
     ///
-    /// [`AllocError`] where memory runs out.
+    /// [`AllocError`] if memory runs out.
     pub fn try_clone(&self, alloc: Global) -> Result<Frame, AllocError>
         ensures { IfOk result (λ copy. copy ≡ self.now) }
     {

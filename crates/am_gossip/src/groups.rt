@@ -2,14 +2,14 @@
 
 ghost use Rattle.std.specs.Prelude.{◌≡◌, ◌<◌, ◌≤◌, ◌^◌};
 
-/// The groups of a number that came so far, each of which says that another follows.
+/// The groups of a number read so far, each of which says that another follows.
 #[derive(Clone, Copy)]
 pub struct Groups {
-    /// The number that they stand for.
+    /// The number that the groups represent.
     pub value: u64,
-    /// What the next group is multiplied by.
+    /// The factor of the next group.
     pub scale: u64,
-    /// How many they are.
+    /// The number of groups.
     pub places: usize,
     ghost below: { value < scale },
     ghost scale_is: { scale ≡ 128 ^ places },
@@ -17,7 +17,7 @@ pub struct Groups {
 }
 
 impl Groups {
-    /// None came yet.
+    /// Returns no groups.
     pub fn none() -> Self
         ensures value { result.value ≡ 0 }
         ensures places { result.places ≡ 0 }

@@ -1,10 +1,10 @@
-//! Whole headers.
+//! The complete header of a frame.
 
 ghost use Rattle.std.specs.Prelude.{◌≤◌};
 
 use crate::kind::FrameKind;
 
-/// A frame's header that was read: its kind, the length of its payload, and its own.
+/// A complete header of a frame: its kind, the length of its payload, and its own length.
 #[derive(Clone, Copy)]
 pub struct Head {
     pub kind: FrameKind,

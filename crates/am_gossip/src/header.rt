@@ -1,4 +1,4 @@
-//! Headers that come byte by byte.
+//! The reading of headers byte by byte.
 
 ghost use Rattle.std.specs.Prelude.{◌++◌, ◌∷◌, [], List, ℕ};
 ghost use Rattle.am_gossip.specs.Standings.{IsAt, Stands};
@@ -10,14 +10,14 @@ use crate::head::Head;
 use crate::kind::FrameKind;
 use crate::length::{Next, next_group};
 
-/// How far the frame at the front of a stream was read.
+/// The progress in reading the frame at the front of a stream.
 #[derive(Clone, Copy)]
 pub enum HeaderProgress {
-    /// No byte of it came.
+    /// None of its bytes is read.
     Before,
-    /// Its kind was read, and these groups of its length.
+    /// The kind is read, and these groups of the length.
     InLength { kind: FrameKind, groups: Groups },
-    /// Its header was read.
+    /// The header is read.
     InPayload(Head),
 }
 
@@ -34,7 +34,7 @@ fn read_kind(code: u8) -> Result<HeaderProgress, FrameError>
     }
 }
 
-/// Reads on in the length of a frame of this kind.
+/// Reads the next byte in the length of a frame of this kind.
 fn read_length(kind: FrameKind, groups: Groups, byte: u8) -> Result<HeaderProgress, FrameError>
     ensures { (bytes : List ℕ) → IsAt (InLength kind groups) bytes → Stands result (bytes ++ byte ∷ []) }
 {
@@ -54,7 +54,7 @@ fn read_length(kind: FrameKind, groups: Groups, byte: u8) -> Result<HeaderProgre
     }
 }
 
-/// Reads one more byte of a frame; behind its header nothing changes.
+/// Reads the next byte of a frame; behind the header nothing changes.
 fn read_byte(standing: HeaderProgress, byte: u8) -> Result<HeaderProgress, FrameError>
     ensures { (before : List ℕ) → IsAt standing before → Stands result (before ++ byte ∷ []) }
 {
@@ -65,7 +65,7 @@ fn read_byte(standing: HeaderProgress, byte: u8) -> Result<HeaderProgress, Frame
     }
 }
 
-/// Reads on in a header, up to its end or to that of the bytes.
+/// Continues reading a header, up to its end or that of the bytes.
 pub fn read_header(standing: HeaderProgress, bytes: &[u8]) -> Result<HeaderProgress, FrameError>
     ensures { (before : List ℕ) → IsAt standing before → Stands result (before ++ bytes.now) }
 {

@@ -6,10 +6,10 @@ ghost use Rattle.am_gossip.specs.Hellos.{hello_of, hello_seen, name_at};
 use crate::error::FrameError;
 use am_wire::{WireError, read_varint};
 
-/// The most bytes of a member's name.
+/// The maximum length of a member's name in bytes.
 pub const MOST_NAME_BYTES: u64 = 255;
 
-/// The name at the front of the bytes, behind `start` others.
+/// Returns the name at the front of the bytes, which are behind `start` others, and the greeting's length.
 fn name_from(bytes: &[u8], size: usize, start: usize) -> Result<Option<(&str, usize)>, FrameError>
     requires { start + size < 2 ^ 64 }
     ensures { hello_seen result ≡ name_at size start bytes.now }
@@ -23,13 +23,13 @@ fn name_from(bytes: &[u8], size: usize, start: usize) -> Result<Option<(&str, us
     }
 }
 
-/// Reads the greeting at the front of a connection's bytes: the sender's name, and how many bytes the greeting
-/// takes. None says that bytes are wanting. It takes no memory.
+/// Reads the greeting at the front of a connection's bytes, and returns the sender's name and the length of the greeting, or
+/// `None` if more bytes are needed. Nothing is allocated.
 ///
 /// # Errors
 ///
-/// [`FrameError::Kind`] where the first byte is not 0, [`FrameError::Length`] where the name's length is not 1 to 255,
-/// and a `NotUtf8` at 0 where the name is no text.
+/// [`FrameError::Kind`] if the first byte is not 0, [`FrameError::Length`] if the name's length is not 1 to 255, and a
+/// `NotUtf8` at 0 if the name is not UTF-8.
 #[tactic(auto, unfolding(crate::specs::Hellos::hello_of))]
 pub fn read_hello(bytes: &[u8]) -> Result<Option<(&str, usize)>, FrameError>
     ensures exact { hello_seen result ≡ hello_of bytes.now }

@@ -3,7 +3,7 @@
 ghost use Rattle.std.specs.Prelude.{◌≡◌};
 ghost use Rattle.am_gossip.specs.Kinds.{kind_at, code_of, limit};
 
-/// What a frame is for.
+/// The purpose of a frame.
 #[derive(Clone, Copy, Debug, PartialEq, Eq)]
 pub enum FrameKind {
     /// Some versions of one state.
@@ -12,12 +12,12 @@ pub enum FrameKind {
     Push,
     /// Whole states, as an answer.
     Pull,
-    /// Nothing: it is time to collect.
+    /// An empty frame: it is time to collect.
     Tick,
 }
 
 impl FrameKind {
-    /// The kind that a frame's first byte names.
+    /// Returns the kind that a frame's first byte names, if there is one.
     pub fn from_code(code: u8) -> Option<FrameKind>
         ensures { result ≡ kind_at code }
     {
@@ -30,7 +30,7 @@ impl FrameKind {
         }
     }
 
-    /// The first byte of its frames.
+    /// Returns the first byte of its frames.
     pub fn code(self) -> u8
         ensures { result ≡ code_of self }
     {
@@ -42,7 +42,7 @@ impl FrameKind {
         }
     }
 
-    /// The most bytes that a payload of its frames may have.
+    /// Returns the maximum length of its frames' payloads.
     pub fn limit(self) -> u64
         ensures { result ≡ limit self }
     {

@@ -1,25 +1,25 @@
-//! Lengths that come byte by byte.
+//! The reading of lengths byte by byte.
 
 ghost use Rattle.std.specs.Prelude.{List, ℕ};
 ghost use Rattle.am_gossip.specs.Lengths.{IsGroups, Continues};
 
 use crate::groups::Groups;
 
-/// The most groups of a number, and one less.
+/// The maximum number of groups in a number, minus one.
 const LAST_PLACE: usize = 9;
 
-/// What one more byte makes of a number.
+/// The effect of one more byte on a number.
 #[derive(Clone, Copy)]
 pub enum Next {
     /// Another byte follows.
     More(Groups),
-    /// It was the last byte of this number.
+    /// The byte was the last one of this number.
     Whole(u64),
     /// The number has more than 64 bits.
     TooLong,
 }
 
-/// Reads on in a number.
+/// Reads the next byte of a number.
 pub fn next_group(groups: Groups, byte: u8) -> Next
     ensures { (bytes : List ℕ) → IsGroups groups bytes → Continues bytes byte result }
 {

@@ -1,4 +1,4 @@
-//! What peers send one another: frames, and the stream that they come in.
+//! The messages between peers: frames, and the stream in which they are sent.
 #![tactic(auto)]
 
 mod encode;

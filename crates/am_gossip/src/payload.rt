@@ -1,4 +1,4 @@
-//! Payloads as they are read.
+//! The reading of payloads.
 
 ghost use Rattle.std.specs.Prelude.{◌≡◌, ◌≢◌, List, ◌++◌, ◌+◌, ◌<◌, ◌^◌, length, OnOk, IfErr};
 ghost use Rattle.am_wire.specs.Fields.{field_of};
@@ -15,7 +15,7 @@ use am_wire::reading::{LastBytes, LastText, MessageReader, Scan, Schema, read_me
 use am_wire::{Bytes, Field, Value, WireError, WireType};
 use std::alloc::Global;
 
-/// A part as it is read.
+/// The draft of a part.
 #[derive(Clone, Copy)]
 pub struct PartDraft<'a> {
     key: LastText<'a>,
@@ -39,7 +39,7 @@ impl<'a> MessageReader<'a> for PartDraft<'a> {
     ghost use Rattle.am_gossip.specs.Parts.{part_value, part_tests};
     ghost use Rattle.am_gossip.specs.Drafts.{IsPartDraft};
 
-    /// None where the key names no state.
+    /// The part, or `None` if the key names no state.
     type Done = Option<Part>;
 
     ghost inside = { part_table.inside };
@@ -75,7 +75,7 @@ impl<'a> MessageReader<'a> for PartDraft<'a> {
     }
 }
 
-/// Which wire types the fields of a full state may have.
+/// The schema of a full state.
 pub struct PartFields;
 
 impl Schema for PartFields {
@@ -99,7 +99,7 @@ fn read_part(alloc: Global, bytes: &[u8], at: usize) -> Result<Part, FrameError>
     }
 }
 
-/// Reads the part in a field, where it is one, and puts it behind those before it.
+/// Reads the part in a field, if there is one, and appends it to the others.
 #[tactic(auto, unfolding(crate::specs::Parts::parts_in))]
 fn take_part(alloc: Global, parts: &mut Vec<Part>, field: Field<'_>) -> Result<(), FrameError>
     ensures held { OnOk result ((read : List Part) × (parts_in (field_of field.entry) ≡ Ok read)
@@ -113,7 +113,7 @@ fn take_part(alloc: Global, parts: &mut Vec<Part>, field: Field<'_>) -> Result<(
     Ok(())
 }
 
-/// Reads a full state from the whole of a payload.
+/// Reads a full state from a whole payload.
 fn read_full_state(alloc: Global, bytes: &[u8]) -> Result<FullState, FrameError>
     ensures { GivesUnlessMemory result (reads_parts bytes.now) }
 {

@@ -12,25 +12,25 @@ use crate::header::{HeaderProgress, read_header};
 use crate::payload::read_payload;
 use std::alloc::Global;
 
-/// What was read at the front of a stream.
+/// The result of reading the front of a stream.
 #[derive(Drop)]
 pub enum Read {
-    /// A frame of so many bytes.
+    /// A frame of `len` bytes.
     Frame { frame: Frame, len: usize },
     /// The beginning of a frame.
     Waits(HeaderProgress),
     Fault(FrameError),
 }
 
-/// How the reading of a piece ended.
+/// The end of reading a piece.
 #[derive(Clone, Copy)]
 pub enum End {
-    /// With the beginning of a frame, or nothing.
+    /// The beginning of a frame, or nothing.
     Waits(HeaderProgress),
     Fault(FrameError),
 }
 
-/// Reads a frame whose header was read from its whole payload.
+/// Reads a frame, whose header is read already, from its whole payload.
 fn read_whole(alloc: Global, head: Head, payload: &[u8]) -> Result<Read, FrameError>
     ensures read { IfOk result (λ read. (bytes : List ℕ) → IsWhole head bytes payload.now → IsRead read bytes) }
     ensures refused { IfErr result (λ e. e ≡ Memory) }
@@ -66,8 +66,8 @@ pub fn read_frame(alloc: Global, bytes: &[u8]) -> Result<Read, FrameError>
     read_whole(alloc, head, &bytes[head.len..len])
 }
 
-/// Reads on in the frame that waits: what `held` holds of it, and the piece behind it. What the piece has of the
-/// frame is put behind what is held.
+/// Continues reading a frame that isn't whole, from the part of it in `held` and the piece behind that. The frame's bytes in
+/// the piece are appended to `held`.
 pub fn finish_frame(
     alloc: Global,
     held: &mut Vec<u8>,
@@ -97,7 +97,7 @@ pub fn finish_frame(
     read_whole(alloc, head, &held[head.len..])
 }
 
-/// Reads the frames that lie whole in the bytes, which are not copied, and answers what is left and how it ended.
+/// Reads the frames that are whole in the bytes, without copying them, and returns the rest and how the reading ended.
 pub fn read_frames<'a>(
     alloc: Global,
     frames: &mut Vec<Frame>,

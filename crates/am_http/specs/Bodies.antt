@@ -1,4 +1,4 @@
--- How many bytes the body of a request has, by the fields of its head (RFC 9112, section 6; RFC 9110, section 8.6).
+-- The length of a request's body, by the fields of its head (RFC 9112, section 6; RFC 9110, section 8.6).
 use Rattle.std.specs.Prelude.{◌≡◌, ◌≢◌, ℕ, ◌<◌, ◌≤◌, List, [], ◌∷◌, length, All, IsTrue, codes, Result, Ok, Err, ⊤}
 use Rattle.std.specs.Char.{is_ascii_digit}
 use Rattle.std.specs.Str.Parse.{digits_value}
@@ -8,19 +8,19 @@ use Rattle.am_http.specs.declared.cause.Cause.TheVariants.{TransferEncoding, Bad
 use Rattle.am_http.specs.declared.fields.Named.{Named}
 use Rattle.am_http.specs.declared.fields.Named.TheVariants.{Missing, Once, Often}
 
--- 1 to 18 digits
+-- the text is 1 to 18 digits
 pub record IsLengthText (text : List ℕ) : Type 0 where
   pub some : 0 < length text
   pub few : length text ≤ 18
   pub digits : All (λ b. IsTrue (is_ascii_digit b)) text
 
--- the values of `content-length` give this length; where there is none, the body is empty
+-- the values of `content-length` give this length; the body is empty if there are none
 abbrev pub LengthIs : List (List ℕ) → ℕ → Type 0
 LengthIs [] n = n ≡ 0
 LengthIs (text ∷ []) n = IsLengthText text × (n ≡ digits_value 10 text)
 LengthIs (_ ∷ (_ ∷ _)) n = ⊥
 
--- a value of `content-length` is no length, or there are two
+-- a value of `content-length` isn't a length, or there are two values
 abbrev pub HasBadLength : List (List ℕ) → Type 0
 HasBadLength [] = ⊥
 HasBadLength (text ∷ []) = ¬ (IsLengthText text)
@@ -34,7 +34,7 @@ encodings fields = values_of (codes "transfer-encoding") fields
 abbrev pub lengths : List NamedValue → List (List ℕ)
 lengths fields = values_of (codes "content-length") fields
 
--- the fields name the length of a body that may be read
+-- the fields give the length of a body that may be read
 pub record NamesLength (fields : List NamedValue) (n : ℕ) : Type 0 where
   pub uncoded : encodings fields ≡ []
   pub named : LengthIs (lengths fields) n

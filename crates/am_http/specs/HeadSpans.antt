@@ -1,4 +1,4 @@
--- What the parser's offsets say of the bytes that came.
+-- The meaning of the parser's offsets for the bytes that have come.
 use Rattle.std.specs.Prelude.{ℕ, ◌<◌, List, length}
 use Rattle.httparse.specs.Spans.{IsRequestOf, IsRequestWithin}
 use Rattle.httparse.specs.declared.spans.HeaderSpan.{HeaderSpan}
@@ -7,7 +7,7 @@ use Rattle.am_http.specs.declared.cause.Cause.TheVariants.{HeadTooLarge, BadHead
 use Rattle.am_http.specs.declared.head.Head.{Head}
 use Rattle.am_http.specs.declared.head.Head.TheVariants.{Open, Whole, Refused}
 
--- what stands at the front, and where its parts and its fields are
+-- this is what the front of the bytes holds, with the places of its parts and fields
 abbrev pub IsHeadOf : List ℕ → List HeaderSpan → Head → Type 0
 IsHeadOf bytes fields Open = (length bytes < 16384) × IsOpenHead bytes
 IsHeadOf bytes fields (Whole spans) = IsRequestWithin (window bytes) fields spans × IsRequestOf (window bytes) fields spans

@@ -1,24 +1,24 @@
--- The head of a request (RFC 9112, sections 2 to 5) in the bytes that came.
+-- The head of a request (RFC 9112, sections 2 to 5), in the bytes that have come.
 use Rattle.std.specs.Prelude.{ℕ, ◌≤◌, ◌⊎◌, List, [], ◌∷◌, length, take, map, if◌then◌else◌}
 use Rattle.std.specs.Str.{str_eq_ignore_ascii_case}
 use Rattle.httparse.specs.Grammar.{RequestHead, ReadsRequest, HasNoRequest, NeverHasRequest, MayBecomeRequest}
 use Rattle.httparse.specs.Spans.{RequestExceeds, name_and_value}
 
--- a field of a head: its name, and its value without the white space around it
+-- a field of a head: its name, and its value without the surrounding white space
 abbrev pub NamedValue : Type 0
 NamedValue = List ℕ × List ℕ
 
--- the bytes in which a head has to end
+-- the bytes within which a head has to end
 abbrev pub window : List ℕ → List ℕ
 window bytes = take 16384 bytes
 
--- a head stands at the front, ends in the window, and has at most 64 fields
+-- a head is at the front, ends in the window, and has at most 64 fields
 pub record HasHead (bytes : List ℕ) (h : RequestHead) : Type 0 where
   pub rest : List ℕ
   pub reads : ReadsRequest (window bytes) h rest
   pub room : length h.fields ≤ 64
 
--- no head stands at the front yet, and more bytes can make one
+-- no head is at the front yet, and more bytes can make one
 pub record IsOpenHead (bytes : List ℕ) : Type 0 where
   pub none : HasNoRequest (window bytes)
   pub may_become : MayBecomeRequest (window bytes)
@@ -27,7 +27,7 @@ pub record IsOpenHead (bytes : List ℕ) : Type 0 where
 abbrev pub HasLargeHead : List ℕ → Type 0
 HasLargeHead bytes = ((16384 ≤ length bytes) × IsOpenHead bytes) ⊎ RequestExceeds 64 (window bytes)
 
--- whatever follows, no head stands at the front
+-- no head is at the front, whatever follows
 abbrev pub HasBadHead : List ℕ → Type 0
 HasBadHead bytes = NeverHasRequest (window bytes)
 
@@ -35,7 +35,7 @@ HasBadHead bytes = NeverHasRequest (window bytes)
 abbrev pub fields_of : RequestHead → List NamedValue
 fields_of h = map name_and_value h.fields
 
--- the values of the fields of a name, which is in any ASCII case (RFC 9110, section 5.1)
+-- the values of the fields with this name, in any ASCII case (RFC 9110, section 5.1)
 abbrev pub values_of : List ℕ → List NamedValue → List (List ℕ)
 values_of name [] = []
 values_of name (f ∷ fs) = if str_eq_ignore_ascii_case f.0 name then f.1 ∷ values_of name fs else values_of name fs

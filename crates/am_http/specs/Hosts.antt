@@ -1,4 +1,5 @@
--- The hosts that a server is asked under (RFC 9110, section 7.2), and the sites of the pages that ask (RFC 6454, sections 6 and 7).
+-- The hosts by which a server is addressed (RFC 9110, section 7.2), and the sites of the pages that ask (RFC 6454, sections 6 and
+-- 7).
 use Rattle.std.specs.Prelude.{◌≡◌, ◌⊎◌, ◌==◌, ◌||◌, ℕ, ◌+◌, ◌<◌, Bool, true, false, not, List, [], ◌∷◌, length, take, drop, map, codes, Option, None, Some, slice_get, if◌then◌else◌}
 use Rattle.std.specs.Borrow.{Bor}
 use Rattle.std.specs.List.{take_while, list_all, list_any}
@@ -11,16 +12,16 @@ use Rattle.am_http.specs.declared.hosts.Screened.TheVariants.{Open, Known, Forei
 use Rattle.am_http.specs.Heads.{HasHead, HasBadHead, HasLargeHead, IsOpenHead, NamedValue, fields_of}
 use Rattle.am_http.specs.Lines.{RefusalLine, is_head, line}
 
--- texts, without where they lie in memory
+-- the texts, regardless of their place in memory
 abbrev pub texts : List (Bor (List ℕ)) → List (List ℕ)
 texts names = map (λ name. name.now) names
 
--- how many bytes stand before the first one that is this, or in all where none is
+-- the number of bytes before the first `mark`, or of all bytes if there is none
 abbrev pub length_before : ℕ → List ℕ → ℕ
 length_before mark text = length (take_while (λ b. not (b == mark)) text)
 
--- the name of a host by its first byte: an address of IPv6 stands in [ and ] (RFC 3986, section 3.2.2), and another name before the
--- first colon
+-- the name of a host by its first byte: an IPv6 address is in [ and ] (RFC 3986, section 3.2.2), and any other name ends before
+-- the first colon
 abbrev pub name_by : Option ℕ → List ℕ → List ℕ
 name_by None authority = []
 name_by (Some first) authority =
@@ -30,23 +31,23 @@ name_by (Some first) authority =
 abbrev pub host_name : List ℕ → List ℕ
 host_name authority = name_by (slice_get authority 0) authority
 
--- what stands behind the first slash
+-- the bytes behind the first slash
 abbrev pub behind_slash : List ℕ → List ℕ
 behind_slash text = drop (length_before 47 text + 1) text
 
--- the host of a page's site, which stands behind its scheme and two slashes
+-- the host of a page's site, which follows its scheme and two slashes
 abbrev pub site_of : List ℕ → List ℕ
 site_of origin = behind_slash (behind_slash origin)
 
--- a name is one of these, in any ASCII case
+-- the name is one of these, in any ASCII case
 abbrev pub is_one_of : List ℕ → List (List ℕ) → Bool
 is_one_of name names = list_any (λ known. str_eq_ignore_ascii_case name known) names
 
--- what a server is always called
+-- the names that a server always has
 abbrev pub own_names : List (List ℕ)
 own_names = codes "127.0.0.1" ∷ codes "localhost" ∷ []
 
--- a host is the server's own, at whatever port, or has one of these names
+-- the host is the server's own, at any port, or has one of these names
 abbrev pub is_known : List (List ℕ) → List ℕ → Bool
 is_known names authority = is_one_of (host_name authority) own_names || is_one_of (host_name authority) names
 
@@ -55,12 +56,12 @@ abbrev pub field_of : Foreign → List ℕ
 field_of names_foreign.Host = codes "host"
 field_of names_foreign.Origin = codes "origin"
 
--- the value of such a field names nothing foreign
+-- the value of a field of this kind names nothing foreign
 abbrev pub is_fine : Foreign → List (List ℕ) → List ℕ → Bool
 is_fine names_foreign.Host names value = is_known names value
 is_fine names_foreign.Origin names value = is_known names (site_of value)
 
--- a field is another one, or names nothing foreign
+-- the field is another one, or names nothing foreign
 abbrev pub is_fine_field : Foreign → List (List ℕ) → NamedValue → Bool
 is_fine_field what names field = if str_eq_ignore_ascii_case field.0 (field_of what) then is_fine what names field.1 else true
 
@@ -68,27 +69,27 @@ is_fine_field what names field = if str_eq_ignore_ascii_case field.0 (field_of w
 abbrev pub all_known : Foreign → List (List ℕ) → List NamedValue → Bool
 all_known what names fields = list_all (is_fine_field what names) fields
 
--- the target of a request for whether a server is up, or is ready: who probes it names whatever host it was told
+-- the target asks whether the server is up, or ready: such a probe names whatever host it was told
 abbrev pub is_probe : List ℕ → Bool
 is_probe target = bytes_eq target (codes "/-/healthy") || bytes_eq target (codes "/-/ready")
 
--- no host is foreign, or whatever host is named makes no difference
+-- no host is foreign, or it makes no difference which host is named
 abbrev pub may_ask : List (List ℕ) → RequestHead → Bool
 may_ask names head = is_probe head.target || all_known names_foreign.Host names (fields_of head)
 
--- what a foreign request is answered (RFC 9110, section 15.5.4), by its head alone where it asks for no more
+-- the answer to a foreign request (RFC 9110, section 15.5.4): its head alone if the request asks for no more
 abbrev pub line_of_foreign : Foreign → Bool → RefusalLine
 line_of_foreign names_foreign.Host bare = record (line 403 (codes "foreign host")) { bare = bare }
 line_of_foreign names_foreign.Origin bare = record (line 403 (codes "foreign origin")) { bare = bare }
 
--- this is the first that is foreign of the fields of a head, hosts before origins (a probe's host is never foreign)
+-- this is the first foreign name in the fields of a head, hosts before origins (a probe's host is never foreign)
 abbrev pub IsFirstForeign : List (List ℕ) → RequestHead → Foreign → Type 0
 IsFirstForeign names head names_foreign.Host = may_ask names head ≡ false
 IsFirstForeign names head names_foreign.Origin =
     (may_ask names head ≡ true) × (all_known names_foreign.Origin names (fields_of head) ≡ false)
 
--- What the bytes that came of a request say of where it comes from: the first field that is foreign, and whether its method is HEAD;
--- nothing foreign is named in the head, or it is at fault; or it isn't whole.
+-- What the bytes of a request so far say about where it comes from: its first foreign field, and whether its method is HEAD; or
+-- that its head names nothing foreign, or is at fault; or that the head isn't whole.
 abbrev pub IsScreened : List (List ℕ) → List ℕ → Screened → Type 0
 IsScreened names bytes Open = (length bytes < 16384) × IsOpenHead bytes
 IsScreened names bytes Known = (HasLargeHead bytes ⊎ HasBadHead bytes)

@@ -1,4 +1,4 @@
--- The table of statuses: the line that each cause of a refusal has.
+-- The table of statuses: the line for each cause of a refusal.
 use Rattle.std.specs.Prelude.{ℕ, List, Bool, false, Option, Some, None, codes}
 use Rattle.std.specs.Option.{option_copied}
 use Rattle.std.specs.Str.{bytes_eq}
@@ -12,14 +12,14 @@ use Rattle.am_http.specs.declared.refusal.Refusal.{Refusal}
 use Rattle.am_http.specs.declared.cause.Resource.{Resource}
 use Rattle.am_http.specs.declared.cause.Resource.TheVariants.{Silences, Silence}
 
--- a status, what is said, the methods that there are where another was asked for, and whether the reply has its head alone
+-- a status, a text, the available methods if another was asked for, and whether the reply has its head alone
 pub record RefusalLine : Type 0 where
   pub status : ℕ
   pub text : List ℕ
   pub allow : Option (List ℕ)
   pub bare : Bool
 
--- a refusal's line, without where its texts lie in memory
+-- the line of a refusal, regardless of where its texts lie in memory
 abbrev pub line_seen : Refusal → RefusalLine
 line_seen refusal = record {
   status = refusal.status;
@@ -28,11 +28,11 @@ line_seen refusal = record {
   bare = refusal.is_bare;
 }
 
--- the method is HEAD, to which a reply has its head alone (RFC 9110, section 9.3.2)
+-- the method is HEAD, which is answered with the head of a reply alone (RFC 9110, section 9.3.2)
 abbrev pub is_head : List ℕ → Bool
 is_head method = bytes_eq method (codes "HEAD")
 
--- a line as it is told to a request of this method
+-- a line as it is told to a request with this method
 abbrev pub told_to : List ℕ → RefusalLine → RefusalLine
 told_to method said = record said { bare = is_head method }
 
@@ -40,12 +40,12 @@ told_to method said = record said { bare = is_head method }
 abbrev pub line : ℕ → List ℕ → RefusalLine
 line status text = record { status = status; text = text; allow = None; bare = false }
 
--- the methods of what a path names
+-- the methods of the resource that a path names
 abbrev pub allowed_at : Resource → List ℕ
 allowed_at Silences = codes "GET, POST"
 allowed_at Silence = codes "GET, DELETE"
 
--- what is said of a key that is wanting or wrong
+-- the text for a key that is missing or wrong
 abbrev pub bad_key : Key → List ℕ
 bad_key Id = codes "bad silence: id"
 bad_key Matchers = codes "bad silence: matchers"

@@ -1,4 +1,4 @@
--- Which calls on silences API v2 has, and which of them a request asks for.
+-- The calls on silences of API v2, and the call that a request asks for.
 use Rattle.std.specs.Prelude.{◌≡◌, ◌≢◌, ◌==◌, ℕ, ◌<◌, List, ◌++◌, length, Contains, codes, Result, Ok, Err}
 use Rattle.std.specs.List.{before_first, after_first}
 use Rattle.am_http.specs.declared.cause.Cause.{Cause}
@@ -7,11 +7,11 @@ use Rattle.am_http.specs.declared.cause.Resource.TheVariants.{Silences, Silence}
 use Rattle.am_http.specs.declared.routes.Call.{Call}
 use Rattle.am_http.specs.declared.routes.Call.TheVariants.{List as ListCall, Get, Post, Delete}
 
--- the path of a target: what stands before the first `?` (RFC 3986, section 3)
+-- the path of a target: the part before the first `?` (RFC 3986, section 3)
 abbrev pub path_of : List ℕ → List ℕ
 path_of target = before_first (λ b. b == 63) target
 
--- the query of a target: what stands behind the first `?`
+-- the query of a target: the part behind the first `?`
 abbrev pub query_of : List ℕ → List ℕ
 query_of target = after_first (λ b. b == 63) target
 
@@ -19,13 +19,13 @@ query_of target = after_first (λ b. b == 63) target
 abbrev pub silences_path : List ℕ
 silences_path = codes "/api/v2/silences"
 
--- the path is that of the silence with this identifier, which is not empty and has no `/`
+-- the path is that of the silence with this identifier, which isn't empty and has no `/`
 pub record IsPathOf (path id : List ℕ) : Type 0 where
   pub spelled : path ≡ codes "/api/v2/silence/" ++ id
   pub some : 0 < length id
   pub one : ¬ (Contains id 47)
 
--- the call that a request with this method and target asks for; or its path names nothing, or has no such method
+-- the call that a request with this method and target asks for; or its path names nothing, or doesn't have this method
 abbrev pub IsCallOf : List ℕ → List ℕ → Result Call Cause → Type 0
 IsCallOf method target (Ok (ListCall query)) = (path_of target ≡ silences_path) × (method ≡ codes "GET") × (query.now ≡ query_of target)
 IsCallOf method target (Ok Post) = (path_of target ≡ silences_path) × (method ≡ codes "POST")

@@ -1,4 +1,4 @@
--- The filters that a query asks for. A query is a form: pairs between `&`, percent-encoded (the URL Standard, section 5).
+-- The filters in a query, which is a form: percent-encoded pairs between `&` (the URL Standard, section 5).
 use Rattle.std.specs.Prelude.{ℕ, List, [], ◌∷◌, codes, nat_eq, if◌then◌else◌}
 use Rattle.std.specs.Str.Lossy.{utf8_lossy}
 use Rattle.std.specs.Cmp.Lexicographic.{pointwise}
@@ -8,7 +8,7 @@ use Rattle.form_urlencoded.specs.Form as form
 abbrev pub decoded : List ℕ → List ℕ
 decoded bytes = utf8_lossy (form.decode bytes)
 
--- the values of the pairs whose name is `filter`, in order
+-- the values of the pairs named `filter`, in order
 abbrev pub filters_among : List (List ℕ × List ℕ) → List (List ℕ)
 filters_among [] = []
 filters_among (pair ∷ pairs) =

@@ -2,7 +2,7 @@
 use Rattle.std.specs.Prelude.{ℕ, List, [], ◌++◌, length, codes, decimal, unwrap_or, Option, Some, None}
 use Rattle.http.specs.StatusCode.{reason_phrase}
 
--- the field that names the methods that there are, or none
+-- the field that names the available methods, or nothing
 abbrev pub allow_line : Option (List ℕ) → List ℕ
 allow_line None = []
 allow_line (Some methods) = codes "allow: " ++ (methods ++ codes "\r\n")

@@ -1,4 +1,4 @@
--- What the bytes that came say of a request.
+-- What the bytes that have come say of a request.
 use Rattle.std.specs.Prelude.{◌≡◌, ℕ, ◌+◌, ◌<◌, ◌≤◌, ◌⊎◌, Bool, List, [], length, take, drop, Err, IsTrue, string_bytes}
 use Rattle.httparse.specs.Grammar.{RequestHead, print_request}
 use Rattle.am_http.specs.Lines.{line_seen, line_of}
@@ -17,7 +17,7 @@ use Rattle.am_http.specs.declared.request.Read.TheVariants.{More, Whole, Refused
 abbrev pub behind : RequestHead → List ℕ → List ℕ
 behind h bytes = drop (length (print_request h)) bytes
 
--- a whole request stands at the front: a head, and as many bytes behind it as its fields name
+-- a whole request is at the front: a head, followed by as many bytes as its fields say
 pub record IsRequestIn (bytes method target body : List ℕ) : Type 0 where
   pub head : RequestHead
   pub has_head : HasHead bytes head
@@ -28,7 +28,7 @@ pub record IsRequestIn (bytes method target body : List ℕ) : Type 0 where
   pub whole : count ≤ length (behind head bytes)
   pub body_is : body ≡ take count (behind head bytes)
 
--- there is a head, and the body ends at the byte `end`, which has not come
+-- there is a head, and the body ends at the byte `end`, which hasn't come
 pub record IsOpenBody (bytes : List ℕ) (end : ℕ) : Type 0 where
   pub head : RequestHead
   pub has_head : HasHead bytes head
@@ -37,11 +37,11 @@ pub record IsOpenBody (bytes : List ℕ) (end : ℕ) : Type 0 where
   pub end_is : end ≡ length (print_request head) + count
   pub wanting : length bytes < end
 
--- nothing is at fault, and bytes of the head or of the body are wanting
+-- nothing is at fault, and bytes of the head or of the body are missing
 abbrev pub IsUnfinished : List ℕ → Type 0
 IsUnfinished bytes = ((length bytes < 16384) × IsOpenHead bytes) ⊎ ((end : ℕ) × IsOpenBody bytes end)
 
--- there is a head, and this is at fault with the fields that say how the body ends
+-- there is a head, and its fields that say where the body ends have this fault
 abbrev pub HasBodyFault : List ℕ → Cause → Type 0
 HasBodyFault bytes cause = (h : RequestHead) × HasHead bytes h × IsBodyLength (fields_of h) (Err cause)
 
@@ -54,7 +54,7 @@ HasFault bytes BadContentLength = HasBodyFault bytes BadContentLength
 HasFault bytes BodyTooLarge = HasBodyFault bytes BodyTooLarge
 HasFault bytes _ = ⊥
 
--- how far the request has come
+-- this is the progress of the request
 abbrev pub IsStandingOf : List ℕ → RequestProgress → Type 0
 IsStandingOf bytes at.Head = (length bytes < 16384) × IsOpenHead bytes
 IsStandingOf bytes (at.Body end) = IsOpenBody bytes end
@@ -65,22 +65,22 @@ IsStandingOf bytes (at.Refused cause) = HasFault bytes cause
 abbrev pub IsWholeRequest : List ℕ → Request → Type 0
 IsWholeRequest bytes request = IsRequestIn bytes (string_bytes request.method) (string_bytes request.target) request.body.items
 
--- the request with these parts, or that there was no memory for it
+-- the result is the request with these parts, or a refusal because memory ran out
 abbrev pub IsTakenFrom : List ℕ → List ℕ → List ℕ → Read → Type 0
 IsTakenFrom method target body (Whole request) =
     (string_bytes request.method ≡ method) × (string_bytes request.target ≡ target) × (request.body.items ≡ body)
 IsTakenFrom method target body (Refused refusal) = line_seen refusal ≡ line_of Memory
 IsTakenFrom method target body More = ⊥
 
--- Why bytes are refused: by their first fault, since the input ended in them, or since there was no memory for the
--- request that they are.
+-- Bytes are refused for their first fault, because the input ended in them, or because there was no memory for the request that
+-- they are.
 abbrev pub IsRefusedFor : List ℕ → Bool → Cause → Type 0
 IsRefusedFor bytes ended EndedEarly = IsTrue ended × (0 < length bytes) × IsUnfinished bytes
 IsRefusedFor bytes ended Memory = (method : List ℕ) × (target : List ℕ) × (body : List ℕ) × IsRequestIn bytes method target body
 IsRefusedFor bytes ended cause = HasFault bytes cause
 
--- What was read of bytes behind which the input ended or may go on: the whole request, the line of the first fault
--- that stands, or that neither is decided.
+-- The result of reading bytes, after which the input ended or may go on: the whole request, the line of its first fault, or that
+-- neither is decided.
 abbrev pub IsReadOf : List ℕ → Bool → Read → Type 0
 IsReadOf bytes ended More = IsUnfinished bytes × (IsTrue ended → bytes ≡ [])
 IsReadOf bytes ended (Whole request) = IsWholeRequest bytes request

@@ -1,4 +1,4 @@
--- One connection, whose bytes come in pieces: how far it has come, and what each piece says.
+-- One connection, whose bytes come in pieces: its progress, and what each piece says.
 use Rattle.std.specs.Prelude.{◌≡◌, ◌⊎◌, ℕ, ◌+◌, ◌-◌, ◌<◌, ◌≤◌, false, true, List, [], ◌∷◌, ◌++◌, length, take, drop, Option, Some, None, Result, Ok, Err}
 use Rattle.std.specs.Option.{option_or}
 use Rattle.am_gossip.specs.declared.error.FrameError.{FrameError}
@@ -19,9 +19,9 @@ use Rattle.am_http.specs.declared.session.fault.SessionFault.{SessionFault}
 use Rattle.am_http.specs.declared.session.fault.SessionFault.TheVariants.{TooLarge, Frame as InFrame}
 use Rattle.am_http.specs.declared.session.output.SessionOutput.{SessionOutput}
 
--- How far a connection has come. No byte came; or the beginning of a request came, or of a greeting. Or a greeting of this
--- name came, so many bytes in all, the last of which are the beginning of a frame. Or no more is heard of it, and this is
--- the name of its greeting, where one came.
+-- The progress of a connection: before its first byte; in a request, with its bytes so far; in a greeting, with its bytes so far;
+-- in the frames behind a greeting, with the name in the greeting, the number of bytes that came in all, and the last of them,
+-- which begin a frame; or over, with the name in the greeting, if one came.
 pub data Standing : Type 0 where
   fresh : Standing
   InRequest : List ℕ → Standing
@@ -29,7 +29,7 @@ pub data Standing : Type 0 where
   InFrames : List ℕ → ℕ → List ℕ → Standing
   over : Option (List ℕ) → Standing
 
--- the name of the greeting, where it came
+-- the name in the greeting, if one came
 abbrev pub name_of : Standing → Option (List ℕ)
 name_of fresh = None
 name_of (InRequest bytes) = None
@@ -44,29 +44,29 @@ waiting_in (InGreeting bytes) = bytes
 waiting_in (InFrames name count rest) = rest
 waiting_in _ = []
 
--- what was said: frames in their order, what was read of a request, and why no more is heard
+-- the output: frames in order, what was read of a request, and why nothing more is heard
 pub record Spoken : Type 0 where
   pub frames : List Frame
   pub request : Option Read
   pub fault : Option SessionFault
 
--- what the code returns
+-- the output that the code returns
 abbrev pub spoken : SessionOutput → Spoken
 spoken said = record { frames = said.frames.items; request = said.request; fault = said.fault }
 
--- frames, and why there are no more, where there is a fault
+-- frames, and why there are no more, if there is a fault
 abbrev pub heard : List Frame → Option SessionFault → Spoken
 heard frames fault = record { frames = frames; request = None; fault = fault }
 
--- nothing was said
+-- the output that says nothing
 abbrev pub nothing : Spoken
 nothing = heard [] None
 
--- a request was read, or refused
+-- the output that a request was read, or refused
 abbrev pub asked : Read → Spoken
 asked read = record { frames = []; request = Some read; fault = None }
 
--- what two pieces say one after the other
+-- the output of two pieces, one after the other
 abbrev pub and_then : Spoken → Spoken → Spoken
 and_then first second = record {
   frames = first.frames ++ second.frames;
@@ -74,32 +74,32 @@ and_then first second = record {
   fault = option_or first.fault second.fault;
 }
 
--- the most bytes of a connection of frames
+-- the maximum number of bytes in a connection of frames
 abbrev pub most_bytes : ℕ
 most_bytes = 134217728
 
 -- ---- a request
 
--- the bytes that came decide nothing yet; or the request that they are is told, and no more is heard
+-- the bytes that came decide nothing yet; or they are a request, which is told, and nothing more is heard
 abbrev pub IsAsked : List ℕ → Read → Spoken → Standing → Type 0
 IsAsked bytes More said new = (said ≡ nothing) × (new ≡ InRequest bytes)
 IsAsked bytes read said new = (said ≡ asked read) × (new ≡ over None)
 
--- what all the bytes of a request say that came so far
+-- what all the bytes of a request so far say
 abbrev pub Asks : List ℕ → Spoken → Standing → Type 0
 Asks bytes said new = (read : Read) × IsReadOf bytes false read × IsAsked bytes read said new
 
 -- ---- frames
 
--- What the frames of the bytes say that were taken, behind which come those beyond the limit: the stream goes on, or it ends at
--- a byte too many or at its fault. So many bytes came in all.
+-- What the frames say in the bytes that were taken, given the bytes beyond the limit: the stream goes on, or it ends at a byte
+-- too many or at its fault. `count` is the number of bytes that came in all.
 abbrev pub IsHeard : List ℕ → ℕ → List Frame → Result (List ℕ) FrameError → List ℕ → Spoken → Standing → Type 0
 IsHeard name count frames (Ok rest) [] said new = (said ≡ heard frames None) × (new ≡ InFrames name count rest)
 IsHeard name count frames (Ok rest) (_ ∷ _) said new = (said ≡ heard frames (Some TooLarge)) × (new ≡ over (Some name))
 IsHeard name count frames (Err e) lost said new = (said ≡ heard frames (Some (InFrame e))) × (new ≡ over (Some name))
 
--- What a piece of a stream says, of which the rest of a frame waits, and behind `count` bytes of the connection: as much of it
--- is taken as a connection may have.
+-- What a piece of a stream says if `rest` begins a frame and `count` bytes of the connection came before: as much of the piece is
+-- taken as a connection may have.
 abbrev pub Hears : List ℕ → ℕ → List ℕ → List ℕ → Spoken → Standing → Type 0
 Hears name count rest piece said new =
     let took : List ℕ = take (most_bytes - count) piece in
@@ -113,18 +113,18 @@ IsGreeted bytes (Ok None) said new = (said ≡ nothing) × (new ≡ InGreeting b
 IsGreeted bytes (Ok (Some greeting)) said new = Hears greeting.0 greeting.1 [] (drop greeting.1 bytes) said new
 IsGreeted bytes (Err e) said new = (said ≡ heard [] (Some (InFrame e))) × (new ≡ over None)
 
--- what all the bytes of a connection of frames say that came so far
+-- what all the bytes of a connection of frames so far say
 abbrev pub Greets : List ℕ → Spoken → Standing → Type 0
 Greets bytes said new = IsGreeted bytes (hello_of bytes) said new
 
 -- ---- a connection
 
--- the first byte of a greeting is under 0x20, and that of a request isn't
+-- the first byte of a greeting is below 0x20, and that of a request isn't
 pub record Begins (first : ℕ) (bytes : List ℕ) (said : Spoken) (new : Standing) : Type 0 where
   pub peer : first < 32 → Greets bytes said new
   pub request : 32 ≤ first → Asks bytes said new
 
--- What a piece says, where there is memory for it, and how far the connection has come then.
+-- What a piece says if there is memory for it, and how far the connection has come then.
 abbrev pub Says : Standing → List ℕ → Spoken → Standing → Type 0
 Says fresh [] said new = (said ≡ nothing) × (new ≡ fresh)
 Says fresh (first ∷ bytes) said new = Begins first (first ∷ bytes) said new
@@ -133,7 +133,7 @@ Says (InGreeting bytes) piece said new = Greets (bytes ++ piece) said new
 Says (InFrames name count rest) piece said new = Hears name count rest piece said new
 Says (over name) piece said new = (said ≡ nothing) × (new ≡ over name)
 
--- pieces that come one after the other
+-- what pieces say that come one after the other
 abbrev pub SaysAll : Standing → List (List ℕ) → Spoken → Standing → Type 0
 SaysAll old [] said new = (said ≡ nothing) × (new ≡ old)
 SaysAll old (piece ∷ pieces) said new =
@@ -142,15 +142,15 @@ SaysAll old (piece ∷ pieces) said new =
 
 -- ---- want of memory
 
--- no more is heard
+-- nothing more is heard
 abbrev pub IsOver : Standing → Type 0
 IsOver s = (name : Option (List ℕ)) × (s ≡ over name)
 
--- no frame of the piece is said, but that memory ran out
+-- the output has no frame of the piece, and says that memory ran out
 abbrev pub IsUnheard : Spoken → Type 0
 IsUnheard said = said ≡ heard [] (Some (InFrame frame_errors.Memory))
 
--- the request is refused, since memory ran out
+-- the request is refused because memory ran out
 abbrev pub IsTurnedAway : Spoken → Type 0
 IsTurnedAway said = (refusal : Refusal) × (said ≡ asked (Refused refusal)) × (line_seen refusal ≡ line_of Memory)
 
@@ -162,12 +162,12 @@ LacksToAsk said new = IsTurnedAway said × (new ≡ over None)
 abbrev pub LacksToGreet : Spoken → Standing → Type 0
 LacksToGreet said new = IsUnheard said × IsOver new
 
--- by the first byte of a connection
+-- there was no memory for what a connection begins with, by its first byte
 pub record LacksToBegin (first : ℕ) (said : Spoken) (new : Standing) : Type 0 where
   pub peer : first < 32 → LacksToGreet said new
   pub request : 32 ≤ first → LacksToAsk said new
 
--- there was no memory for what a piece says: that is said, and no more is heard
+-- there was no memory for what a piece says: the output says so, and nothing more is heard
 abbrev pub LacksMemory : Standing → List ℕ → Spoken → Standing → Type 0
 LacksMemory fresh [] said new = ⊥
 LacksMemory fresh (first ∷ bytes) said new = LacksToBegin first said new
@@ -176,27 +176,27 @@ LacksMemory (InGreeting bytes) piece said new = LacksToGreet said new
 LacksMemory (InFrames name count rest) piece said new = IsUnheard said × (new ≡ over (Some name))
 LacksMemory (over name) piece said new = ⊥
 
--- what feeding a piece says: what the piece says, or that there was no memory for it
+-- the output for a piece: what the piece says, or that there was no memory for it
 abbrev pub Feeds : Standing → List ℕ → Spoken → Standing → Type 0
 Feeds old piece said new = Says old piece said new ⊎ LacksMemory old piece said new
 
 -- ---- the end of the input
 
--- the request that the bytes begin is refused, since its input ended in it
+-- the request that the bytes begin is refused because its input ended in it
 pub record IsCutShort (bytes : List ℕ) (said : Spoken) : Type 0 where
   pub refusal : Refusal
   pub is : said ≡ asked (Refused refusal)
   pub line : line_seen refusal ≡ line_of EndedEarly
   pub read : IsReadOf bytes true (Refused refusal)
 
--- what the end of the input says: of a request that isn't whole, that it is cut; else nothing
+-- what the end of the input says: that a request is cut short, if it isn't whole; nothing otherwise
 abbrev pub SaysEnd : Standing → Spoken → Type 0
 SaysEnd (InRequest bytes) said = IsCutShort bytes said
 SaysEnd _ said = said ≡ nothing
 
 -- ---- where it comes from
 
--- what is known of that once the next piece is there, by the head of the request that its bytes begin
+-- what is known of that with the next piece, by the head of the request that its bytes begin
 abbrev pub Screens : Standing → List ℕ → List (List ℕ) → Screened → Type 0
 Screens fresh piece names result = IsScreened names piece result
 Screens (InRequest bytes) piece names result = IsScreened names (bytes ++ piece) result

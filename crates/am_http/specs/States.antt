@@ -1,4 +1,4 @@
--- What a session holds.
+-- The state of a session.
 use Rattle.std.specs.Prelude.{ℕ, ◌<◌, List, [], ◌∷◌, length, Option, None, Some, string_bytes, ⊤}
 use Rattle.std.specs.Option.{IsSome, option_map}
 use Rattle.am_gossip.specs.declared.error.FrameError.{FrameError}
@@ -10,7 +10,7 @@ use Rattle.am_http.specs.declared.session.state.State.{State}
 use Rattle.am_http.specs.declared.session.state.State.TheVariants.{Fresh, Asking, Greeting, Hearing, Over}
 use Rattle.am_http.specs.Sessions.{Standing, fresh, InRequest, InGreeting, InFrames, over}
 
--- how far the connection has come
+-- the progress of the connection
 abbrev pub standing_in : State → Standing
 standing_in Fresh = fresh
 standing_in (Asking bytes) = InRequest bytes.items
@@ -18,13 +18,13 @@ standing_in (Greeting bytes) = InGreeting bytes.items
 standing_in (Hearing h) = InFrames (string_bytes h.name) h.count (rest_bytes h.feeder)
 standing_in (Over name) = over (option_map string_bytes name)
 
--- a request that was begun isn't decided, and a stream that goes on had no fault
+-- a request that was begun isn't decided, and a stream that goes on has had no fault
 abbrev pub IsSound : State → Type 0
 IsSound (Asking bytes) = (0 < length bytes.items) × IsUnfinished bytes.items
 IsSound (Hearing h) = IsSome h.feeder
 IsSound _ = ⊤
 
--- why no more is heard behind a piece: its fault, or a byte beyond the limit
+-- why nothing more is heard after a piece: its fault, or a byte beyond the limit
 abbrev pub ended_by : Option FrameError → List ℕ → Option SessionFault
 ended_by (Some e) lost = Some (InFrame e)
 ended_by None [] = None

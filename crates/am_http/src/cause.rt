@@ -1,4 +1,4 @@
-//! Why a request is refused, and the line of the table of statuses that says so.
+//! The causes for which a request is refused, and the line of the table of statuses for each.
 
 ghost use Rattle.std.specs.Prelude.{◌≡◌};
 ghost use Rattle.http.specs.StatusCode.{IsStatusCode};
@@ -7,7 +7,7 @@ ghost use Rattle.am_http.specs.Lines.{allowed_at, bad_key, is_head, line, line_o
 use crate::refusal::Refusal;
 use am_silence_json::Key;
 
-/// What a path of API v2 names.
+/// A resource that a path of API v2 names.
 #[derive(Clone, Copy, Debug)]
 pub enum Resource {
     /// `/api/v2/silences`
@@ -16,12 +16,12 @@ pub enum Resource {
     Silence,
 }
 
-/// What is at fault in a request before a step is made, in the order in which it is tested.
+/// A fault that a request has before a step is made, in the order in which faults are tested.
 #[derive(Clone, Copy, Debug)]
 pub enum Cause {
     /// The head doesn't end in 16,384 bytes, or has over 64 fields.
     HeadTooLarge,
-    /// The bytes are no head of HTTP/1.x.
+    /// The bytes aren't a head of HTTP/1.x.
     BadHead,
     /// There is a field `transfer-encoding`.
     TransferEncoding,
@@ -33,19 +33,19 @@ pub enum Cause {
     EndedEarly,
     /// The path names nothing.
     NoSuchPath,
-    /// What the path names has no such method.
+    /// The resource that the path names doesn't have this method.
     MethodNotAllowed(Resource),
-    /// A `filter` of the query is none.
+    /// A `filter` of the query isn't a filter.
     BadFilter,
-    /// The body is no JSON object.
+    /// The body isn't a JSON object.
     BadJson,
-    /// What is posted has this key wanting or wrong.
+    /// The posted silence lacks this key, or has a wrong value for it.
     BadSilence(Key),
     /// Memory ran out.
     Memory,
 }
 
-/// Whether a method is HEAD, to which a reply has its head alone.
+/// Returns whether a method is HEAD, which is answered with the head of a reply alone.
 pub fn is_head(method: &[u8]) -> bool
     ensures { result ≡ is_head method.now }
 {
@@ -53,7 +53,7 @@ pub fn is_head(method: &[u8]) -> bool
 }
 
 impl Refusal {
-    /// The line with this status and text.
+    /// Returns the line with this status and text.
     pub const fn new(status: u16, text: &'static str) -> Refusal
         requires { IsStatusCode status }
         ensures { line_seen result ≡ line status text.now }
@@ -66,7 +66,7 @@ impl Refusal {
         }
     }
 
-    /// The same line, as it is told to a request of this method.
+    /// Returns the same line as it is told to a request with this method.
     pub fn told_to(self, method: &[u8]) -> Refusal
         ensures { line_seen result ≡ told_to method.now (line_seen self) }
     {
@@ -80,7 +80,7 @@ impl Refusal {
 }
 
 impl Resource {
-    /// The methods of the resource, as a field `allow` names them.
+    /// Returns the methods of the resource, as a field `allow` names them.
     pub const fn allowed(self) -> &'static str
         ensures { result.now ≡ allowed_at self }
     {
@@ -91,7 +91,7 @@ impl Resource {
     }
 }
 
-/// What is said where a key of what is posted is wanting or wrong.
+/// Returns the text for a key that is missing or wrong in what is posted.
 const fn bad_key(key: Key) -> &'static str
     ensures { result.now ≡ bad_key key }
 {
@@ -106,7 +106,7 @@ const fn bad_key(key: Key) -> &'static str
 }
 
 impl Cause {
-    /// The line of the table that the request is refused with.
+    /// Returns the line of the table with which the request is refused.
     pub const fn refusal(self) -> Refusal
         ensures { line_seen result ≡ line_of self }
     {
@@ -131,7 +131,7 @@ impl Cause {
         }
     }
 
-    /// That line, as it is told to a request of this method.
+    /// Returns that line as it is told to a request with this method.
     pub fn refusal_to(self, method: &str) -> Refusal
         ensures { line_seen result ≡ told_to method.now (line_of self) }
     {

@@ -1,4 +1,4 @@
-//! The fields of a head that say how the body ends.
+//! The fields of a head that say where the body ends.
 
 ghost use Rattle.std.specs.Prelude.{◌≡◌, ◌++◌, ◌∷◌, [], ℕ, List, length, map, All, IfSome, IfNone};
 ghost use Rattle.std.specs.Str.Parse.{digits_value};
@@ -9,13 +9,13 @@ ghost use Rattle.am_http.specs.Bodies.{IsLengthText, IsBodyLength, NamedIn};
 use crate::cause::Cause;
 use httparse::spans::HeaderSpan;
 
-/// The most digits of a body's length.
+/// The maximum number of digits in a body's length.
 const MOST_DIGITS: usize = 18;
 
-/// The most bytes of a body.
+/// The maximum number of bytes in a body.
 pub const MOST_BODY_BYTES: usize = 1_048_576;
 
-/// The number that a value of `content-length` writes, where it is 1 to 18 digits.
+/// Returns the number that a value of `content-length` stands for, if it is 1 to 18 digits.
 fn content_length(value: &[u8]) -> Option<u64>
     ensures number { IfSome result (λ n. IsLengthText value.now × (n ≡ digits_value 10 value.now)) }
     ensures refused { IfNone result (¬ (IsLengthText value.now)) }
@@ -42,7 +42,7 @@ pub enum Named<'a> {
 }
 
 impl<'a> Named<'a> {
-    /// With one value more.
+    /// Returns the values with one more.
     fn and(self, value: &'a [u8]) -> Named<'a>
         ensures { (values : List (List ℕ)) → NamedIn values self.entry → NamedIn (values ++ value.now ∷ []) result }
     {
@@ -53,7 +53,7 @@ impl<'a> Named<'a> {
     }
 }
 
-/// The values of the fields of a name, in any ASCII case.
+/// Returns the values of the fields with this name, in any ASCII case.
 fn field_named<'a>(head: &'a [u8], fields: &[HeaderSpan], name: &[u8]) -> Named<'a>
     requires { All (IsHeaderWithin (length head.now)) fields.now }
     ensures { NamedIn (values_of name.now (map (header_bytes head.now) fields.now)) result }
@@ -67,7 +67,7 @@ fn field_named<'a>(head: &'a [u8], fields: &[HeaderSpan], name: &[u8]) -> Named<
     found
 }
 
-/// How many bytes the body has, by the fields of the head.
+/// Returns the number of bytes that the body has, by the fields of the head.
 pub fn body_length(head: &[u8], fields: &[HeaderSpan]) -> Result<usize, Cause>
     requires { All (IsHeaderWithin (length head.now)) fields.now }
     ensures { IsBodyLength (map (header_bytes head.now) fields.now) result }

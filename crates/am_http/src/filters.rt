@@ -6,18 +6,18 @@ ghost use Rattle.am_http.specs.Queries.{decoded, filter_texts_of};
 use form_urlencoded::{decode, raw_pairs};
 use std::alloc::{AllocError, Global};
 
-/// The text that the bytes of a name or of a value stand for.
+/// Returns the text that the bytes of a name or of a value stand for.
 fn text_of(alloc: Global, encoded: &[u8]) -> Result<String, AllocError>
     ensures { IfOk result (λ text. string_bytes text ≡ decoded encoded.now) }
 {
     decode(alloc, encoded)?.into_owned(alloc)
 }
 
-/// The values of the pairs of a query whose name is `filter`, decoded, in order.
+/// Returns the decoded values of a query's pairs named `filter`, in order.
 ///
 /// # Errors
 ///
-/// [`AllocError`] where memory ran out.
+/// [`AllocError`] if memory runs out.
 pub fn filter_texts(alloc: Global, query: &str) -> Result<Vec<String>, AllocError>
     ensures { IfOk result (λ texts. map string_bytes texts.items ≡ filter_texts_of query.now) }
 {

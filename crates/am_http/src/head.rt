@@ -1,4 +1,4 @@
-//! The head of a request in the bytes that came.
+//! The head of a request, in the bytes that have come.
 
 ghost use Rattle.std.specs.Prelude.{◌≡◌, length, take};
 ghost use Rattle.am_http.specs.HeadSpans.{IsHeadOf};
@@ -7,13 +7,13 @@ use crate::cause::Cause;
 use httparse::spans::{HeaderSpan, RequestSpans, parse_request};
 use httparse::{Error, Status};
 
-/// The most bytes of a head.
+/// The maximum number of bytes in a head.
 pub const MOST_HEAD_BYTES: usize = 16_384;
 
-/// The most fields of a head.
+/// The maximum number of fields in a head.
 pub const MOST_FIELDS: usize = 64;
 
-/// What stands at the front of the bytes.
+/// The content at the front of the bytes.
 #[derive(Clone, Copy)]
 pub enum Head {
     /// A head that isn't whole.
@@ -22,7 +22,7 @@ pub enum Head {
     Refused(Cause),
 }
 
-/// The bytes in which a head has to end.
+/// Returns the bytes within which a head has to end.
 pub fn window(bytes: &[u8]) -> &[u8]
     ensures { result.now ≡ take MOST_HEAD_BYTES bytes.now }
 {
@@ -32,7 +32,7 @@ pub fn window(bytes: &[u8]) -> &[u8]
     }
 }
 
-/// Reads the head at the front of the bytes, and where its fields are.
+/// Reads the head at the front of the bytes, and writes to `fields` where its fields are.
 pub fn read_head(bytes: &[u8], fields: &mut [HeaderSpan]) -> Head
     requires { length fields.old ≡ MOST_FIELDS }
     ensures { IsHeadOf bytes.now fields.new result }

@@ -1,4 +1,4 @@
-//! The hosts that a server is asked under. A page of another site, open in a browser beside the server, asks under its own.
+//! The hosts by which a server is addressed. A page of another site, open in a browser beside the server, uses its own.
 
 ghost use Rattle.std.specs.Prelude.{◌≡◌, ◌||◌, ◌+◌, ◌≤◌, false, length, map, take, All};
 ghost use Rattle.std.specs.Str.{str_eq_ignore_ascii_case};
@@ -12,34 +12,34 @@ use crate::head::{Head, MOST_FIELDS, read_head, window};
 use crate::refusal::Refusal;
 use httparse::spans::{EMPTY_HEADER_SPAN, HeaderSpan};
 
-/// What a server is always called.
+/// The names that a server always has.
 const OWN_NAMES: [&str; 2] = ["127.0.0.1", "localhost"];
 
-/// What a request names that isn't the server's own.
+/// A name in a request that isn't the server's own.
 #[derive(Clone, Copy)]
 pub enum Foreign {
-    /// The host that it is for.
+    /// The host that the request is for.
     Host,
     /// The site of the page that asks.
     Origin,
 }
 
-/// What is known of where a request comes from.
+/// The result of screening a request by where it comes from.
 #[derive(Clone, Copy)]
 pub enum Screened {
-    /// The head isn't whole, and may become one.
+    /// The head isn't whole, and may become so.
     Open,
     /// The head names nothing foreign, or is at fault.
     Known,
     Foreign {
         what: Foreign,
-        /// The method is HEAD.
+        /// True if the method is HEAD.
         to_head: bool,
     },
 }
 
 impl Foreign {
-    /// The field that names it.
+    /// Returns the name of the field that holds it.
     const fn field(self) -> &'static str
         ensures { result.now ≡ field_of self }
     {
@@ -49,7 +49,7 @@ impl Foreign {
         }
     }
 
-    /// What is said of it.
+    /// Returns the text of the refusal.
     const fn text(self) -> &'static str
         ensures { line_of_foreign self false ≡ line 403 result.now }
     {
@@ -59,7 +59,7 @@ impl Foreign {
         }
     }
 
-    /// The line of the table that the request is refused with, where its method is HEAD or not.
+    /// Returns the line of the table with which the request is refused, given whether its method is HEAD.
     pub const fn refusal(self, to_head: bool) -> Refusal
         ensures { line_seen result ≡ line_of_foreign self to_head }
     {
@@ -72,7 +72,7 @@ impl Foreign {
     }
 }
 
-/// How many bytes stand before the first one that is this, or in all where none is.
+/// Returns the number of bytes before the first `mark`, or of all bytes if there is none.
 fn length_before(mark: u8, text: &[u8]) -> usize
     ensures value { result ≡ length_before mark text.now }
     ensures within { result ≤ length text.now }
@@ -80,7 +80,7 @@ fn length_before(mark: u8, text: &[u8]) -> usize
     text.iter().take_while(|byte| **byte != mark).count()
 }
 
-/// The first bytes of a text, up to and with a mark, or all where there is none.
+/// Returns the bytes of a text up to and including the first `mark`, or all of them if there is none.
 fn up_to(mark: u8, text: &[u8]) -> &[u8]
     ensures { result.now ≡ take (length_before mark text.now + 1) text.now }
 {
@@ -90,7 +90,7 @@ fn up_to(mark: u8, text: &[u8]) -> &[u8]
     }
 }
 
-/// The name of a host, without its port.
+/// Returns the name of a host, without its port.
 fn host_name(authority: &[u8]) -> &[u8]
     ensures { result.now ≡ host_name authority.now }
 {
@@ -100,7 +100,7 @@ fn host_name(authority: &[u8]) -> &[u8]
     }
 }
 
-/// What stands behind the first slash.
+/// Returns the bytes behind the first slash.
 fn behind_slash(text: &[u8]) -> &[u8]
     ensures { result.now ≡ behind_slash text.now }
 {
@@ -110,7 +110,7 @@ fn behind_slash(text: &[u8]) -> &[u8]
     }
 }
 
-/// Whether two names are one, in any ASCII case.
+/// Returns whether two names are equal, in any ASCII case.
 #[tactic(auto, using(crate::proofs::FieldLists::same_test))]
 fn is_same(name: &[u8], other: &[u8]) -> bool
     ensures { result ≡ str_eq_ignore_ascii_case name.now other.now }
@@ -118,7 +118,7 @@ fn is_same(name: &[u8], other: &[u8]) -> bool
     name.eq_ignore_ascii_case(other)
 }
 
-/// Whether a name is one of these.
+/// Returns whether a name is one of `names`.
 fn is_one_of(name: &[u8], names: &[&str]) -> bool
     ensures { result ≡ is_one_of name.now (texts names.now) }
 {
@@ -129,7 +129,7 @@ fn is_one_of(name: &[u8], names: &[&str]) -> bool
     found
 }
 
-/// Whether a host is the server's own, or one of these names.
+/// Returns whether a host is the server's own, or one of `names`.
 fn is_known(authority: &[u8], names: &[&str]) -> bool
     ensures { result ≡ is_known (texts names.now) authority.now }
 {
@@ -137,7 +137,7 @@ fn is_known(authority: &[u8], names: &[&str]) -> bool
     is_one_of(name, &OWN_NAMES) || is_one_of(name, names)
 }
 
-/// Whether a host or an origin is not foreign.
+/// Returns whether a host or an origin isn't foreign.
 fn is_fine(what: Foreign, value: &[u8], names: &[&str]) -> bool
     ensures { result ≡ is_fine what (texts names.now) value.now }
 {
@@ -147,7 +147,7 @@ fn is_fine(what: Foreign, value: &[u8], names: &[&str]) -> bool
     }
 }
 
-/// Whether a field is another one, or names nothing foreign.
+/// Returns whether a field is another one, or names nothing foreign.
 fn is_fine_field(what: Foreign, name: &[u8], value: &[u8], names: &[&str]) -> bool
     ensures { result ≡ is_fine_field what (texts names.now) (name.now, value.now) }
 {
@@ -158,7 +158,7 @@ fn is_fine_field(what: Foreign, name: &[u8], value: &[u8], names: &[&str]) -> bo
     }
 }
 
-/// Whether no field names anything foreign of this kind.
+/// Returns whether no field names anything foreign of this kind.
 fn all_known(what: Foreign, head: &[u8], fields: &[HeaderSpan], names: &[&str]) -> bool
     requires { All (IsHeaderWithin (length head.now)) fields.now }
     ensures { result ≡ all_known what (texts names.now) (map (header_bytes head.now) fields.now) }
@@ -170,14 +170,14 @@ fn all_known(what: Foreign, head: &[u8], fields: &[HeaderSpan], names: &[&str]) 
     known
 }
 
-/// Whether a request for this target asks if the server is up, or ready.
+/// Returns whether a request for this target asks if the server is up, or ready.
 fn is_probe(target: &[u8]) -> bool
     ensures { result ≡ is_probe target.now }
 {
     target == b"/-/healthy".as_slice() || target == b"/-/ready".as_slice()
 }
 
-/// Whether no field names a foreign host, or it makes no difference for this target.
+/// Returns whether no field names a foreign host, or it makes no difference for this target.
 fn may_ask(target: &[u8], head: &[u8], fields: &[HeaderSpan], names: &[&str]) -> bool
     requires { All (IsHeaderWithin (length head.now)) fields.now }
     ensures { result ≡ (is_probe target.now || all_known (names_foreign.Host) (texts names.now) (map (header_bytes head.now) fields.now)) }
@@ -185,11 +185,11 @@ fn may_ask(target: &[u8], head: &[u8], fields: &[HeaderSpan], names: &[&str]) ->
     is_probe(target) || all_known(Foreign::Host, head, fields, names)
 }
 
-/// What the bytes that came of a request say of where it comes from, where the server is called by these names too. It takes no
+/// Returns what the bytes of a request so far say about where it comes from, for a server that has these names too. It takes no
 /// memory.
 ///
-/// Whatever names no host, as a request of HTTP/1.0 may, comes from no browser. Who asks whether the server is up, or ready, may
-/// name any host, as a kubelet names an address: the answer says nothing else.
+/// A request that names no host, as one of HTTP/1.0 may, doesn't come from a browser. A request that asks whether the server is
+/// up, or ready, may name any host, as a kubelet names an address: the answer says nothing else.
 pub fn screen(bytes: &[u8], names: &[&str]) -> Screened
     // PROMISE: A request from a foreign host or origin is recognized as soon as its head is whole.
     ensures { IsScreened (texts names.now) bytes.now result }

@@ -1,12 +1,12 @@
-//! A law over the definitions that the contracts cite.
+//! A law about the definitions that the contracts cite.
 
 ghost use Rattle.std.specs.Prelude.{◌≡◌, ◌≢◌, ℕ, List};
 ghost use Rattle.am_http.specs.declared.cause.Cause.{Cause};
 ghost use Rattle.am_http.specs.declared.cause.Cause.TheVariants.{HeadTooLarge};
 ghost use Rattle.am_http.specs.Requests.{HasFault, IsRequestIn, IsUnfinished};
 
-/// Bytes have one whole request at their front, or none. Where they have one, nothing is wanting, and nothing is at
-/// fault; that the head isn't too large is not said, since the grammar's own words leave that to the parser.
+/// States that bytes have at most one whole request at their front. If they have one, nothing is missing from it, and nothing is
+/// at fault; the law doesn't say that the head isn't too large, since the grammar's own words leave that to the parser.
 pub fn a_request_is_read_in_one_way()
     // PROMISE: A request has one reading.
     ensures one { (bytes method target body other_method other_target other_body : List ℕ)

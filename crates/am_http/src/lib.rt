@@ -1,5 +1,5 @@
-//! HTTP/1.1 for the calls on silences: requests in the bytes that came, the calls that they are, and the bytes of
-//! replies; read from any reader.
+//! HTTP/1.1 for the calls on silences: requests in the bytes that have come, the calls that they make, and the bytes of replies,
+//! read from any reader.
 #![tactic(auto)]
 
 mod cause;

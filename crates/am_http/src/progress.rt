@@ -1,4 +1,4 @@
-//! How far a request has come.
+//! The progress of a request.
 
 ghost use Rattle.std.specs.Prelude.{◌≡◌, ◌≤◌, length, IsUtf8};
 ghost use Rattle.httparse.specs.Spans.{span_bytes};
@@ -17,7 +17,7 @@ pub struct Parts<'a> {
     pub body: &'a [u8],
 }
 
-/// How far a request has come.
+/// The progress of a request.
 #[derive(Clone, Copy)]
 pub enum RequestProgress<'a> {
     /// The head isn't whole.
@@ -28,7 +28,7 @@ pub enum RequestProgress<'a> {
     Refused(Cause),
 }
 
-/// The text at a place.
+/// Returns the text at a place.
 fn text_at(head: &[u8], place: Span) -> &str
     requires ordered { place.start ≤ place.end }
     requires in_range { place.end ≤ length head.now }
@@ -38,7 +38,7 @@ fn text_at(head: &[u8], place: Span) -> &str
     str::from_utf8(place.of(head)).unwrap()
 }
 
-/// Looks at the bytes that came of a request. It takes no memory.
+/// Returns how far the bytes of a request have come. It takes no memory.
 pub fn standing_of(bytes: &[u8]) -> RequestProgress<'_>
     ensures { IsStandingOf bytes.now result }
 {

@@ -6,11 +6,11 @@ ghost use Rattle.http.specs.StatusCode.{IsStatusCode};
 #[derive(Clone, Copy)]
 pub struct Refusal {
     pub status: u16,
-    /// What the body says.
+    /// The text of the body.
     pub text: &'static str,
-    /// The methods that the path has, where another was asked for.
+    /// The methods that the path has, if another was asked for.
     pub allow: Option<&'static str>,
-    /// The reply has its head alone.
+    /// True if the reply has its head alone.
     pub is_bare: bool,
     pub ghost is_status: { IsStatusCode status },
 }

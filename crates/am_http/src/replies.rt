@@ -8,11 +8,11 @@ ghost use Rattle.am_http.specs.Replies.{allow_line, head_bytes, reply_bytes};
 use http::StatusCode;
 use std::alloc::{AllocError, Global};
 
-/// The reply where memory runs out, whole.
+/// The whole reply for when memory runs out.
 const OUT_OF_MEMORY: &str =
     "HTTP/1.1 500 Internal Server Error\r\ncontent-type: application/json\r\ncontent-length: 15\r\nconnection: close\r\n\r\n\"out of memory\"";
 
-/// The phrase of a status.
+/// Returns the phrase of a status.
 fn phrase(status: u16) -> &'static str
     requires { IsStatusCode status }
     ensures { result.now ≡ unwrap_or (reason_phrase status) [] }
@@ -23,7 +23,7 @@ fn phrase(status: u16) -> &'static str
     }
 }
 
-/// The lines before a body of `count` bytes.
+/// Returns the lines before a body of `count` bytes.
 fn head(alloc: Global, status: u16, allow: Option<&str>, count: usize) -> Result<String, AllocError>
     requires { IsStatusCode status }
     ensures { IfOk result (λ s. string_bytes s ≡ head_bytes status (option_copied allow.entry) count) }
@@ -39,11 +39,11 @@ fn head(alloc: Global, status: u16, allow: Option<&str>, count: usize) -> Result
     }
 }
 
-/// The bytes of a reply with this JSON body; `allow` are the methods that there are, where another was asked for.
+/// Returns the bytes of a reply with this JSON body; `allow` names the available methods, if another was asked for.
 ///
 /// # Errors
 ///
-/// [`AllocError`] where memory ran out; [`out_of_memory`] is what is left to say then.
+/// [`AllocError`] if memory runs out; [`out_of_memory`] is what is left to say then.
 pub fn reply(
     alloc: Global,
     status: u16,
@@ -61,11 +61,11 @@ pub fn reply(
     Ok(bytes)
 }
 
-/// The bytes of a reply to HEAD, which has the head alone of the reply with this JSON body.
+/// Returns the bytes of a reply to HEAD: only the head of the reply with this JSON body.
 ///
 /// # Errors
 ///
-/// [`AllocError`] where memory ran out.
+/// [`AllocError`] if memory runs out.
 pub fn bare_reply(
     alloc: Global,
     status: u16,
@@ -81,7 +81,7 @@ pub fn bare_reply(
     Ok(bytes)
 }
 
-/// The reply 500 `out of memory`, which takes no memory.
+/// Returns the reply 500 `out of memory`, which takes no memory.
 pub const fn out_of_memory() -> &'static [u8]
     ensures { result.now ≡ reply_bytes 500 None (codes "\"out of memory\"") }
 {

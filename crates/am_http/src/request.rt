@@ -12,12 +12,12 @@ use std::alloc::{AllocError, Global};
 #[derive(Drop)]
 pub struct Request {
     pub method: String,
-    /// The target as it came: nothing in it is decoded.
+    /// The target as it came, with nothing decoded.
     pub target: String,
     pub body: Vec<u8>,
 }
 
-/// What was read of the bytes that came.
+/// The result of reading the bytes that have come.
 #[derive(Drop)]
 pub enum Read {
     /// Nothing is decided yet.
@@ -26,7 +26,7 @@ pub enum Read {
     Refused(Refusal),
 }
 
-/// A request of its own with these parts.
+/// Returns a request that owns these parts.
 fn owned(alloc: Global, parts: Parts<'_>) -> Result<Request, AllocError>
     ensures method { IfOk result (λ r. string_bytes r.method ≡ parts.entry.method.now) }
     ensures target { IfOk result (λ r. string_bytes r.target ≡ parts.entry.target.now) }
@@ -39,7 +39,7 @@ fn owned(alloc: Global, parts: Parts<'_>) -> Result<Request, AllocError>
     })
 }
 
-/// What is read of a whole request: the request, unless memory ran out.
+/// Returns the whole request, or its refusal if memory ran out.
 pub fn taken(alloc: Global, parts: Parts<'_>) -> Read
     ensures { IsTakenFrom parts.entry.method.now parts.entry.target.now parts.entry.body.now result }
 {
@@ -49,7 +49,7 @@ pub fn taken(alloc: Global, parts: Parts<'_>) -> Read
     }
 }
 
-/// What is read of bytes that decide nothing.
+/// Returns the result of reading bytes that decide nothing.
 fn unfinished(bytes: &[u8], ended: bool) -> Read
     requires { IsUnfinished bytes.now }
     ensures { IsReadOf bytes.now ended result }
@@ -60,10 +60,10 @@ fn unfinished(bytes: &[u8], ended: bool) -> Read
     Read::More
 }
 
-/// Reads a request from the bytes that came, behind which the input ended or may go on.
+/// Reads a request from the bytes that have come; the input ended behind them if `ended`, and may go on otherwise.
 ///
-/// A head has at most 16,384 bytes and 64 fields, and a body 1,048,576 bytes. [`Read::Refused`] has the line of the
-/// first fault that stands; input that ended before its first byte is [`Read::More`].
+/// A head has at most 16,384 bytes and 64 fields, and a body at most 1,048,576 bytes. [`Read::Refused`] has the line of the first
+/// fault found; input that ends before its first byte is [`Read::More`].
 pub fn read_request(alloc: Global, bytes: &[u8], ended: bool) -> Read
     // PROMISE: Bytes are a whole request, unfinished, or at fault by the first line of the table.
     ensures { IsReadOf bytes.now ended result }

@@ -9,23 +9,23 @@ use crate::cause::{Cause, Resource};
 /// A call on silences.
 #[derive(Clone, Copy, Debug)]
 pub enum Call<'a> {
-    /// All silences that pass the filters of the query, which is not decoded.
+    /// A list of all silences that pass the filters of the query, which isn't decoded.
     List { query: &'a str },
     /// The silence with the identifier.
     Get { id: &'a str },
-    /// A silence is posted.
+    /// A posted silence.
     Post,
-    /// The silence with the identifier is ended.
+    /// The end of the silence with the identifier.
     Delete { id: &'a str },
 }
 
 /// The path of all silences.
 const SILENCES: &str = "/api/v2/silences";
 
-/// What the path of one silence begins with; its identifier follows.
+/// The beginning of the path of one silence, which its identifier follows.
 const SILENCE: &str = "/api/v2/silence/";
 
-/// The path and the query of a target, cut at the first `?`.
+/// Returns the path and the query of a target, cut at the first `?`.
 fn cut(target: &str) -> (&str, &str)
     ensures path { result.0.now ≡ path_of target.now }
     ensures query { result.1.now ≡ query_of target.now }
@@ -36,7 +36,7 @@ fn cut(target: &str) -> (&str, &str)
     }
 }
 
-/// The identifier in the path of one silence.
+/// Returns the identifier in the path of one silence.
 fn id_in(path: &str) -> Option<&str>
     ensures { MatchOption result ((id : List ℕ) → ¬ (IsPathOf path.now id)) (λ id. IsPathOf path.now id.now) }
 {
@@ -47,11 +47,11 @@ fn id_in(path: &str) -> Option<&str>
     Some(id)
 }
 
-/// The call that a request with this method and target asks for.
+/// Returns the call that a request with this method and target asks for.
 ///
 /// # Errors
 ///
-/// [`Cause::NoSuchPath`] for any other path, and [`Cause::MethodNotAllowed`] for another method on a path that is one.
+/// [`Cause::NoSuchPath`] for any other path, and [`Cause::MethodNotAllowed`] for a path that doesn't have this method.
 pub fn call_of<'a>(method: &str, target: &'a str) -> Result<Call<'a>, Cause>
     // PROMISE: A method and a path are one call, or the line of their fault.
     ensures { IsCallOf method.now target.now result }

@@ -1,5 +1,5 @@
-//! One connection, of a person, a tool or a peer: what its bytes say as they come, piece by piece. No instance, no clock and
-//! no socket.
+//! One connection, from a person, a tool or a peer: what its bytes say as they come, piece by piece, without an instance, a clock
+//! or a socket.
 
 ghost use Rattle.std.specs.Prelude.{◌≡◌, ◌↔◌, IfOk, IsTrue, length};
 ghost use Rattle.std.specs.Option.{option_copied};
@@ -28,8 +28,8 @@ use std::mem;
 
 /// One connection, whose bytes come in pieces.
 ///
-/// One whose first byte is under 0x20 begins with a peer's greeting, behind which frames come; it has at most
-/// 134,217,728 bytes. Any other is a request. Contracts see how far it has come.
+/// A connection whose first byte is below 0x20 begins with a peer's greeting, followed by frames; it has at most 134,217,728
+/// bytes. Any other is a request. Contracts see how far it has come.
 #[derive(Drop)]
 pub struct Session {
     alloc: Global,
@@ -48,7 +48,7 @@ impl Model for Session {
 }
 
 impl Session {
-    /// Before the first byte. It takes no memory.
+    /// Returns a session before its first byte. It takes no memory.
     pub fn new(alloc: Global) -> Self
         ensures { result ≡ fresh }
     {
@@ -58,9 +58,9 @@ impl Session {
         }
     }
 
-    /// Takes the next piece: what it says.
+    /// Takes the next piece, and returns what it says.
     ///
-    /// Where the pieces are cut makes no difference. Where memory runs out, that is said, and no more is heard.
+    /// It makes no difference where the pieces are cut. If memory runs out, the output says so, and nothing more is heard.
     pub fn feed(&mut self, piece: &[u8]) -> SessionOutput
         // PROMISE: A piece of a connection says the frames or the request that end in it.
         ensures { Feeds self.old piece.now (spoken result) self.new }
@@ -71,26 +71,26 @@ impl Session {
         said
     }
 
-    /// What is known, once the next piece is there, of where a request comes from, where the server is called by these names
-    /// too. A peer's greeting names no host.
+    /// Returns what is known, with the next piece, about where a request comes from, for a server that has these names too. A
+    /// peer's greeting names no host.
     ///
     /// # Errors
     ///
-    /// [`AllocError`] where memory runs out, which a piece that has the whole head takes none of.
+    /// [`AllocError`] if memory runs out; a piece that has the whole head takes none.
     pub fn screen(&self, piece: &[u8], names: &[&str]) -> Result<Screened, AllocError>
         ensures { IfOk result (Screens self.now piece.now (texts names.now)) }
     {
         screened(self.alloc, &self.state, piece, names)
     }
 
-    /// How many bytes wait for the rest of their request, greeting or frame. It takes no memory.
+    /// Returns the number of bytes that wait for the rest of their request, greeting or frame. It takes no memory.
     pub fn waiting(&self) -> usize
         ensures { result ≡ length (waiting_in self.now) }
     {
         self.state.waiting()
     }
 
-    /// The input ended: a request that isn't whole is refused, and no more is heard. It takes no memory.
+    /// Ends the input: a request that isn't whole is refused, and nothing more is heard. It takes no memory.
     pub fn end(&mut self) -> SessionOutput
         ensures said { SaysEnd self.old (spoken result) }
         ensures over { self.new ≡ over (name_of self.old) }
@@ -100,7 +100,7 @@ impl Session {
         said
     }
 
-    /// No more is heard.
+    /// Stops the session: nothing more is heard.
     pub fn stop(&mut self)
         ensures { self.new ≡ over (name_of self.old) }
     {
@@ -108,14 +108,14 @@ impl Session {
         self.state = State::Over(state.into_name());
     }
 
-    /// Whether no more is heard.
+    /// Returns whether nothing more is heard.
     pub fn is_over(&self) -> bool
         ensures { IsTrue result ↔ (self.now ≡ over (name_of self.now)) }
     {
         matches!(self.state, State::Over(_))
     }
 
-    /// The name of the greeting, where it came.
+    /// Returns the name in the greeting, if one came.
     pub fn name(&self) -> Option<&str>
         ensures { option_copied result ≡ name_of self.now }
     {

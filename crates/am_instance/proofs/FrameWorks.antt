@@ -21,21 +21,21 @@ use Rattle.am_instance.proofs.Sent.{sends_append}
 use Rattle.am_instance.proofs.Works.{answered, made_nothing}
 
 -- nothing is taken where a row is at fault, or memory runs out before
-pub judged_arrival : (old : InstanceState) (sender : ℕ) (parts : List Part) (now : ℕ) (e : StepError) → IsJudgement (first_fault (rows_in parts)) e → IsArrival old sender parts now (Err e) old
+pub judged_arrival : (old : InstanceState) (sender : ℕ) (parts : List Part) (now : ℕ) (e : StepError) → IsJudgement (first_fault (rows_in old.config.unknown parts)) e → IsArrival old sender parts now (Err e) old
 judged_arrival old sender parts now (Memory taken) none =
-    (inl none, subst (λ (n : ℕ). Delivers now (take n (before_fault (rows_in parts))) old old) (sym none) (delivers_none now old))
+    (inl none, subst (λ (n : ℕ). Delivers now (take n (before_fault (rows_in old.config.unknown parts))) old old) (sym none) (delivers_none now old))
 judged_arrival old sender parts now (Frame fault) is = (is, refl)
 judged_arrival old sender parts now (MomentBack last) none = none
 judged_arrival old sender parts now UnknownPeer none = none
 
 -- memory ran out in the midst
-pub stopped_arrival : (old new : InstanceState) (sender : ℕ) (parts : List Part) (now taken : ℕ) → first_fault (rows_in parts) ≡ None →
-    StopsDelivering now (before_fault (rows_in parts)) old new 0 taken → IsArrival old sender parts now (Err (Memory taken)) new
+pub stopped_arrival : (old new : InstanceState) (sender : ℕ) (parts : List Part) (now taken : ℕ) → first_fault (rows_in old.config.unknown parts) ≡ None →
+    StopsDelivering now (before_fault (rows_in old.config.unknown parts)) old new 0 taken → IsArrival old sender parts now (Err (Memory taken)) new
 stopped_arrival old new sender parts now taken sound stop =
     let within = stop.within in
     let counted = stop.counted in
     let same : stop.number ≡ taken = omega (arith, counted) in
-    (inr (ap (option_map frame_fault) sound, omega (arith, within, counted)), subst (λ (n : ℕ). Delivers now (take n (before_fault (rows_in parts))) old new) same stop.delivered)
+    (inr (ap (option_map frame_fault) sound, omega (arith, within, counted)), subst (λ (n : ℕ). Delivers now (take n (before_fault (rows_in old.config.unknown parts))) old new) same stop.delivered)
 
 -- a frame whose rows were refused, or that memory stopped
 pub refused_frame : (old new : InstanceState) (sender : ℕ) (frame : GossipFrame) (now : ℕ) (e : StepError) → IsArrival old sender (parts_of frame) now (Err e) new → IsWork old (events.Frame sender frame) now (Err e) new
@@ -61,7 +61,7 @@ pub taken_frame : (old new : InstanceState) (sender : ℕ) (frame : GossipFrame)
     IsArrival old sender (parts_of frame) now (Ok sent) new → Sends (last_wanted (events.Frame sender frame) new) sent (sent_by outcome) →
     outcome.reply ≡ replies.Nothing → IsNothing outcome.made → IsWork old (events.Frame sender frame) now (Ok outcome) new
 taken_frame old new sender frame now outcome sent stays arrival last reply nothing =
-    let ds = before_fault (rows_in (parts_of frame)) in
+    let ds = before_fault (rows_in old.config.unknown (parts_of frame)) in
     answered old new (events.Frame sender frame) now outcome ds stays
     (ap (λ xs. ds ++ xs) (made_nothing outcome.made nothing) ∙ append-nil ds) arrival.1
     (ap (option_map frame_fault) arrival.0)

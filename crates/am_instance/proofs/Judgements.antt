@@ -4,6 +4,7 @@ use Rattle.std.proofs.Common.{◌≡◌, ◌<◌, ◌≤◌, ℕ, ◌+◌, List,
 use Rattle.std.specs.Prelude.{◌≢◌, Option, Some, None, Result, option_map}
 use Rattle.am_wire.specs.declared.error.WireError.{WireError}
 use Rattle.am_wire.specs.declared.error.WireError.TheVariants as wire
+use Rattle.am_wire.specs.declared.unknown.Unknown.{Unknown}
 use Rattle.am_gossip.specs.Answers.{frame_fault}
 use Rattle.am_gossip.specs.declared.error.FrameError.{FrameError}
 use Rattle.am_gossip.specs.declared.frame.Part.{Part}
@@ -41,12 +42,12 @@ judged_here xs ys (MomentBack last) is = is
 judged_here xs ys UnknownPeer is = is
 
 -- the rows of the part at a place, and those of the parts behind it
-pub rows_at : (parts : List Part) (i : ℕ) (part : Part) → i < length parts → part ≡ get_or parts i part →
-    rows_in (drop i parts) ≡ rows_of part ++ rows_in (drop (i + 1) parts)
-rows_at parts i part within is =
-    ap rows_in (drop-cons parts i part within) ∙ ap (λ p. rows_of p ++ rows_in (drop (suc i) parts)) (sym is)
-    ∙ ap (λ (n : ℕ). rows_of part ++ rows_in (drop n parts)) (sym (add-one i))
+pub rows_at : (unknown : Unknown) (parts : List Part) (i : ℕ) (part : Part) → i < length parts → part ≡ get_or parts i part →
+    rows_in unknown (drop i parts) ≡ rows_of unknown part ++ rows_in unknown (drop (i + 1) parts)
+rows_at unknown parts i part within is =
+    ap (rows_in unknown) (drop-cons parts i part within) ∙ ap (λ p. rows_of unknown p ++ rows_in unknown (drop (suc i) parts)) (sym is)
+    ∙ ap (λ (n : ℕ). rows_of unknown part ++ rows_in unknown (drop n parts)) (sym (add-one i))
 
 -- no part is left
-pub none_left : (parts : List Part) (i : ℕ) → length parts ≤ i → rows_in (drop i parts) ≡ []
-none_left parts i past = ap rows_in (drop_all i parts past)
+pub none_left : (unknown : Unknown) (parts : List Part) (i : ℕ) → length parts ≤ i → rows_in unknown (drop i parts) ≡ []
+none_left unknown parts i past = ap (rows_in unknown) (drop_all i parts past)

@@ -12,6 +12,7 @@ pub mod HereWorks
 pub mod RequestWorks
 pub mod NoticeWorks
 pub mod Passing
+pub mod Whole
 pub mod Stepping
 pub mod Histories
 pub mod Alike

@@ -4,6 +4,7 @@ use Rattle.std.specs.Prelude.{Option, Result, Ok, Err}
 use Rattle.std.specs.Ordering.{nat_cmp}
 use Rattle.std.specs.Cmp.Lexicographic.{slice_cmp}
 use Rattle.am_wire.specs.Inputs.{messages_of}
+use Rattle.am_wire.specs.declared.unknown.Unknown.{Unknown}
 use Rattle.am_silence.specs.Mesh.{Mesh, mesh_version}
 use Rattle.am_silence.specs.MeshTable.{reads_mesh_silence}
 use Rattle.am_nflog.specs.Mesh.{Mesh as LogMesh, mesh_version as entry_version}
@@ -33,25 +34,25 @@ first_fault_read f (Err e ∷ items) = refl
 
 -- ---- the rows of a part
 
-rows_by_key : (part : Part) → part.key ≡ Sil → rows_of part ≡ map (read_as OfSilence) (messages_of reads_mesh_silence part.bytes)
+pub rows_by_key : (unknown : Unknown) (part : Part) → part.key ≡ Sil → rows_of unknown part ≡ map (read_as OfSilence) (messages_of (reads_mesh_silence unknown) part.bytes)
 unfolding rows_of
-rows_by_key part is = rw is refl
+rows_by_key unknown part is = rw is refl
 
-log_rows_by_key : (part : Part) → part.key ≡ Nfl → rows_of part ≡ map (read_as OfEntry) (messages_of reads_mesh_entry part.bytes)
+pub log_rows_by_key : (unknown : Unknown) (part : Part) → part.key ≡ Nfl → rows_of unknown part ≡ map (read_as OfEntry) (messages_of (reads_mesh_entry unknown) part.bytes)
 unfolding rows_of
-log_rows_by_key part is = rw is refl
+log_rows_by_key unknown part is = rw is refl
 
-pub silence_rows : (part : Part) → part.key ≡ Sil → before_fault (rows_of part) ≡ map OfSilence (before_fault (messages_of reads_mesh_silence part.bytes))
-silence_rows part is = ap before_fault (rows_by_key part is) ∙ before_fault_read OfSilence (messages_of reads_mesh_silence part.bytes)
+pub silence_rows : (unknown : Unknown) (part : Part) → part.key ≡ Sil → before_fault (rows_of unknown part) ≡ map OfSilence (before_fault (messages_of (reads_mesh_silence unknown) part.bytes))
+silence_rows unknown part is = ap before_fault (rows_by_key unknown part is) ∙ before_fault_read OfSilence (messages_of (reads_mesh_silence unknown) part.bytes)
 
-pub silence_fault : (part : Part) → part.key ≡ Sil → first_fault (rows_of part) ≡ first_fault (messages_of reads_mesh_silence part.bytes)
-silence_fault part is = ap first_fault (rows_by_key part is) ∙ first_fault_read OfSilence (messages_of reads_mesh_silence part.bytes)
+pub silence_fault : (unknown : Unknown) (part : Part) → part.key ≡ Sil → first_fault (rows_of unknown part) ≡ first_fault (messages_of (reads_mesh_silence unknown) part.bytes)
+silence_fault unknown part is = ap first_fault (rows_by_key unknown part is) ∙ first_fault_read OfSilence (messages_of (reads_mesh_silence unknown) part.bytes)
 
-pub log_rows : (part : Part) → part.key ≡ Nfl → before_fault (rows_of part) ≡ map OfEntry (before_fault (messages_of reads_mesh_entry part.bytes))
-log_rows part is = ap before_fault (log_rows_by_key part is) ∙ before_fault_read OfEntry (messages_of reads_mesh_entry part.bytes)
+pub log_rows : (unknown : Unknown) (part : Part) → part.key ≡ Nfl → before_fault (rows_of unknown part) ≡ map OfEntry (before_fault (messages_of (reads_mesh_entry unknown) part.bytes))
+log_rows unknown part is = ap before_fault (log_rows_by_key unknown part is) ∙ before_fault_read OfEntry (messages_of (reads_mesh_entry unknown) part.bytes)
 
-pub log_fault : (part : Part) → part.key ≡ Nfl → first_fault (rows_of part) ≡ first_fault (messages_of reads_mesh_entry part.bytes)
-log_fault part is = ap first_fault (log_rows_by_key part is) ∙ first_fault_read OfEntry (messages_of reads_mesh_entry part.bytes)
+pub log_fault : (unknown : Unknown) (part : Part) → part.key ≡ Nfl → first_fault (rows_of unknown part) ≡ first_fault (messages_of (reads_mesh_entry unknown) part.bytes)
+log_fault unknown part is = ap first_fault (log_rows_by_key unknown part is) ∙ first_fault_read OfEntry (messages_of (reads_mesh_entry unknown) part.bytes)
 
 -- ---- the maps
 

@@ -3,6 +3,7 @@ use Rattle.std.proofs.Common.{◌≡◌, ◌≤◌, ℕ, List, [], ◌∷◌, Bo
 use Rattle.std.specs.Prelude.{Result, Ok, Err, if◌then◌else◌}
 use Rattle.std.specs.Ordering.{nat_cmp}
 use Rattle.std.specs.Cmp.Lexicographic.{slice_cmp}
+use Rattle.am_wire.specs.declared.unknown.Unknown.{Unknown}
 use Rattle.am_silence.specs.Mesh.{Mesh, mesh_version}
 use Rattle.am_nflog.specs.Mesh.{Mesh as LogMesh, mesh_version as entry_version}
 use Rattle.am_nflog.specs.Keys.{key_cmp}
@@ -18,7 +19,7 @@ use Rattle.am_instance.specs.Deliveries.{Delivery, events_at, to_silences, to_lo
 use Rattle.am_instance.specs.InstanceStates.{InstanceState, kept_silences, kept_log, AreSilencesLeftBy, IsLogLeftBy}
 use Rattle.am_instance.specs.Steps.{IsWork, brought, collects, counts, delivers, step_events}
 
-module _ {X : Type 0} (of_delivery : Delivery → MapEvent X) (now : ℕ) where
+module _ {X : Type 0} (of_delivery : Delivery → MapEvent X) (unknown : Unknown) (now : ℕ) where
   all_now : (ds : List Delivery) → MoveForward now (map (λ d. (of_delivery d, now)) ds)
   all_now [] = tt
   all_now (d ∷ ds) = (omega arith, all_now ds)
@@ -35,31 +36,31 @@ module _ {X : Type 0} (of_delivery : Delivery → MapEvent X) (now : ℕ) where
   answered_last from true ds = refl
   answered_last from false ds = last_now ds
 
-  forward : (from : ℕ) (event : Event) (result : Result Outcome StepError) → from ≤ now → MoveForward from (step_events of_delivery event now result)
-  forward from event (Ok outcome) later = answered_forward from (collects event) (delivers event outcome.made) later
+  forward : (from : ℕ) (event : Event) (result : Result Outcome StepError) → from ≤ now → MoveForward from (step_events of_delivery unknown event now result)
+  forward from event (Ok outcome) later = answered_forward from (collects event) (delivers unknown event outcome.made) later
   forward from event (Err (Memory taken)) later = (later, all_now _)
   forward from event (Err (MomentBack last)) later = tt
   forward from event (Err UnknownPeer) later = tt
   forward from event (Err (Frame fault)) later = tt
 
-  ends_now : (from : ℕ) (event : Event) (result : Result Outcome StepError) → counts result ≡ true → last_moment from (step_events of_delivery event now result) ≡ now
-  ends_now from event (Ok outcome) counted = answered_last from (collects event) (delivers event outcome.made)
-  ends_now from event (Err (Memory taken)) counted = last_now (take taken (brought event))
+  ends_now : (from : ℕ) (event : Event) (result : Result Outcome StepError) → counts result ≡ true → last_moment from (step_events of_delivery unknown event now result) ≡ now
+  ends_now from event (Ok outcome) counted = answered_last from (collects event) (delivers unknown event outcome.made)
+  ends_now from event (Err (Memory taken)) counted = last_now (take taken (brought unknown event))
   ends_now from event (Err (MomentBack last)) counted = absurd cc
   ends_now from event (Err UnknownPeer) counted = absurd cc
   ends_now from event (Err (Frame fault)) counted = absurd cc
 
 module _ (old mid : InstanceState) (event : Event) (now : ℕ) (result : Result Outcome StepError) (later : old.last ≤ now) (work : IsWork old event now result mid) (counted : counts result ≡ true) where
-  pub silences_left : (new : Kept Mesh) → new.last ≡ now → new.held ≡ mid.silences → AreSilencesLeftBy (kept_silences old) (step_events to_silences event now result) new
+  pub silences_left : (new : Kept Mesh) → new.last ≡ now → new.held ≡ mid.silences → AreSilencesLeftBy (kept_silences old) (step_events to_silences old.config.unknown event now result) new
   silences_left new last same = record {
-    forward = forward to_silences now old.last event result later;
+    forward = forward to_silences old.config.unknown now old.last event result later;
     map = λ key. ap (λ (held : List Mesh). at mesh_version (slice_cmp nat_cmp) held key) same ∙ ap (λ m. m key) work.silences;
-    last = last ∙ sym (ends_now to_silences now old.last event result counted);
+    last = last ∙ sym (ends_now to_silences old.config.unknown now old.last event result counted);
   }
 
-  pub log_left : (new : Kept LogMesh) → new.last ≡ now → new.held ≡ mid.log → IsLogLeftBy (kept_log old) (step_events to_log event now result) new
+  pub log_left : (new : Kept LogMesh) → new.last ≡ now → new.held ≡ mid.log → IsLogLeftBy (kept_log old) (step_events to_log old.config.unknown event now result) new
   log_left new last same = record {
-    forward = forward to_log now old.last event result later;
+    forward = forward to_log old.config.unknown now old.last event result later;
     map = λ key. ap (λ (held : List LogMesh). at entry_version key_cmp held key) same ∙ ap (λ m. m key) work.log;
-    last = last ∙ sym (ends_now to_log now old.last event result counted);
+    last = last ∙ sym (ends_now to_log old.config.unknown now old.last event result counted);
   }

@@ -3,6 +3,7 @@ use Rattle.std.proofs.Common.{◌≡◌, ℕ, List, [], ◌∷◌, ◌++◌, Boo
 use Rattle.std.specs.Prelude.{Option, Some, None, Ok, Err, if◌then◌else◌}
 use Rattle.std.specs.Ordering.{nat_cmp}
 use Rattle.std.specs.Cmp.Lexicographic.{slice_cmp}
+use Rattle.am_wire.specs.declared.unknown.Unknown.{Unknown}
 use Rattle.am_nflog.specs.Keys.{key_cmp}
 use Rattle.am_collect.specs.Events.{MapEvent, after_all}
 use Rattle.am_collect.specs.Events.MapEvent.{Collected}
@@ -38,21 +39,21 @@ made_entry_here made entry none is =
     ap (λ (xs : List Mesh). map OfSilence xs ++ map OfEntry (listed made.log)) none ∙ ap (λ (e : Option LogMesh). map OfEntry (listed e)) is
 
 -- what a step that was answered and doesn't collect is to a map
-events_of_answer : {X : Type 0} (of_delivery : Delivery → MapEvent X) (event : Event) (now : ℕ) (outcome : Outcome) (ds : List Delivery) →
-    collects event ≡ false → delivers event outcome.made ≡ ds → step_events of_delivery event now (Ok outcome) ≡ events_at of_delivery now ds
-events_of_answer of_delivery event now outcome ds stays is =
-    ap (λ (test : Bool). if test then (Collected, now) ∷ [] else events_at of_delivery now (delivers event outcome.made)) stays ∙ ap (events_at of_delivery now) is
+events_of_answer : {X : Type 0} (of_delivery : Delivery → MapEvent X) (unknown : Unknown) (event : Event) (now : ℕ) (outcome : Outcome) (ds : List Delivery) →
+    collects event ≡ false → delivers unknown event outcome.made ≡ ds → step_events of_delivery unknown event now (Ok outcome) ≡ events_at of_delivery now ds
+events_of_answer of_delivery unknown event now outcome ds stays is =
+    ap (λ (test : Bool). if test then (Collected, now) ∷ [] else events_at of_delivery now (delivers unknown event outcome.made)) stays ∙ ap (events_at of_delivery now) is
 
 -- An event that was answered and doesn't collect: what it delivers changes the maps, and its frames are those that are wanted.
 pub answered : (old new : InstanceState) (event : Event) (now : ℕ) (outcome : Outcome) (ds : List Delivery) →
-    collects event ≡ false → delivers event outcome.made ≡ ds → Delivers now ds old new → fault_of old.config now event ≡ None →
+    collects event ≡ false → delivers old.config.unknown event outcome.made ≡ ds → Delivers now ds old new → fault_of old.config now event ≡ None →
     Sends (deltas_to (peers_but old.config (origin old.config event)) (changed_of now (silence_at old.silences) (entry_at old.log) ds) ++ last_wanted event new) nothing_sent (sent_by outcome) →
     IsReply old event now outcome.reply outcome.made → IsWork old event now (Ok outcome) new
 answered old new event now outcome ds stays is delivered sound sent reply = record {
   config = delivered.config;
   last = delivered.last;
-  silences = delivered.silences ∙ sym (ap (after_all mesh_version (slice_cmp nat_cmp) (silence_at old.silences)) (events_of_answer to_silences event now outcome ds stays is));
-  log = delivered.log ∙ sym (ap (after_all entry_version key_cmp (entry_at old.log)) (events_of_answer to_log event now outcome ds stays is));
+  silences = delivered.silences ∙ sym (ap (after_all mesh_version (slice_cmp nat_cmp) (silence_at old.silences)) (events_of_answer to_silences old.config.unknown event now outcome ds stays is));
+  log = delivered.log ∙ sym (ap (after_all entry_version key_cmp (entry_at old.log)) (events_of_answer to_log old.config.unknown event now outcome ds stays is));
   answer = record {
     sound = sound;
     swept = λ collected. absurd cc;
@@ -62,7 +63,7 @@ answered old new event now outcome ds stays is delivered sound sent reply = reco
 }
 
 -- one that brings nothing, makes nothing and sends nothing
-pub quiet_work : (old : InstanceState) (event : Event) (now : ℕ) (outcome : Outcome) → collects event ≡ false → brought event ≡ [] → last_wanted event old ≡ [] →
+pub quiet_work : (old : InstanceState) (event : Event) (now : ℕ) (outcome : Outcome) → collects event ≡ false → brought old.config.unknown event ≡ [] → last_wanted event old ≡ [] →
     fault_of old.config now event ≡ None → sent_by outcome ≡ nothing_sent → IsNothing outcome.made → IsReply old event now outcome.reply outcome.made →
     IsWork old event now (Ok outcome) old
 quiet_work old event now outcome stays brings last sound sent nothing reply =
@@ -70,7 +71,7 @@ quiet_work old event now outcome stays brings last sound sent nothing reply =
     (subst (λ xs. Sends xs nothing_sent (sent_by outcome)) (sym last) sent) reply
 
 -- one that brings nothing and takes what it made here
-pub made_work : (old new : InstanceState) (event : Event) (now : ℕ) (outcome : Outcome) (ds : List Delivery) → collects event ≡ false → brought event ≡ [] → last_wanted event new ≡ [] →
+pub made_work : (old new : InstanceState) (event : Event) (now : ℕ) (outcome : Outcome) (ds : List Delivery) → collects event ≡ false → brought old.config.unknown event ≡ [] → last_wanted event new ≡ [] →
     origin old.config event ≡ old.config.place → fault_of old.config now event ≡ None → made_here outcome.made ≡ ds → Delivers now ds old new →
     Sends (deltas_here old now ds) nothing_sent (sent_by outcome) → IsReply old event now outcome.reply outcome.made → IsWork old event now (Ok outcome) new
 made_work old new event now outcome ds stays brings last own sound is delivered sent reply =
@@ -95,14 +96,14 @@ memory_work old new event now same wanting = subst (λ stand. IsWork old event n
 pub stopped_work : (old new : InstanceState) (event : Event) (now : ℕ) (e : StepError) → e ≡ Memory 0 → new ≡ old → refused_anyway old event now ≡ None → IsWork old event now (Err e) new
 stopped_work old new event now e is same wanting = subst (λ error. IsWork old event now (Err error) new) (sym is) (memory_work old new event now same wanting)
 
-nothing_wanted : (old new : InstanceState) (event : Event) (now : ℕ) (made : Made) → brought event ≡ [] → last_wanted event new ≡ [] → IsNothing made → wanted old event now made new ≡ []
+nothing_wanted : (old new : InstanceState) (event : Event) (now : ℕ) (made : Made) → brought old.config.unknown event ≡ [] → last_wanted event new ≡ [] → IsNothing made → wanted old event now made new ≡ []
 nothing_wanted old new event now made brings last nothing =
     ap (λ ds. deltas_to (peers_but old.config (origin old.config event)) (changed_of now (silence_at old.silences) (entry_at old.log) ds) ++ last_wanted event new)
     (ap (λ xs. xs ++ made_here made) brings ∙ made_nothing made nothing)
     ∙ last
 
 -- an event that collects
-pub collected_work : (old new : InstanceState) (event : Event) (now : ℕ) (outcome : Outcome) → collects event ≡ true → brought event ≡ [] → last_wanted event new ≡ [] →
+pub collected_work : (old new : InstanceState) (event : Event) (now : ℕ) (outcome : Outcome) → collects event ≡ true → brought old.config.unknown event ≡ [] → last_wanted event new ≡ [] →
     fault_of old.config now event ≡ None → new.config ≡ old.config → new.last ≡ old.last → AreSwept now old new →
     ((key : List ℕ) → silence_at new.silences key ≡ if_live mesh_version now (silence_at old.silences key)) →
     ((key : LogKey) → entry_at new.log key ≡ if_live entry_version now (entry_at old.log key)) →
@@ -110,8 +111,8 @@ pub collected_work : (old new : InstanceState) (event : Event) (now : ℕ) (outc
 collected_work old new event now outcome collected brings last_none sound config last swept silences log sent nothing reply = record {
   config = config;
   last = last;
-  silences = (λ i key. silences key i) ∙ sym (ap (after_all mesh_version (slice_cmp nat_cmp) (silence_at old.silences)) (ap (λ (test : Bool). if test then (Collected, now) ∷ [] else events_at to_silences now (delivers event outcome.made)) collected));
-  log = (λ i key. log key i) ∙ sym (ap (after_all entry_version key_cmp (entry_at old.log)) (ap (λ (test : Bool). if test then (Collected, now) ∷ [] else events_at to_log now (delivers event outcome.made)) collected));
+  silences = (λ i key. silences key i) ∙ sym (ap (after_all mesh_version (slice_cmp nat_cmp) (silence_at old.silences)) (ap (λ (test : Bool). if test then (Collected, now) ∷ [] else events_at to_silences now (delivers old.config.unknown event outcome.made)) collected));
+  log = (λ i key. log key i) ∙ sym (ap (after_all entry_version key_cmp (entry_at old.log)) (ap (λ (test : Bool). if test then (Collected, now) ∷ [] else events_at to_log now (delivers old.config.unknown event outcome.made)) collected));
   answer = record {
     sound = sound;
     swept = λ _. swept;

@@ -1,4 +1,4 @@
--- Replies as bare sets of versions give them. A bare set is a list in any order, with repetitions.
+-- Replies given by bare sets of versions. A bare set is a list in any order, with repetitions.
 use Rattle.std.specs.Prelude.{◌≡◌, ℕ, Bool, true, List, [], map, filter, Option, option_map}
 use Rattle.std.specs.List.{list_all}
 use Rattle.std.specs.Ordering.{nat_cmp}
@@ -26,7 +26,7 @@ use Rattle.am_instance.specs.Replies.{HoldsMutes, HoldsSilences, HoldsViews, fou
 use Rattle.am_instance.specs.Laws.{asks_views}
 
 module _ {K X : Type 0} (seen : X → Version K) (cmp : K → K → Ordering) where
-  -- the view of a bare set: in the order of the keys, and of each key what the set shows of it
+  -- the view of a bare set: what the set shows at each key, in the order of the keys
   pub record IsView (set : List X) (now : ℕ) (view : List X) : Type 0 where
     pub order : IsMap seen cmp view
     pub shown : (key : K) → IsViewAt seen set now key (at seen cmp view key)
@@ -39,16 +39,16 @@ AreSilencesShown = IsView mesh_version (slice_cmp nat_cmp)
 abbrev pub AreEntriesShown : List LogMesh → ℕ → List LogMesh → Type 0
 AreEntriesShown = IsView entry_version key_cmp
 
--- those that pass all filters, with their states
+-- the silences that pass all filters, with their states
 abbrev pub passing : ℕ → List Matcher → List Mesh → List (Mesh × State)
 passing now filters view = map (with_state now) (filter (λ v. list_all (λ f. passes f v.silence) filters) view)
 
--- what is answered from what is shown: a list, a silence, a decision, both views, and which silences mute an alert
+-- the event is answered from what is shown: a list, a silence, a decision, both views, or which silences mute an alert
 abbrev pub asks_shown : Event → Bool
 asks_shown (events.Mutes labels) = true
 asks_shown event = asks_views event
 
--- the reply to a request, from the bare set of silences
+-- the reply to a request, given by the bare set of silences
 abbrev pub IsBareRequestReply : List Mesh → Request → ℕ → Reply → Type 0
 IsBareRequestReply silences (requests.List filters) now reply =
     (view : List Mesh) × AreSilencesShown silences now view × HoldsSilences (passing now filters.items view) reply
@@ -56,9 +56,9 @@ IsBareRequestReply silences (requests.Get id) now reply =
     (found : Option Mesh) × IsViewAt mesh_version silences now id found × found_reply now found reply
 IsBareRequestReply silences _ now reply = ⊥
 
--- The reply to an event, from the bare sets of silences and of entries: of what they show, a list has the silences that pass
--- its filters, a silence is that of its id, a decision is that over the group's entry, and an alert is muted by the active ones.
--- The dialect is that of the patterns.
+-- The reply to an event, given by what the bare sets of silences and of entries show: a list has the silences that pass its
+-- filters, a silence is the one with its id, a decision goes by the group's entry, and the active silences mute an alert. The
+-- dialect is that of the patterns.
 abbrev pub IsBareReply : Dialect → List Mesh → List LogMesh → Event → ℕ → Reply → Type 0
 IsBareReply dialect silences log (events.Request request) now reply = IsBareRequestReply silences request now reply
 IsBareReply dialect silences log (events.Decide group_key receiver firing resolved repeat send_resolved) now reply =

@@ -24,36 +24,36 @@ abbrev pub left_of : {K X : Type 0} → (X → Version K) → (K → K → Order
 left_of seen cmp map None = map
 left_of seen cmp map (Some key) = from_key seen cmp map key
 
--- whether a state is that of the silences
+-- the state is that of the silences
 abbrev pub is_sil : StateKey → Bool
 is_sil Sil = true
 is_sil Nfl = false
 
--- whether a state is that of the log
+-- the state is that of the log
 abbrev pub is_nfl : StateKey → Bool
 is_nfl Sil = false
 is_nfl Nfl = true
 
--- whether there are parts of both states
+-- there are parts of both states
 abbrev pub names_both : List Part → Bool
 names_both parts = list_any (λ p. is_sil p.key) parts && list_any (λ p. is_nfl p.key) parts
 
--- the rows of one state, one behind the other
+-- the rows of one state, one after the other
 abbrev pub rows_of : (StateKey → Bool) → List Part → List ℕ
 rows_of is_of parts = flat_map (λ p. if is_of p.key then p.bytes else []) parts
 
--- a row of one state alone
+-- one row of one state
 abbrev pub alone : StateKey → List ℕ → List Part
 alone key row = record { key = key; bytes = row } ∷ []
 
--- a piece of a row goes out alone, and behind it others go on from a key
+-- a piece of a row goes out alone, and others follow it from a key on
 abbrev pub GoesAlone : {K X : Type 0} → (X → Version K) → ℕ → StateKey → List X → K → List Part → Type 0
 GoesAlone seen most key left next state = (row : List ℕ) × IsPiece seen most left (record { row = row; next = Some next }) × (state ≡ alone key row)
 
--- `most` is how many bytes the rows of a part have, unless a version alone has more
+-- `most` is the maximum number of bytes in the rows of a part, unless a single version has more
 module _ (most : ℕ) where
-  -- What goes out where silences are left, and the whole log. It is the last part where both fit. Else it is what is left of
-  -- the silences, if it fits and nothing of the log went out with it; or a piece of it.
+  -- What goes out if silences are left, and the whole log: the last part, if both fit it; otherwise the rest of the silences, if
+  -- it fits and nothing of the log went out with it; or a piece of them.
   abbrev pub HandsSilences : List Mesh → List LogMesh → List Part → Option Handout → Type 0
   HandsSilences silences log state None =
       (state ≡ whole_state silences log)
@@ -65,7 +65,7 @@ module _ (most : ℕ) where
   HandsSilences silences log state (Some (Silences (Some key))) = GoesAlone mesh_version most Sil silences key state
   HandsSilences silences log state (Some _) = ⊥
 
-  -- What goes out where only entries of the log are left. It is the last part where they fit, and else a piece of them.
+  -- What goes out if only entries of the log are left: the last part, if they fit it, and otherwise a piece of them.
   abbrev pub HandsLog : List LogMesh → List Part → Option Handout → Type 0
   HandsLog log state None =
       (state ≡ whole_state [] log)
@@ -73,13 +73,13 @@ module _ (most : ℕ) where
   HandsLog log state (Some (Log (Some key))) = GoesAlone entry_version most Nfl log key state
   HandsLog log state (Some _) = ⊥
 
-  -- the next part of all that is held, and how to go on behind it
+  -- the next part of all that is held, and the progress after it
   abbrev pub IsHandedOut : List Mesh → List LogMesh → Handout → HandedPart → Type 0
   IsHandedOut silences log (Silences from) handed =
       HandsSilences (left_of mesh_version (slice_cmp nat_cmp) silences from) log handed.state handed.next
   IsHandedOut silences log (Log from) handed = HandsLog (left_of entry_version key_cmp log from) handed.state handed.next
 
-  -- these are all parts, from the first to the last, that are handed out of maps that stay as they are
+  -- these are all parts, from the first to the last, handed out of maps that stay as they are
   abbrev pub AreHandedOut : List Mesh → List LogMesh → Handout → List HandedPart → Type 0
   AreHandedOut silences log handout [] = ⊥
   AreHandedOut silences log handout (handed ∷ others) =

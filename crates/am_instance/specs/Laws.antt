@@ -21,24 +21,25 @@ use Rattle.am_instance.specs.InstanceStates.{InstanceState, kept_silences, kept_
 use Rattle.am_instance.specs.Replies.{silence_in_view, entry_in_view}
 use Rattle.am_instance.specs.Steps.{step_events}
 
--- a step that was made: what happened, when, what was answered, and what it left
+-- a step that was made: the event, its moment, the answer, and the instance that it left
 pub record Happened : Type 0 where
   pub event : Event
   pub now : ℕ
   pub answer : Result Outcome StepError
   pub left : InstanceState
 
--- steps made one after the other, each of which changed both maps as the contract of a step says
+-- steps made one after the other, each of which left the configuration as it was, and changed both maps as the contract of a step
+-- says
 abbrev pub AreMade : InstanceState → List Happened → InstanceState → Type 0
 AreMade old [] new = new ≡ old
 AreMade old (h ∷ hs) new =
-    AreSilencesLeftBy (kept_silences old) (step_events to_silences h.event h.now h.answer) (kept_silences h.left)
-    × IsLogLeftBy (kept_log old) (step_events to_log h.event h.now h.answer) (kept_log h.left)
+    AreSilencesLeftBy (kept_silences old) (step_events to_silences h.left.config.unknown h.event h.now h.answer) (kept_silences h.left)
+    × IsLogLeftBy (kept_log old) (step_events to_log h.left.config.unknown h.event h.now h.answer) (kept_log h.left)
     × AreMade h.left hs new
 
 -- what the steps are to one of the maps
 abbrev pub run_events : {X : Type 0} → (Delivery → MapEvent X) → List Happened → Events X
-run_events of_delivery hs = flat_map (λ h. step_events of_delivery h.event h.now h.answer) hs
+run_events of_delivery hs = flat_map (λ h. step_events of_delivery h.left.config.unknown h.event h.now h.answer) hs
 
 -- the bare sets: every silence that an instance began with or that was delivered
 abbrev pub all_silences : InstanceState → List Happened → List Mesh
@@ -48,7 +49,7 @@ all_silences start steps = taken start.silences (run_events to_silences steps)
 abbrev pub all_entries : InstanceState → List Happened → List LogMesh
 all_entries start steps = taken start.log (run_events to_log steps)
 
--- both lists of an instance are maps: in the order of the keys, none twice
+-- both lists of an instance are maps: in the order of the keys, with no key twice
 pub record HasMaps (stand : InstanceState) : Type 0 where
   pub silences : IsMap mesh_version (slice_cmp nat_cmp) stand.silences
   pub log : IsMap entry_version key_cmp stand.log
@@ -60,12 +61,12 @@ pub record AreCalmSteps (start : InstanceState) (steps : List Happened) (new : I
   pub silences : IsCalm mesh_version start.silences start.last (run_events to_silences steps)
   pub log : IsCalm entry_version start.log start.last (run_events to_log steps)
 
--- two instances have the same in view, of each identifier and of each key of the log
+-- two instances have the same in view, at each identifier and at each key of the log
 pub record ShowSame (now : ℕ) (one other : InstanceState) : Type 0 where
   pub silences : (id : List ℕ) → silence_in_view now one.silences id ≡ silence_in_view now other.silences id
   pub log : (key : LogKey) → entry_in_view now one.log key ≡ entry_in_view now other.log key
 
--- what is answered from both views alone: a list, a silence, a decision, and the views
+-- the event is answered from both views alone: a list, a silence, a decision, or the views
 abbrev pub asks_views : Event → Bool
 asks_views (events.Request (requests.List filters)) = true
 asks_views (events.Request (requests.Get id)) = true

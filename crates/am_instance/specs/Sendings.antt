@@ -1,4 +1,4 @@
--- What a step sends.
+-- The frames that a step sends.
 use Rattle.std.specs.Prelude.{◌≡◌, ◌⊎◌, ℕ, ◌+◌, ◌-◌, ◌^◌, min, true, false, List, [], ◌∷◌, ◌++◌, map, length}
 use Rattle.std.specs.List.{flat_map}
 use Rattle.am_version_order.specs.Versions.{Version}
@@ -18,21 +18,21 @@ use Rattle.am_instance.specs.declared.reply.Outcome.{Outcome}
 use Rattle.am_instance.specs.Deliveries.{Delivery}
 use Rattle.am_instance.specs.Deliveries.Delivery.{OfSilence, OfEntry}
 
--- frames with the places that they go to, and how many were left out, for want of memory or by the limit of their kind
+-- frames with the places that they go to, and the numbers of those left out for lack of memory and by the limit of their kind
 pub record Sent : Type 0 where
   pub frames : List (ℕ × Frame)
   pub memory : ℕ
   pub limit : ℕ
 
--- no frame, and none left out
+-- no frames, and none left out
 abbrev pub nothing_sent : Sent
 nothing_sent = record { frames = []; memory = 0; limit = 0 }
 
--- a count stops at the greatest number of 64 bits
+-- a count, which stops at the greatest number of 64 bits
 abbrev pub capped : ℕ → ℕ
 capped n = min n (2 ^ 64 - 1)
 
--- one more of a count
+-- a count plus one
 abbrev pub one_more : ℕ → ℕ
 one_more n = capped (n + 1)
 
@@ -40,15 +40,15 @@ one_more n = capped (n + 1)
 abbrev pub handed_out : ℕ × Frame → Sent → Sent
 handed_out wanted sent = record sent { frames = sent.frames ++ wanted ∷ [] }
 
--- there is no memory for a frame, and it is counted so
+-- there is no memory for a frame, and it is counted as such
 abbrev pub no_memory : Sent → Sent
 no_memory sent = record sent { memory = one_more sent.memory }
 
--- a frame is over its limit, and it is counted so
+-- a frame is over its limit, and it is counted as such
 abbrev pub over_limit : Sent → Sent
 over_limit sent = record sent { limit = one_more sent.limit }
 
--- the frames of another are kept behind those before
+-- the frames of another follow those before
 abbrev pub with_more : Sent → Sent → Sent
 with_more before more = record {
   frames = before.frames
@@ -70,13 +70,13 @@ without_more before more = record {
 abbrev pub Gathers : Sent → Sent → Sent → Type 0
 Gathers more before after = (after ≡ with_more before more) ⊎ (after ≡ without_more before more)
 
--- What became of a frame that is wanted: one that keeps its limit is handed out, unless there is no memory for it; another is
--- counted as over its limit, whatever memory there is.
+-- What becomes of a wanted frame: one that keeps its limit is handed out, unless there is no memory for it; any other is counted
+-- as over its limit, however much memory there is.
 pub record IsSent (wanted : ℕ × Frame) (old new : Sent) : Type 0 where
   pub fitting : fits wanted.1 ≡ true → (new ≡ handed_out wanted old) ⊎ (new ≡ no_memory old)
   pub too_long : fits wanted.1 ≡ false → new ≡ over_limit old
 
--- each of the wanted frames in turn
+-- each of the wanted frames is sent in turn
 abbrev pub Sends : List (ℕ × Frame) → Sent → Sent → Type 0
 Sends [] old new = new ≡ old
 Sends (wanted ∷ rest) old new = (mid : Sent) × IsSent wanted old mid × Sends rest mid new
@@ -100,11 +100,11 @@ addressed places frame = map (λ place. (place, frame)) places
 abbrev pub deltas_to : List ℕ → List Delivery → List (ℕ × Frame)
 deltas_to places ds = flat_map (λ d. addressed places (delta_of d)) ds
 
--- both maps whole, versions that are not live too
+-- both whole maps, including versions that aren't live
 abbrev pub whole_state : List Mesh → List LogMesh → List Part
 whole_state silences log = states (row_text mesh_version silences) (row_text entry_version log)
 
--- the frame in which both states go out
+-- the frame that carries both states
 abbrev pub states_frame : Exchange → List Part → Frame
 states_frame Ask parts = Push parts
 states_frame Answer parts = Pull parts

@@ -1,4 +1,4 @@
-//! Who is in the cluster, and how long things are kept and waited for.
+//! The members of a cluster, and how long things are kept and waited for.
 
 ghost use Rattle.std.specs.Prelude.{◌≡◌, ◌≢◌, ℕ, ◌+◌, ◌*◌, ◌<◌, ◌≤◌, ◌↔◌, ◌⊎◌, ◌∷◌, Any, Contains, Some, None, length};
 ghost use Rattle.std.specs.Prelude.{insert, position, slice_get, false, IsTrue, IfOk, OnOk, OnErr, IfSome, IsPermutation};
@@ -8,59 +8,60 @@ ghost use Rattle.am_version_order.specs.Moments.{greatest};
 ghost use Rattle.am_instance.specs.Configs.{AreInOrder, AreMembers, HasTwice, IsEmptyName, IsLongName, is_peer, place_named};
 ghost use Rattle.am_refusals.specs.declared.error.ConfigError.TheVariants as errors;
 ghost use Rattle.am_matcher.specs.declared.dialect.Dialect.TheVariants as dialects;
+ghost use Rattle.am_wire.specs.declared.unknown.Unknown.TheVariants as unknowns;
 
 use am_dedup::due;
 use am_gossip::MOST_NAME_BYTES;
 use am_matcher::Dialect;
 use am_refusals::{ConfigError, Place};
 use am_version_order::{Interval, Moment};
-use am_wire::Text;
+use am_wire::{Text, Unknown};
 use std::alloc::{AllocError, Global};
 use std::marker::Model;
 
-/// Whether a name has no byte.
+/// Returns whether a name has no bytes.
 fn is_empty(name: &Text) -> bool
     ensures { IsTrue result ↔ IsEmptyName name.now }
 {
     name.as_str().is_empty()
 }
 
-/// Whether a name has over 255 bytes.
+/// Returns whether a name has more than 255 bytes.
 fn is_long(name: &Text) -> bool
     ensures { IsTrue result ↔ IsLongName name.now }
 {
     name.as_str().len() as u64 > MOST_NAME_BYTES
 }
 
-/// Whether one of the names has no byte.
+/// Returns whether any of the names has no bytes.
 fn any_empty(names: &[Text]) -> bool
     ensures { IsTrue result ↔ Any IsEmptyName names.now }
 {
     names.iter().any(is_empty)
 }
 
-/// Whether one of the names has over 255 bytes.
+/// Returns whether any of the names has more than 255 bytes.
 fn any_long(names: &[Text]) -> bool
     ensures { IsTrue result ↔ Any IsLongName names.now }
 {
     names.iter().any(is_long)
 }
 
-/// Whether one of all names has no byte.
+/// Returns whether any of all names has no bytes.
 fn has_empty(name: &Text, peers: &[Text]) -> bool
     ensures { IsTrue result ↔ Any IsEmptyName (name.now ∷ peers.now) }
 {
     is_empty(name) || any_empty(peers)
 }
 
-/// Whether one of all names has over 255 bytes.
+/// Returns whether any of all names has more than 255 bytes.
 fn has_long(name: &Text, peers: &[Text]) -> bool
     ensures { IsTrue result ↔ Any IsLongName (name.now ∷ peers.now) }
 {
     is_long(name) || any_long(peers)
 }
 
-/// Whether each name has from 1 to 255 bytes.
+/// Checks that each name has from 1 to 255 bytes.
 fn check_names(name: &Text, peers: &[Text]) -> Result<(), ConfigError>
     ensures empty_name { (result ≡ Err errors.EmptyName) ↔ Any IsEmptyName (name.now ∷ peers.now) }
     ensures long_name { (result ≡ Err errors.LongName)
@@ -78,7 +79,7 @@ fn check_names(name: &Text, peers: &[Text]) -> Result<(), ConfigError>
     Ok(())
 }
 
-/// Sorts names, and says whether no two are the same. It takes no memory.
+/// Sorts names, and returns whether no two are the same. It takes no memory.
 fn sort_names(names: &mut Vec<Text>) -> bool
     ensures same { IsPermutation names.old.items names.new.items }
     ensures order { IsTrue result → AreInOrder names.new.items }
@@ -88,7 +89,7 @@ fn sort_names(names: &mut Vec<Text>) -> bool
     names.is_sorted_by(|one, next| one.cmp(next).is_lt())
 }
 
-/// Where a name goes among names in their order, unless it is there.
+/// Returns the place of a new name among sorted names, or `None` if they have it.
 fn place_for(names: &[Text], name: &Text) -> Option<usize>
     requires { AreInOrder names.now }
     ensures place { IfSome result (λ place. place ≤ length names.now) }
@@ -98,7 +99,7 @@ fn place_for(names: &[Text], name: &Text) -> Option<usize>
     names.binary_search(name).err()
 }
 
-/// All names in their order, and where the own one stands.
+/// Returns all names in order, and the place of this member's own.
 fn in_order(name: Text, peers: Vec<Text>) -> Result<(Vec<Text>, usize), ConfigError>
     ensures order { IfOk result (λ all. AreInOrder all.0.items) }
     ensures members { IfOk result (λ all. IsPermutation (name ∷ peers.items) all.0.items) }
@@ -119,15 +120,16 @@ fn in_order(name: Text, peers: Vec<Text>) -> Result<(Vec<Text>, usize), ConfigEr
     Ok((names, place))
 }
 
-/// Where the first of these texts stands that is this one.
+/// Returns the place of the first text that is this name.
 fn index_of(texts: &[Text], name: &str) -> Option<usize>
     ensures { result ≡ position (λ text. bytes_eq text name.now) texts.now }
 {
     texts.iter().position(|text| text.as_str() == name)
 }
 
-/// The members of a cluster, which of them this one is, for how long versions are kept after their end, for how long
-/// members wait for one another, and which regular expressions patterns are.
+/// The configuration of a member: the members of its cluster and its place among them, how long versions are kept after their
+/// end, how long members wait for one another, the dialect of regular expressions in patterns, and the policy for fields of
+/// versions that their readers don't know.
 pub struct Config {
     alloc: Global,
     members: Vec<Text>,
@@ -135,6 +137,7 @@ pub struct Config {
     retention: Interval,
     peer_timeout: Interval,
     dialect: Dialect,
+    unknown: Unknown,
 }
 
 // (so that crates above cite one drop, and don't prove those of all that is inside)
@@ -147,6 +150,7 @@ impl Drop for Config {
             retention: _,
             peer_timeout: _,
             dialect: _,
+            unknown: _,
         } = self;
     }
 }
@@ -156,14 +160,14 @@ impl Model for Config {
 
     ghost Value = { Settings };
 
-    ghost view = { λ c. record { members = c.members.items; place = c.place; retention = c.retention; peer_timeout = c.peer_timeout; dialect = c.dialect } };
+    ghost view = { λ c. record { members = c.members.items; place = c.place; retention = c.retention; peer_timeout = c.peer_timeout; dialect = c.dialect; unknown = c.unknown } };
 
     ghost invariant = { λ c. AreMembers c.members.items c.place };
 }
 
 impl Config {
-    /// A member of this name among these peers, with patterns of `regex`. Members are known by their places, in the order of
-    /// their names.
+    /// Returns the configuration of a member with this name among these peers, with patterns of `regex` and without unknown
+    /// fields. Members are known by their places, in the order of their names.
     ///
     /// # Errors
     ///
@@ -182,6 +186,7 @@ impl Config {
         ensures retention { IfOk result (λ config. config.retention ≡ retention) }
         ensures peer_timeout { IfOk result (λ config. config.peer_timeout ≡ peer_timeout) }
         ensures dialect { IfOk result (λ config. config.dialect ≡ dialects.Regex) }
+        ensures unknown { IfOk result (λ config. config.unknown ≡ unknowns.Drop) }
         ensures empty_name { (result ≡ Err errors.EmptyName) ↔ Any IsEmptyName (name ∷ peers.items) }
         ensures long_name { (result ≡ Err errors.LongName)
             ↔ (¬ Any IsEmptyName (name ∷ peers.items)) × Any IsLongName (name ∷ peers.items) }
@@ -197,14 +202,15 @@ impl Config {
             retention,
             peer_timeout,
             dialect: Dialect::Regex,
+            unknown: Unknown::Drop,
         })
     }
 
-    /// A copy.
+    /// Returns a copy.
     ///
     /// # Errors
     ///
-    /// [`AllocError`] where memory runs out.
+    /// [`AllocError`] if memory runs out.
     pub fn try_clone(&self) -> Result<Config, AllocError>
         ensures { IfOk result (λ copy. copy ≡ self.now) }
     {
@@ -219,10 +225,11 @@ impl Config {
             retention: self.retention,
             peer_timeout: self.peer_timeout,
             dialect: self.dialect,
+            unknown: self.unknown,
         })
     }
 
-    /// The same with patterns of the dialect. It takes no memory.
+    /// Returns the same configuration with patterns of this dialect. It takes no memory.
     pub fn with_dialect(self, dialect: Dialect) -> Config
         ensures { result ≡ record self { dialect = dialect } }
     {
@@ -231,11 +238,20 @@ impl Config {
         config
     }
 
-    /// The configuration of the member at a place of the same cluster.
+    /// Returns the same configuration with this policy for fields of versions that their readers don't know. It takes no memory.
+    pub fn with_unknown(self, unknown: Unknown) -> Config
+        ensures { result ≡ record self { unknown = unknown } }
+    {
+        let mut config = self;
+        config.unknown = unknown;
+        config
+    }
+
+    /// Returns the configuration of the member at a place of the same cluster.
     ///
     /// # Errors
     ///
-    /// [`AllocError`] where memory runs out.
+    /// [`AllocError`] if memory runs out.
     pub fn for_member(&self, place: Place) -> Result<Config, AllocError>
         requires { place < length self.now.members }
         ensures { IfOk result (λ config. config ≡ record self.now { place = place }) }
@@ -245,7 +261,7 @@ impl Config {
         Ok(config)
     }
 
-    /// The names of all members, in the order of their bytes: no two are the same, and each has 1 to 255 bytes.
+    /// Returns the names of all members, in the order of their bytes: no two are the same, and each has 1 to 255 bytes.
     pub fn members(&self) -> &[Text]
         ensures names { result.now ≡ self.now.members }
         ensures sound { AreMembers self.now.members self.now.place }
@@ -253,7 +269,7 @@ impl Config {
         self.members.as_slice()
     }
 
-    /// The own place.
+    /// Returns this member's own place.
     pub fn place(&self) -> Place
         ensures own { result ≡ self.now.place }
         ensures within { self.now.place < length self.now.members }
@@ -261,28 +277,36 @@ impl Config {
         self.place
     }
 
-    /// How long versions are kept after their end, in nanoseconds.
+    /// Returns how long versions are kept after their end, in nanoseconds.
     pub fn retention(&self) -> Interval
         ensures { result ≡ self.now.retention }
     {
         self.retention
     }
 
-    /// Which regular expressions patterns are.
+    /// Returns the dialect of regular expressions in patterns.
     pub fn dialect(&self) -> Dialect
         ensures { result ≡ self.now.dialect }
     {
         self.dialect
     }
 
-    /// Whether a place is that of another member.
+    /// Returns the policy for fields of versions that their readers don't know.
+    pub fn unknown(&self) -> Unknown
+        ensures { result ≡ self.now.unknown }
+    {
+        self.unknown
+    }
+
+    /// Returns whether a place is that of another member.
     pub fn is_peer(&self, place: Place) -> bool
         ensures { result ≡ is_peer self.now place }
     {
         place < self.members.len() as u64 && place != self.place
     }
 
-    /// The place of the member of that name, which may be the own one, or `None` where no member has it. It takes no memory.
+    /// Returns the place of the member with that name, which may be this one, or `None` if there is no such member. It takes no
+    /// memory.
     pub fn place_named(&self, name: &str) -> Option<Place>
         ensures named { result ≡ place_named self.now name.now }
         ensures there { IfSome result (λ place. slice_get self.now.members place ≡ Some name.now) }
@@ -293,7 +317,7 @@ impl Config {
         Some(index as u64)
     }
 
-    /// When this member is due that began to wait at `start`. `None` past [`Moment::GREATEST`]. It takes no memory.
+    /// Returns when this member is due if it began to wait at `start`, or `None` past [`Moment::GREATEST`]. It takes no memory.
     pub fn due_from(&self, start: Moment) -> Option<Moment>
         ensures { let due = start + self.now.place * self.now.peer_timeout in SomeIff result (due ≤ greatest) due }
     {

@@ -1,4 +1,4 @@
-//! What happens to an instance.
+//! The events of an instance.
 
 use am_gossip::Frame;
 use am_matcher::{Filter, Labels};
@@ -8,20 +8,20 @@ use am_silence::Posted;
 use am_version_order::Interval;
 use am_wire::{Bytes, Text};
 
-/// What a person or a tool asks of the silences.
+/// A request of a person or a tool about the silences.
 #[derive(Drop)]
 pub enum Request {
-    /// The silences in view that pass all filters.
+    /// A list of the silences in view that pass all filters.
     List { filters: Vec<Filter> },
-    /// The silence of an identifier.
+    /// The silence with an identifier.
     Get { id: Text },
-    /// A silence to be made or updated; a new one gets its identifier by the random bits.
+    /// A silence to create or update; a new one gets its identifier from the random bits.
     Post { posted: Posted, bits: u128 },
-    /// A silence to be ended.
+    /// A silence to end.
     Delete { id: Text },
 }
 
-/// One event, which one step answers as a whole.
+/// An event, which one step answers as a whole.
 #[derive(Drop)]
 pub enum Event {
     Request(Request),
@@ -30,7 +30,7 @@ pub enum Event {
         sender: Place,
         frame: Frame,
     },
-    /// A group was notified: its key, the receiver, the hashes of its alerts, and after how many nanoseconds the
+    /// A group was notified: its key, the receiver, the hashes of its alerts, and the number of nanoseconds after which the
     /// notification is to be repeated.
     Notified {
         group_key: Bytes,
@@ -39,7 +39,7 @@ pub enum Event {
         resolved: Hashes,
         repeat: Interval,
     },
-    /// Whether a group is to be notified.
+    /// A question whether a group is to be notified.
     Decide {
         group_key: Bytes,
         receiver: Receiver,
@@ -48,11 +48,11 @@ pub enum Event {
         repeat: Interval,
         send_resolved: bool,
     },
-    /// Which silences mute an alert with these labels.
+    /// A question which silences mute an alert with these labels.
     Mutes {
         labels: Labels,
     },
-    /// Both views.
+    /// A request for both views.
     Show,
     /// A collection of both states.
     Tick,

@@ -1,4 +1,4 @@
-//! Frames to be sent, and how those of a step are made.
+//! Frames to be sent, and how a step makes them.
 
 ghost use Rattle.std.specs.Prelude.{◌≡◌, ◌≤◌, [], ◌∷◌, filter, length, Some, true, IfSome, IfOk, OnOk};
 ghost use Rattle.std.specs.Option.{option_copied};
@@ -26,7 +26,7 @@ use am_wire::writing::{delimited_bytes, delimited_length};
 use std::alloc::{AllocError, Global};
 use std::marker::Model;
 
-/// Whom the Deltas of a step go to: all members but the own one and the one that the versions came from.
+/// The members that the Deltas of a step go to: all but this one and the one that the versions came from.
 #[derive(Clone, Copy)]
 pub struct Route {
     pub members: u64,
@@ -34,16 +34,16 @@ pub struct Route {
     pub origin: Place,
 }
 
-/// Why both states go out.
+/// The reason why both states are sent.
 #[derive(Clone, Copy)]
 pub enum Exchange {
-    /// So that the peer answers with its own.
+    /// The peer is asked for its own states.
     Ask,
-    /// As the answer to those of the peer.
+    /// The peer's states are answered.
     Answer,
 }
 
-/// Frames to be sent, each with the place of its peer, and how many were left out. Contracts see the list and the counts.
+/// Frames to be sent, each with the place of its peer, and the numbers of those left out. Contracts see the list and the numbers.
 #[derive(Drop)]
 pub struct FrameSender {
     pub frames: Vec<(Place, Frame)>,
@@ -59,7 +59,7 @@ impl Model for FrameSender {
 }
 
 impl FrameSender {
-    /// Nothing so far. It takes no memory.
+    /// Returns a sender without frames. It takes no memory.
     pub fn new(alloc: Global) -> FrameSender
         ensures { result ≡ nothing_sent }
     {
@@ -72,7 +72,7 @@ impl FrameSender {
         }
     }
 
-    /// Adds what another holds, behind what is here. Frames that there is no memory for are counted.
+    /// Appends what another sender holds. Frames for which there is no memory are counted.
     pub fn add(&mut self, more: FrameSender)
         ensures { Gathers more self.old self.new }
     {
@@ -96,7 +96,7 @@ impl FrameSender {
         self.unsent.limit = self.unsent.limit.saturating_add(1);
     }
 
-    /// Hands out a frame that keeps its limit.
+    /// Appends a frame that keeps its limit.
     fn hand_out(&mut self, place: Place, frame: Frame)
         requires { fits frame ≡ true }
         ensures { IsSent (place, frame) self.old self.new }
@@ -106,7 +106,7 @@ impl FrameSender {
         }
     }
 
-    /// Sends a version to each place of the route, by its canonical text.
+    /// Sends a version, given by its canonical text, to each place of the route.
     pub(crate) fn send_version(&mut self, route: Route, key: StateKey, content: &[u8])
         ensures { Sends (addressed (places_but route.members route.own route.origin) (delta key content.now)) self.old self.new }
     {
@@ -116,7 +116,7 @@ impl FrameSender {
         }
     }
 
-    /// Sends a version to one place, if that is of the route.
+    /// Sends a version to one place, if the route has it.
     fn send_along(
         &mut self,
         route: Route,
@@ -133,7 +133,7 @@ impl FrameSender {
         }
     }
 
-    /// Sends a version to one place. It is written already, where there was memory for that.
+    /// Sends a version to one place. `row` is the written version, if there was memory for it.
     fn send_delta(&mut self, place: Place, key: StateKey, content: &[u8], row: Option<&Bytes>)
         requires { IfSome (option_copied row) (λ bytes. bytes ≡ delimited content.now) }
         ensures { IsSent (place, delta key content.now) self.old self.new }
@@ -148,7 +148,7 @@ impl FrameSender {
         }
     }
 
-    /// Sends both states whole to a peer.
+    /// Sends both whole states to a peer.
     pub(crate) fn send_states(
         &mut self,
         place: Place,
@@ -169,7 +169,7 @@ impl FrameSender {
     }
 }
 
-/// The frame in which both states go out.
+/// Returns the frame that carries both states.
 fn states_frame(exchange: Exchange, state: FullState) -> Frame
     ensures { result ≡ states_frame exchange state }
 {
@@ -179,14 +179,14 @@ fn states_frame(exchange: Exchange, state: FullState) -> Frame
     }
 }
 
-/// A copy of what is written, where it is and there is memory.
+/// Returns a copy of what is written, if there is anything and there is memory for the copy.
 fn copy_of(alloc: Global, written: Option<&Bytes>) -> Option<Bytes>
     ensures { IfSome result (λ copy. option_copied written.entry ≡ Some copy) }
 {
     written?.try_clone(alloc).ok()
 }
 
-/// The row of a version that keeps the limit of a Delta, where there is memory for it.
+/// Returns the row of a version, if it keeps the limit of a Delta and there is memory for it.
 fn delta_row(alloc: Global, key: StateKey, content: &[u8]) -> Option<Bytes>
     ensures { IfSome result (λ bytes. bytes ≡ delimited content.now) }
 {
@@ -196,7 +196,7 @@ fn delta_row(alloc: Global, key: StateKey, content: &[u8]) -> Option<Bytes>
     delimited_bytes(alloc, content).ok()
 }
 
-/// Whether both states keep the limit of a frame. It takes no memory.
+/// Returns whether both states keep the limit of a frame. It takes no memory.
 fn keep_limit(silences: &Held<MeshSilence>, log: &Held<MeshEntry>) -> bool
     ensures { result ≡ fits (frames.Push (whole_state silences.now log.now)) }
 {
@@ -209,7 +209,7 @@ fn keep_limit(silences: &Held<MeshSilence>, log: &Held<MeshEntry>) -> bool
     states_fit(of_silences, of_log)
 }
 
-/// The row of a map, or [`AllocError`] also where it has over 67,108,864 bytes.
+/// Returns the row of a map, or [`AllocError`] also if it has more than 67,108,864 bytes.
 fn row_of<V: Version>(alloc: Global, held: &Held<V>) -> Result<Bytes, AllocError>
     ensures row { IfOk result (λ bytes. bytes ≡ row_text V.seen held.now) }
     ensures short { OnOk result (length (row_text V.seen held.now) ≤ most) }
@@ -220,7 +220,8 @@ fn row_of<V: Version>(alloc: Global, held: &Held<V>) -> Result<Bytes, AllocError
     row_bytes(alloc, held, length)
 }
 
-/// Both maps whole, versions that are not live too; or [`AllocError`] also where the row of one has over 67,108,864 bytes.
+/// Returns both whole maps, including versions that aren't live; or [`AllocError`] also if the row of one has more than
+/// 67,108,864 bytes.
 pub fn whole_state(
     alloc: Global,
     silences: &Held<MeshSilence>,
@@ -235,7 +236,7 @@ pub fn whole_state(
     both_parts(alloc, silences, log)
 }
 
-/// The parts of both states, by their rows.
+/// Returns the parts of both states, from their rows.
 pub(crate) fn both_parts(
     alloc: Global,
     silences: Bytes,

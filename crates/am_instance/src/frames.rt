@@ -27,10 +27,11 @@ use am_nflog::MeshEntry;
 use am_refusals::{Place, StepError};
 use am_silence::MeshSilence;
 use am_version_order::Moment;
+use am_wire::Unknown;
 use std::alloc::{AllocError, Global};
 
 impl Instance {
-    /// Takes what a frame brings, sends on what changed, and answers a Push with the own states.
+    /// Takes the versions of a frame, sends on those that change a map, and answers a Push with both own states.
     pub(crate) fn receive(
         &mut self,
         sender: Place,
@@ -57,7 +58,7 @@ impl Instance {
         }
     }
 
-    /// Drops what isn't live of both states, and the patterns that no silence has any more.
+    /// Drops what isn't live from both states, and the patterns that no silence has any more.
     pub(crate) fn collect(&mut self, now: Moment) -> Outcome
         ensures tick { IsWork self.old events.Tick now (Ok result) self.new }
         ensures frame { (sender : ℕ) → IsWork self.old (events.Frame sender frames.Tick) now (Ok result) self.new }
@@ -75,8 +76,8 @@ impl Instance {
         outcome(self.alloc, Reply::Nothing, outbox)
     }
 
-    /// Takes the versions in the parts of a frame, once all of them were read. Those that change a map go to all peers
-    /// but the sender.
+    /// Takes the versions in the parts of a frame, once all of them have been read. Those that change a map go to all peers but
+    /// the sender.
     fn take_in(
         &mut self,
         sender: Place,
@@ -85,7 +86,7 @@ impl Instance {
     ) -> Result<FrameSender, StepError>
         ensures { IsArrival self.old sender parts.now now result self.new }
     {
-        judge_parts(self.alloc, parts)?;
+        judge_parts(self.alloc, self.config.unknown(), parts)?;
         let mut outbox = FrameSender::new(self.alloc);
         let mut taken = 0;
         match self.take_parts(sender, parts, now, &mut outbox, &mut taken) {
@@ -98,7 +99,7 @@ impl Instance {
     ///
     /// # Errors
     ///
-    /// [`AllocError`] where memory runs out; the versions counted were taken.
+    /// [`AllocError`] if memory runs out; the versions counted were taken.
     fn take_parts(
         &mut self,
         sender: Place,
@@ -107,13 +108,13 @@ impl Instance {
         outbox: &mut FrameSender,
         taken: &mut usize,
     ) -> Result<(), AllocError>
-        requires { first_fault (rows_in parts.now) ≡ None }
-        ensures delivered { OnOk result (Delivers now (before_fault (rows_in parts.now)) self.old self.new) }
-        ensures count { OnOk result (taken.new ≡ taken.old + length (before_fault (rows_in parts.now))) }
+        requires { first_fault (rows_in self.old.config.unknown parts.now) ≡ None }
+        ensures delivered { OnOk result (Delivers now (before_fault (rows_in self.old.config.unknown parts.now)) self.old self.new) }
+        ensures count { OnOk result (taken.new ≡ taken.old + length (before_fault (rows_in self.old.config.unknown parts.now))) }
         ensures sent { OnOk result (Sends (deltas_to (peers_but self.old.config sender)
             (changed_of now (silence_at self.old.silences) (entry_at self.old.log)
-            (before_fault (rows_in parts.now)))) outbox.old outbox.new) }
-        ensures stopped { OnErr result (StopsDelivering now (before_fault (rows_in parts.now)) self.old self.new taken.old taken.new) }
+            (before_fault (rows_in self.old.config.unknown parts.now)))) outbox.old outbox.new) }
+        ensures stopped { OnErr result (StopsDelivering now (before_fault (rows_in self.old.config.unknown parts.now)) self.old self.new taken.old taken.new) }
     {
         for part in parts {
             self.take_part(sender, part, now, outbox, taken)?;
@@ -130,23 +131,25 @@ impl Instance {
         outbox: &mut FrameSender,
         taken: &mut usize,
     ) -> Result<(), AllocError>
-        requires { first_fault (rows_of part.now) ≡ None }
-        ensures delivered { OnOk result (Delivers now (before_fault (rows_of part.now)) self.old self.new) }
-        ensures count { OnOk result (taken.new ≡ taken.old + length (before_fault (rows_of part.now))) }
+        requires { first_fault (rows_of self.old.config.unknown part.now) ≡ None }
+        ensures delivered { OnOk result (Delivers now (before_fault (rows_of self.old.config.unknown part.now)) self.old self.new) }
+        ensures count { OnOk result (taken.new ≡ taken.old + length (before_fault (rows_of self.old.config.unknown part.now))) }
         ensures sent { OnOk result (Sends (deltas_to (peers_but self.old.config sender)
             (changed_of now (silence_at self.old.silences) (entry_at self.old.log)
-            (before_fault (rows_of part.now)))) outbox.old outbox.new) }
-        ensures stopped { OnErr result (StopsDelivering now (before_fault (rows_of part.now)) self.old self.new taken.old taken.new) }
+            (before_fault (rows_of self.old.config.unknown part.now)))) outbox.old outbox.new) }
+        ensures stopped { OnErr result (StopsDelivering now (before_fault (rows_of self.old.config.unknown part.now)) self.old self.new taken.old taken.new) }
     {
         let taking = Taking {
             moment: now,
             key: part.key,
             route: self.route(sender),
         };
+        let unknown = self.config.unknown();
         let row = part.bytes.as_slice();
         match part.key {
             StateKey::Sil => merge_row::<MeshSilence>(
                 self.alloc,
+                unknown,
                 &mut self.silences,
                 row,
                 &taking,
@@ -155,6 +158,7 @@ impl Instance {
             ),
             StateKey::Nfl => merge_row::<MeshEntry>(
                 self.alloc,
+                unknown,
                 &mut self.log,
                 row,
                 &taking,
@@ -164,7 +168,7 @@ impl Instance {
         }
     }
 
-    /// The peers but the one at a place; at the own place, all peers.
+    /// Returns the route to the peers other than the one at a place; at the own place, to all peers.
     pub(crate) fn route(&self, origin: Place) -> Route
         ensures places { places_but result.members result.own result.origin ≡ peers_but self.now.config origin }
         ensures own { result.own ≡ self.now.config.place }
@@ -177,7 +181,7 @@ impl Instance {
     }
 }
 
-/// Drops what isn't live of both states, and the patterns that no silence has that is left. It takes no memory.
+/// Drops what isn't live from both states, and the patterns that no remaining silence has. It takes no memory.
 fn sweep(
     silences: &mut Held<MeshSilence>,
     log: &mut Held<MeshEntry>,
@@ -196,34 +200,34 @@ fn sweep(
     patterns.drop_unused(silences);
 }
 
-/// Reads each version in parts, and keeps none.
+/// Checks each version in parts, by the policy for unknown fields, without keeping any.
 ///
 /// # Errors
 ///
 /// [`StepError::Frame`] for the first fault in the rows, or [`StepError::Memory`].
-fn judge_parts(alloc: Global, parts: &[Part]) -> Result<(), StepError>
-    ensures sound { OnOk result (first_fault (rows_in parts.now) ≡ None) }
-    ensures fault { IfErr result (IsJudgement (first_fault (rows_in parts.now))) }
+fn judge_parts(alloc: Global, unknown: Unknown, parts: &[Part]) -> Result<(), StepError>
+    ensures sound { OnOk result (first_fault (rows_in unknown parts.now) ≡ None) }
+    ensures fault { IfErr result (IsJudgement (first_fault (rows_in unknown parts.now))) }
 {
     for part in parts {
-        judge_part(alloc, part)?;
+        judge_part(alloc, unknown, part)?;
     }
     Ok(())
 }
 
 #[tactic(auto, unfolding(crate::specs::Deliveries::rows_of))]
-fn judge_part(alloc: Global, part: &Part) -> Result<(), StepError>
-    ensures sound { OnOk result (first_fault (rows_of part.now) ≡ None) }
-    ensures fault { IfErr result (IsJudgement (first_fault (rows_of part.now))) }
+fn judge_part(alloc: Global, unknown: Unknown, part: &Part) -> Result<(), StepError>
+    ensures sound { OnOk result (first_fault (rows_of unknown part.now) ≡ None) }
+    ensures fault { IfErr result (IsJudgement (first_fault (rows_of unknown part.now))) }
 {
     let row = part.bytes.as_slice();
     match part.key {
-        StateKey::Sil => Ok(validate_row::<MeshSilence>(alloc, row)?),
-        StateKey::Nfl => Ok(validate_row::<MeshEntry>(alloc, row)?),
+        StateKey::Sil => Ok(validate_row::<MeshSilence>(alloc, unknown, row)?),
+        StateKey::Nfl => Ok(validate_row::<MeshEntry>(alloc, unknown, row)?),
     }
 }
 
-/// An outcome in which nothing was made here.
+/// Returns an outcome in which nothing was made here.
 pub(crate) fn outcome(alloc: Global, reply: Reply, outbox: FrameSender) -> Outcome
     ensures reply { result.reply ≡ reply }
     ensures sent { sent_by result ≡ outbox }

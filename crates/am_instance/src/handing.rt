@@ -21,17 +21,17 @@ use am_version_order::Version;
 use am_wire::{Bytes, Text};
 use std::alloc::{AllocError, Global};
 
-/// How far both states are handed out: what is left of one goes on from a key, or from its start where there is none.
+/// The progress in handing out both states: the rest of one goes on from a key, or from its start if there is none.
 #[derive(Drop)]
 pub enum Handout {
     /// Silences are left, and the whole log.
     Silences(Option<Text>),
-    /// All silences went out.
+    /// All silences have gone out.
     Log(Option<LogKey>),
 }
 
 impl Handout {
-    /// Nothing went out so far. It takes no memory.
+    /// Returns the progress before the first part. It takes no memory.
     pub fn new() -> Handout
         ensures { result ≡ Handout.Silences None }
     {
@@ -43,19 +43,19 @@ impl Handout {
 #[derive(Drop)]
 pub struct HandedPart {
     pub state: FullState,
-    /// How to go on behind it; `None` where it is the last.
+    /// The progress after this part, or `None` if it is the last.
     pub next: Option<Handout>,
 }
 
 impl Instance {
-    /// The next part of all that is held, live or not, as the maps are at this call, and how to go on behind it. First come
-    /// pieces of one state each. The last part has what is left of both; it alone names both. The rows of a part have at
-    /// most `most` bytes together, unless a version has more by itself: then it is the only one. Whoever writes its frame
-    /// refuses it where it is over the limit of its kind.
+    /// Returns the next part of all that is held, live or not, as the maps are at this call, and the progress after it. Pieces of
+    /// one state each come first. The last part has the rest of both states, and it alone names both. The rows of a part have at
+    /// most `most` bytes together, unless a version has more by itself: then it is the only one. Whoever writes the frame refuses
+    /// it if it is over the limit of its kind.
     ///
     /// # Errors
     ///
-    /// [`AllocError`] where memory runs out.
+    /// [`AllocError`] if memory runs out.
     pub fn hand_out(&self, handout: Handout, most: usize) -> Result<HandedPart, AllocError>
         ensures part { IfOk result (IsHandedOut most self.now.silences self.now.log handout) }
         ensures last { IfOk result (λ handed. is_none handed.next ≡ names_both handed.state) }
@@ -73,7 +73,7 @@ impl Instance {
     }
 }
 
-/// The versions that are left of a map.
+/// Returns the versions that are left of a map.
 fn left_of<'a, V: Version>(held: &'a Held<V>, from: Option<&V::Key>) -> Iter<'a, V>
     ensures { result ≡ left_of V.seen V.Key.cmp held.now (option_copied from.entry) }
 {
@@ -83,7 +83,7 @@ fn left_of<'a, V: Version>(held: &'a Held<V>, from: Option<&V::Key>) -> Iter<'a,
     }
 }
 
-/// What goes out where silences are left, by their first piece, and the whole log.
+/// Returns the next part if silences are left, by their first piece, and the whole log.
 fn hand_silences(
     alloc: Global,
     silences: RowPiece<Text>,
@@ -104,7 +104,7 @@ fn hand_silences(
     }
 }
 
-/// What goes out where only entries of the log are left, by their first piece.
+/// Returns the next part if only entries of the log are left, by their first piece.
 fn hand_log(alloc: Global, log: RowPiece<LogKey>) -> Result<HandedPart, AllocError>
     ensures part { IfOk result (λ handed. (most : ℕ) (left : List LogMesh) → IsPiece entry_version most left log →
         HandsLog most left handed.state handed.next) }
@@ -117,7 +117,7 @@ fn hand_log(alloc: Global, log: RowPiece<LogKey>) -> Result<HandedPart, AllocErr
     }
 }
 
-/// The row of the log, where it fits beside so many bytes.
+/// Returns the row of the log, if it fits beside `used` bytes.
 fn log_beside(
     alloc: Global,
     used: usize,
@@ -137,7 +137,7 @@ fn log_beside(
     Ok(Some(row))
 }
 
-/// A row that goes out alone, and how to go on behind it.
+/// Returns a part that is one row alone, and the progress after it.
 fn hand_alone(
     alloc: Global,
     key: StateKey,
@@ -154,7 +154,7 @@ fn hand_alone(
     })
 }
 
-/// The last part.
+/// Returns the last part.
 fn hand_last(alloc: Global, silences: Bytes, log: Bytes) -> Result<HandedPart, AllocError>
     ensures { IfOk result (λ handed. handed ≡ record { state = states silences log; next = None }) }
 {
@@ -164,21 +164,21 @@ fn hand_last(alloc: Global, silences: Bytes, log: Bytes) -> Result<HandedPart, A
     })
 }
 
-/// Whether there are parts of both states, as in the last one that is handed out. It takes no memory.
+/// Returns whether there are parts of both states, as in the last one handed out. It takes no memory.
 pub fn names_both(state: &FullState) -> bool
     ensures { result ≡ names_both state.now }
 {
     has_silences(state.parts()) && has_entries(state.parts())
 }
 
-/// Whether there is a part of the silences.
+/// Returns whether there is a part of the silences.
 fn has_silences(parts: &[Part]) -> bool
     ensures { result ≡ list_any (λ p. is_sil p.key) parts.now }
 {
     parts.iter().any(|part| is_sil(part.key))
 }
 
-/// Whether there is a part of the log.
+/// Returns whether there is a part of the log.
 fn has_entries(parts: &[Part]) -> bool
     ensures { result ≡ list_any (λ p. is_nfl p.key) parts.now }
 {

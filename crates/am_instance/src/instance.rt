@@ -18,14 +18,13 @@ use am_version_order::Moment;
 use std::alloc::Global;
 use std::marker::Model;
 
-/// One instance: its configuration, the silences and the notification log that it holds, and the moment of its last
-/// event.
+/// An instance: its configuration, the silences and the notification log that it holds, and the moment of its last event.
 pub struct Instance {
     pub(crate) alloc: Global,
     pub(crate) config: Config,
     pub(crate) silences: Held<MeshSilence>,
     pub(crate) log: Held<MeshEntry>,
-    /// The patterns of silences, compiled.
+    /// The compiled patterns of silences.
     pub(crate) patterns: PatternCache,
     last: Moment,
 }
@@ -53,7 +52,7 @@ impl Model for Instance {
 }
 
 impl Instance {
-    /// An instance that holds these maps, with `now` as the moment of its last event. It takes no memory.
+    /// Returns an instance that holds these maps, with `now` as the moment of its last event. It takes no memory.
     pub fn start(
         config: Config,
         silences: Held<MeshSilence>,
@@ -76,48 +75,48 @@ impl Instance {
         }
     }
 
-    /// The silences that it holds, live or not. It takes no memory.
+    /// Returns the silences held, live or not. It takes no memory.
     pub fn silences(&self) -> &Held<MeshSilence>
         ensures { result.now ≡ self.now.silences }
     {
         &self.silences
     }
 
-    /// The entries of the log that it holds, live or not. It takes no memory.
+    /// Returns the entries of the log held, live or not. It takes no memory.
     pub fn log(&self) -> &Held<MeshEntry>
         ensures { result.now ≡ self.now.log }
     {
         &self.log
     }
 
-    /// The moment of the last event. It takes no memory.
+    /// Returns the moment of the last event. It takes no memory.
     pub fn last(&self) -> Moment
         ensures { result ≡ self.now.last }
     {
         self.last
     }
 
-    /// Its configuration. It takes no memory.
+    /// Returns the configuration. It takes no memory.
     pub fn config(&self) -> &Config
         ensures { result.now ≡ self.now.config }
     {
         &self.config
     }
 
-    /// The patterns that it has compiled, of any dialect. What it answers is the same whatever these are. It takes no memory.
+    /// Returns the compiled patterns, of any dialect. They make no difference to what the instance answers. It takes no memory.
     pub fn patterns(&self) -> &PatternCache {
         &self.patterns
     }
 
-    /// Has it go by these compiled patterns, and gives those that it had. What it answers is the same by any. It takes no
-    /// memory.
+    /// Replaces the compiled patterns, and returns those it had. They make no difference to what the instance answers. It takes
+    /// no memory.
     pub fn swap_patterns(&mut self, patterns: PatternCache) -> PatternCache
         ensures same { self.new ≡ self.old }
     {
         std::mem::replace(&mut self.patterns, patterns)
     }
 
-    /// When it is due that began to wait at `start`. `None` past [`Moment::GREATEST`]. It takes no memory.
+    /// Returns when this instance is due if it began to wait at `start`, or `None` past [`Moment::GREATEST`]. It takes no memory.
     pub fn due_from(&self, start: Moment) -> Option<Moment>
         ensures { SomeIff result (start + self.now.config.place * self.now.config.peer_timeout ≤ greatest)
             (start + self.now.config.place * self.now.config.peer_timeout) }
@@ -129,21 +128,23 @@ impl Instance {
     ///
     /// # Errors
     ///
-    /// The first [`StepError`] that applies, in their order; memory may run out before the fault of a frame is found.
-    /// What is refused changes nothing, but where memory ran out: then the moment counts, and what was taken stands.
+    /// The first [`StepError`] that applies, in their order; memory may run out before the fault of a frame is found. A refused
+    /// event changes nothing, unless memory ran out: then its moment counts, and what was taken stays.
     pub fn step(&mut self, event: Event, now: Moment) -> Result<Outcome, StepError>
         // PROMISE: An event is refused for its first fault, or it is one step with exactly these changes, frames and reply.
         ensures { IsStep self.old event now result self.new }
     {
         self.admit(&event, now)?;
         let answer = self.work(event, now);
+        self.silences.has_values();
+        self.log.has_values();
         if counts(&answer) {
             self.last = now;
         }
         answer
     }
 
-    /// Refuses a moment before the last one, and a place that is no peer's.
+    /// Refuses a moment before the last one, and a place that isn't a peer's.
     fn admit(&self, event: &Event, now: Moment) -> Result<(), StepError>
         ensures admitted { OnOk result (IsAdmitted self.now event.now now) }
         ensures refused { IfErr result (IsUnadmitted self.now event.now now) }
@@ -157,7 +158,7 @@ impl Instance {
         }
     }
 
-    /// Does what an event asks for. Its moment is set by the caller.
+    /// Does what an event asks for. The caller sets its moment.
     fn work(&mut self, event: Event, now: Moment) -> Result<Outcome, StepError>
         ensures { IsWork self.old event now result self.new }
     {
@@ -195,7 +196,7 @@ impl Instance {
     }
 }
 
-/// The place of a peer that an event names.
+/// Returns the place of a peer that an event names.
 fn peer_of(event: &Event) -> Option<Place>
     ensures { result ≡ peer_of event.now }
 {
@@ -206,7 +207,7 @@ fn peer_of(event: &Event) -> Option<Place>
     }
 }
 
-/// Whether the moment of an event counts: it was answered, or memory ran out.
+/// Returns whether the moment of an event counts: it was answered, or memory ran out.
 fn counts(answer: &Result<Outcome, StepError>) -> bool
     ensures { result ≡ counts answer.now }
 {

@@ -1,4 +1,4 @@
-//! What holds of runs of an instance.
+//! Laws about runs of an instance.
 
 ghost use Rattle.std.specs.Prelude.{◌≡◌, ◌≤◌, ℕ, ◌+◌, List, [], length, None, All, Contains, true};
 ghost use Rattle.std.specs.List.{flat_map};
@@ -38,8 +38,8 @@ use am_nflog::MeshEntry;
 use am_silence::MeshSilence;
 use am_version_order::Version;
 
-/// After any steps from any maps and moment, each map that they were calm for shows, at every key and at every moment
-/// from the last step on, what the bare set of all versions shows that the instance began with or that were delivered.
+/// States that, after any steps from any maps and moment, each map for which they were calm shows, at every key and at every
+/// moment from the last step on, what the bare set of all versions shows that the instance began with or that were delivered.
 pub fn steps_show_the_bare_sets()
     // PROMISE: After calm steps a replica shows what everything that it ever took would show.
     ensures silences { (start new : InstanceState) (steps : List Happened) (now : ℕ) (id : List ℕ) →
@@ -55,8 +55,8 @@ pub fn steps_show_the_bare_sets()
     calm_events_show_the_bare_set::<MeshEntry>();
 }
 
-/// Two instances that began with or were delivered the same versions in calm steps, in any order and however often, show
-/// the same from the later one of their last moments on.
+/// States that two instances that began with or were delivered the same versions in calm steps, in any order and however often,
+/// show the same from the later of their last moments on.
 pub fn equal_sets_show_alike()
     ensures { (start begin one other : InstanceState) (steps others : List Happened) (now : ℕ) →
         AreCalmSteps start steps one → AreCalmSteps begin others other →
@@ -68,14 +68,14 @@ pub fn equal_sets_show_alike()
     calm_keepers_agree::<MeshEntry>();
 }
 
-/// Maps that show the same at each key have one view.
+/// States that maps that show the same at each key have one view.
 fn equal_views_are_one<V: Version>()
     ensures { (map other : List V) (now : ℕ) → IsMap V.seen V.Key.cmp map → IsMap V.seen V.Key.cmp other →
         ((key : V.Key) → if_live V.seen now (at V.seen V.Key.cmp map key) ≡ if_live V.seen now (at V.seen V.Key.cmp other key)) →
         swept V.seen now map ≡ swept V.seen now other }
 {}
 
-/// Two instances that show the same have the same replies to what is answered from the views alone.
+/// States that two instances that show the same give the same replies to what is answered from the views alone.
 pub fn equal_views_reply_alike()
     // PROMISE: Replicas that show the same answer alike.
     ensures { (one other : InstanceState) (event : Event) (now : ℕ) (reply : Reply) (made : Made) → HasMaps one → HasMaps other →
@@ -86,8 +86,8 @@ pub fn equal_views_reply_alike()
     equal_views_are_one::<MeshEntry>();
 }
 
-/// Of two instances that show the same, by patterns of the same dialect, a silence that mutes an alert at one mutes it at the
-/// other, if its patterns are not told as broken there.
+/// States that, of two instances that show the same, with patterns of the same dialect, a silence that mutes an alert at one
+/// mutes it at the other, unless its patterns are reported as broken there.
 pub fn equal_views_mute_alike()
     ensures { (dialect : Dialect) (one other : InstanceState) (now : ℕ) (labels : List Label) (ids broken others broken_too : List (List ℕ)) →
         HasMaps one → HasMaps other → ShowSame now one other →
@@ -97,15 +97,15 @@ pub fn equal_views_mute_alike()
     equal_views_are_one::<MeshSilence>();
 }
 
-/// A map that shows of each key what a bare set shows of it has, of its live versions, the view of that set.
+/// States that the live versions of a map that shows at each key what a bare set shows are the view of that set.
 fn live_versions_are_the_view<V: Version>()
     ensures { (map set : List V) (now : ℕ) → IsMap V.seen V.Key.cmp map →
         ((key : V.Key) → IsViewAt V.seen set now key (if_live V.seen now (at V.seen V.Key.cmp map key))) →
         IsView V.seen V.Key.cmp set now (swept V.seen now map) }
 {}
 
-/// An instance that shows of each identifier and of each key of the log what bare sets show replies to what is answered from
-/// what is shown as those sets say.
+/// States that an instance that shows at each identifier and at each key of the log what bare sets show replies as those sets say
+/// to what is answered from what is shown.
 pub fn what_is_shown_replies()
     ensures { (stand : InstanceState) (silences : List Mesh) (log : List LogMesh) (event : Event) (now : ℕ) (reply : Reply) (made : Made) →
         HasMaps stand → ((id : List ℕ) → IsViewAt mesh_version silences now id (silence_in_view now stand.silences id)) →
@@ -117,8 +117,8 @@ pub fn what_is_shown_replies()
     live_versions_are_the_view::<MeshEntry>();
 }
 
-/// After calm steps from any maps and moment, the reply to a list, a single silence, a decision, both views and the mutes of
-/// an alert is, at every moment from the last step on, the one that the bare sets give of all versions that the instance
+/// States that, after calm steps from any maps and moment, the reply to a list, a single silence, a decision, both views or the
+/// mutes of an alert is, at every moment from the last step on, the one that the bare sets give of all versions that the instance
 /// began with or that were delivered.
 pub fn calm_steps_reply_as_the_bare_sets()
     // PROMISE: After calm steps its lists, silences, decisions and mutes are those of everything that it ever took.
@@ -130,7 +130,7 @@ pub fn calm_steps_reply_as_the_bare_sets()
     what_is_shown_replies();
 }
 
-/// The frames of a peer's stream are the same events, wherever it was cut.
+/// States that the frames of a peer's stream are the same events wherever it was cut.
 pub fn cuts_change_no_event()
     ensures { (sender : ℕ) (pieces : List (List ℕ)) →
         events_of_stream sender (fed_in (stream_of []) pieces) ≡ events_of_stream sender (stream_of (flat_map (λ piece. piece) pieces)) }
@@ -138,7 +138,7 @@ pub fn cuts_change_no_event()
     cuts_change_nothing();
 }
 
-/// Of maps that stay as they are, all parts that are handed out have, one behind the other, each state's row.
+/// States that all parts handed out of maps that stay as they are have, one after the other, each state's row.
 pub fn parts_have_all_that_is_held()
     // PROMISE: A full state that is sent part by part is complete.
     ensures silences { (most : ℕ) (silences : List Mesh) (log : List LogMesh) (parts : List HandedPart) →
@@ -154,7 +154,7 @@ pub fn parts_have_all_that_is_held()
     a_map_goes_on_from_a_key::<MeshEntry>();
 }
 
-/// Where both states fit one part, it has both, as they go out whole.
+/// States that if both states fit one part, it has both of them whole.
 pub fn small_states_are_one_part()
     ensures { (most : ℕ) (silences : List Mesh) (log : List LogMesh) (handed : HandedPart) →
         length (row_text mesh_version silences) + length (row_text entry_version log) ≤ most →

@@ -1,4 +1,4 @@
-//! Notifications of groups, and what is asked before one.
+//! Notifications of groups, and the questions before one.
 
 ghost use Rattle.std.specs.Prelude.{◌≡◌, [], Some, OnErr, IfOk, IfErr};
 ghost use Rattle.am_instance.specs.declared.event.Event.TheVariants as events;
@@ -26,7 +26,7 @@ use am_wire::Bytes;
 use std::alloc::Global;
 
 impl Instance {
-    /// Notes that a group was notified.
+    /// Records that a group was notified.
     pub(crate) fn note(
         &mut self,
         group_key: Bytes,
@@ -48,7 +48,7 @@ impl Instance {
         }
     }
 
-    /// Takes an entry that was made here, and sends it on where that changes the log.
+    /// Takes an entry that was made here, and sends it on if that changes the log.
     fn put_entry(&mut self, entry: MeshEntry, now: Moment) -> Result<Outcome, StepError>
         ensures put { IfOk result (λ outcome. IsLoggedHere self.old entry now outcome self.new) }
         ensures err { IfErr result (λ e. e ≡ errors.Memory 0) }
@@ -61,7 +61,7 @@ impl Instance {
         Ok(logged_outcome(self.alloc, is_changed(taken), outbox, copy))
     }
 
-    /// Sends an entry that was made here to all peers, where its taking changed the log.
+    /// Sends an entry that was made here to all peers, if taking it changed the log.
     fn send_entry_on(&self, taken: Taken, entry: &MeshEntry, outbox: &mut FrameSender)
         ensures { Sends (deltas_to (peers_but self.now.config self.now.config.place)
             (only_if (is_changed taken) (OfEntry entry.now))) outbox.old outbox.new }
@@ -75,7 +75,7 @@ impl Instance {
         }
     }
 
-    /// Whether a group is to be notified.
+    /// Decides whether a group is to be notified.
     pub(crate) fn decide(
         &self,
         group_key: &Bytes,
@@ -101,7 +101,7 @@ impl Instance {
         Ok(quiet(self.alloc, Reply::Decided(decision)))
     }
 
-    /// Which silences mute an alert.
+    /// Answers which silences mute an alert.
     pub(crate) fn mute(&mut self, labels: &Labels, now: Moment) -> Result<Outcome, StepError>
         ensures { IsWork self.old (events.Mutes labels.now) now result self.new }
     {
@@ -112,7 +112,7 @@ impl Instance {
         Ok(quiet(self.alloc, Reply::Muted(muted)))
     }
 
-    /// Both views.
+    /// Answers with both views.
     pub(crate) fn show(&self, now: Moment) -> Result<Outcome, StepError>
         ensures { IsWork self.now events.Show now result self.now }
     {
@@ -122,7 +122,7 @@ impl Instance {
     }
 }
 
-/// An outcome in which an entry was made here.
+/// Returns an outcome in which an entry was made here.
 fn logged_outcome(alloc: Global, is_changed: bool, outbox: FrameSender, entry: MeshEntry) -> Outcome
     ensures reply { result.reply ≡ replies.Logged is_changed }
     ensures sent { sent_by result ≡ outbox }

@@ -1,4 +1,4 @@
-//! What a step answers.
+//! The answer of a step.
 
 ghost use Rattle.std.specs.Prelude.{◌≡◌};
 ghost use Rattle.am_instance.specs.Sendings.{sent_by};
@@ -15,13 +15,13 @@ use am_wire::Text;
 /// The answer to an event. States are those at the event's moment.
 #[derive(Drop)]
 pub enum Reply {
-    /// Silences by identifier.
+    /// Silences, by identifier.
     Silences(Vec<(MeshSilence, State)>),
     Silence(MeshSilence, State),
-    /// The identifier of the silence that was made or updated.
+    /// The identifier of the silence that was created or updated.
     Posted(Text),
     Deleted,
-    /// A request was refused; never for want of memory.
+    /// A refused request; never for lack of memory.
     Refused(SilenceError),
     /// Whether the entry of a notification changed the log.
     Logged(bool),
@@ -35,12 +35,12 @@ pub enum Reply {
     Nothing,
 }
 
-/// Frames that were left out.
+/// The numbers of frames that were left out.
 #[derive(Clone, Copy, PartialEq, Eq)]
 pub struct Unsent {
-    /// There was no memory for so many.
+    /// The number of frames for which there was no memory.
     pub memory: usize,
-    /// The payload of so many was over the limit of its kind.
+    /// The number of frames whose payload was over the limit of its kind.
     pub limit: usize,
 }
 
@@ -51,18 +51,18 @@ pub struct Made {
     pub log: Option<MeshEntry>,
 }
 
-/// What a step gives.
+/// The outcome of a step.
 #[derive(Drop)]
 pub struct Outcome {
     pub reply: Reply,
-    /// The frames to be sent, in order, each with the place of the peer that it goes to.
+    /// The frames to be sent, in order, each with the place of its peer.
     pub frames: Vec<(Place, Frame)>,
     pub unsent: Unsent,
     pub made: Made,
 }
 
 impl Outcome {
-    /// The reply, and what the step sends.
+    /// Returns the reply, and what the step sends.
     pub fn into_parts(self) -> (Reply, FrameSender)
         ensures reply { result.0 ≡ self.reply }
         ensures sent { result.1 ≡ sent_by self }

@@ -1,4 +1,4 @@
-//! What people and tools ask of an instance.
+//! Requests of people and tools to an instance.
 
 ghost use Rattle.std.specs.Prelude.{◌≡◌, [], ◌∷◌, is_some, None, true, OnErr, IfOk, IfErr};
 ghost use Rattle.std.specs.Option.{option_copied};
@@ -51,7 +51,7 @@ impl Instance {
         }
     }
 
-    /// The silences in view that pass all filters.
+    /// Answers with the silences in view that pass all filters.
     fn list(&self, mut filters: Vec<Filter>, now: Moment) -> Result<Outcome, StepError>
         ensures { IsWork self.now (events.Request (requests.List filters)) now result self.now }
     {
@@ -59,7 +59,7 @@ impl Instance {
         Ok(quiet(self.alloc, Reply::Silences(rows)))
     }
 
-    /// The silence of an identifier.
+    /// Answers with the silence with an identifier.
     fn get(&self, id: &Text, now: Moment) -> Result<Outcome, StepError>
         ensures { IsWork self.now (events.Request (requests.Get id.now)) now result self.now }
     {
@@ -71,7 +71,7 @@ impl Instance {
         Ok(quiet(self.alloc, Reply::Silence(copy, state)))
     }
 
-    /// Makes or updates a silence.
+    /// Creates or updates a silence.
     fn post(&mut self, posted: Posted, bits: u128, now: Moment) -> Result<Outcome, StepError>
         ensures { IsWork self.old (events.Request (requests.Post posted bits)) now result self.new }
     {
@@ -85,7 +85,7 @@ impl Instance {
         }
     }
 
-    /// Why a post is refused before its patterns are looked at.
+    /// Returns why a post is refused before its patterns are looked at.
     fn refused_unread(&self, posted: &Posted, now: Moment) -> Option<SilenceError>
         ensures { result ≡ unread_refusal (posted_over now self.now.silences posted.now.id) posted.now }
     {
@@ -93,7 +93,7 @@ impl Instance {
         refused_unread(held, posted)
     }
 
-    /// Answers why a request is refused.
+    /// Answers that a request is refused, with this error.
     fn refuse(&self, error: SilenceError) -> Result<Outcome, StepError>
         ensures refused { IfOk result (IsTurnedAway error) }
         ensures memory { IfErr result (λ e. (e ≡ errors.Memory 0) × (error ≡ silence_errors.Memory)) }
@@ -104,7 +104,7 @@ impl Instance {
         }
     }
 
-    /// The verdict on posted matchers.
+    /// Returns the verdict on posted matchers.
     fn judge(&mut self, matchers: &Matchers) -> Result<Verdict, AllocError>
         ensures verdict { IfOk result (IsVerdictIn self.new.config.dialect matchers.now) }
         ensures memory { OnErr result (has_regexp matchers.now ≡ true) }
@@ -114,7 +114,7 @@ impl Instance {
         self.patterns.verdict_in(dialect, matchers)
     }
 
-    /// What a post makes whose matchers were judged, or why it is refused.
+    /// Returns the plan of a post whose matchers were judged, or why it is refused.
     fn plan(
         &self,
         posted: Posted,
@@ -134,8 +134,8 @@ impl Instance {
         )
     }
 
-    /// Whether the identifier that random bits give is held, live or not. Where there is no memory for a copy of it, all
-    /// that are held are looked at.
+    /// Returns whether the identifier made of random bits is held, live or not. If there is no memory for a copy of it, all held
+    /// identifiers are looked at.
     fn is_fresh_held(&self, bits: u128) -> bool
         ensures { result ≡ is_some (silence_at self.now.silences (id_text bits)) }
     {
@@ -172,7 +172,7 @@ impl Instance {
         }
     }
 
-    /// Takes a version of a silence that was made here, and sends it on where that changes the map.
+    /// Takes a version of a silence that was made here, and sends it on if that changes the map.
     fn put_one(
         &mut self,
         version: MeshSilence,
@@ -211,7 +211,7 @@ impl Instance {
         Ok(made_outcome(reply, outbox, made))
     }
 
-    /// Sends a version that was made here to all peers, where its taking changed the map.
+    /// Sends a version that was made here to all peers, if taking it changed the map.
     fn send_on(&self, taken: Taken, version: &MeshSilence, outbox: &mut FrameSender)
         ensures { Sends (deltas_to (peers_but self.now.config self.now.config.place)
             (only_if (is_changed taken) (OfSilence version.now))) outbox.old outbox.new }
@@ -226,14 +226,14 @@ impl Instance {
     }
 }
 
-/// Whether an identifier is held, live or not.
+/// Returns whether an identifier is held, live or not.
 fn is_held(silences: &Held<MeshSilence>, id: &Text) -> bool
     ensures { result ≡ is_some (silence_at silences.now id.now) }
 {
     silences.get(id).is_some()
 }
 
-/// As [`is_held`], one after the other. It takes no memory.
+/// Returns the same as [`is_held`], looking at one silence after the other. It takes no memory.
 fn is_among(silences: &Held<MeshSilence>, id: &str) -> bool
     ensures { result ≡ is_some (silence_at silences.now id.now) }
 {
@@ -245,7 +245,7 @@ fn is_among(silences: &Held<MeshSilence>, id: &str) -> bool
     false
 }
 
-/// The silence in view of the identifier that is posted, where one is.
+/// Returns the silence in view with the posted identifier, if one is posted.
 fn posted_over<'a>(
     silences: &'a Held<MeshSilence>,
     id: Option<&Text>,
@@ -259,14 +259,14 @@ fn posted_over<'a>(
     }
 }
 
-/// Whether a taking is answered Changed.
+/// Returns whether the answer to a taking is Changed.
 pub(crate) fn is_changed(taken: Taken) -> bool
     ensures { result ≡ is_changed taken }
 {
     matches!(taken, Taken::Changed)
 }
 
-/// A copy of a version.
+/// Returns a copy of a version.
 fn copies_of_one(alloc: Global, version: &MeshSilence) -> Result<Vec<MeshSilence>, AllocError>
     ensures { IfOk result (λ copies. copies.items ≡ version.now ∷ []) }
 {
@@ -275,7 +275,7 @@ fn copies_of_one(alloc: Global, version: &MeshSilence) -> Result<Vec<MeshSilence
     Ok(copies)
 }
 
-/// Copies of two versions, in order.
+/// Returns copies of two versions, in order.
 fn copies_of_pair(
     alloc: Global,
     first: &MeshSilence,
@@ -289,7 +289,7 @@ fn copies_of_pair(
     Ok(copies)
 }
 
-/// The identifier of the silence that a plan makes or updates.
+/// Returns the identifier of the silence that a plan creates or updates.
 fn posted_id(plan: &Plan) -> &Text
     ensures { result.now ≡ posted_id plan.now }
 {
@@ -299,7 +299,7 @@ fn posted_id(plan: &Plan) -> &Text
     }
 }
 
-/// An outcome in which nothing was made here, and nothing is sent.
+/// Returns an outcome in which nothing was made here, and nothing is sent.
 pub(crate) fn quiet(alloc: Global, reply: Reply) -> Outcome
     ensures reply { result.reply ≡ reply }
     ensures sent { sent_by result ≡ nothing_sent }
@@ -308,7 +308,7 @@ pub(crate) fn quiet(alloc: Global, reply: Reply) -> Outcome
     outcome(alloc, reply, FrameSender::new(alloc))
 }
 
-/// An outcome in which these silences were made here.
+/// Returns an outcome in which these silences were made here.
 fn made_outcome(reply: Reply, outbox: FrameSender, silences: Vec<MeshSilence>) -> Outcome
     ensures reply { result.reply ≡ reply }
     ensures sent { sent_by result ≡ outbox }

@@ -16,25 +16,30 @@ use crate::frame_sender::{FrameSender, Route};
 use am_gossip::StateKey;
 use am_merge::Held;
 use am_version_order::{Moment, Version};
-use am_wire::{Message, Messages, Record, WireError};
+use am_wire::{Message, Messages, Record, Unknown, WireError};
 use std::alloc::{AllocError, Global};
 
-/// Reads each version of a row, and keeps none.
+/// Checks each version of a row, by the policy for unknown fields, without keeping any.
 ///
 /// # Errors
 ///
 /// The row's first fault, or [`WireError::Memory`].
-pub fn validate_row<V: Message>(alloc: Global, row: &[u8]) -> Result<(), WireError>
-    ensures sound { OnOk result (first_fault (messages_of V.reads row.now) ≡ None) }
-    ensures fault { IfErr result (λ e. e ≢ wire_errors.Memory → first_fault (messages_of V.reads row.now) ≡ Some e) }
+pub fn validate_row<V: Message>(
+    alloc: Global,
+    unknown: Unknown,
+    row: &[u8],
+) -> Result<(), WireError>
+    ensures sound { OnOk result (first_fault (messages_of (V.reads unknown) row.now) ≡ None) }
+    ensures fault { IfErr result (λ e. e ≢ wire_errors.Memory → first_fault (messages_of (V.reads unknown) row.now) ≡ Some e) }
 {
-    for message in Messages::<V>::new(alloc, row) {
+    for message in Messages::<V>::within(alloc, unknown, row, 0) {
         message?;
     }
     Ok(())
 }
 
-/// What a row's versions are taken with: the moment, their state, and whom those that change a map are sent to.
+/// The context in which a row's versions are taken: the moment, their state, and the members to which those that change a map are
+/// sent.
 #[derive(Clone, Copy)]
 pub struct Taking {
     pub moment: Moment,
@@ -42,7 +47,7 @@ pub struct Taking {
     pub route: Route,
 }
 
-/// Whether a version is greater than what is held, or the first of its key.
+/// Returns whether a version is greater than the held one, or the first of its key.
 #[tactic(auto, unfolding(am_version_order::specs::Versions::is_below))]
 fn is_greater<V: Version>(old: Option<&V>, version: &V) -> bool
     ensures { result ≡ is_above V.seen (option_copied old.entry) version.now }
@@ -53,14 +58,14 @@ fn is_greater<V: Version>(old: Option<&V>, version: &V) -> bool
     }
 }
 
-/// Whether taking a version is answered Changed: it is live, and greater than what is held, or the first of its key.
+/// Returns whether the answer to taking a version is Changed: it is live, and greater than the held one or the first of its key.
 fn is_change<V: Version>(held: &Held<V>, version: &V, now: Moment) -> bool
     ensures { result ≡ changes V.seen now (at V.seen V.Key.cmp held.now) version.now }
 {
     now < version.expires() && is_greater(held.get(version.key()), version)
 }
 
-/// Takes a version and counts it, and sends it on where that changes the map. Where memory runs out nothing is taken.
+/// Takes a version, counts it, and sends it on if that changes the map. If memory runs out, nothing is taken.
 fn take_one<V: Version>(
     held: &mut Held<V>,
     version: V,
@@ -89,32 +94,34 @@ fn take_one<V: Version>(
     Ok(())
 }
 
-/// Takes the versions of a row in order, and counts them. Those that change the map are sent on.
+/// Takes the versions of a row in order, read by the policy for unknown fields, and counts them. Those that change the map are
+/// sent on.
 ///
 /// # Errors
 ///
-/// [`AllocError`] where memory runs out; the versions counted so far were taken.
+/// [`AllocError`] if memory runs out; the versions counted so far were taken.
 pub fn merge_row<V: Record>(
     alloc: Global,
+    unknown: Unknown,
     held: &mut Held<V>,
     row: &[u8],
     taking: &Taking,
     outbox: &mut FrameSender,
     taken: &mut usize,
 ) -> Result<(), AllocError>
-    requires { first_fault (messages_of V.reads row.now) ≡ None }
+    requires { first_fault (messages_of (V.reads unknown) row.now) ≡ None }
     ensures map { OnOk result ((key : V.Key) → at V.seen V.Key.cmp held.new key
         ≡ after_all V.seen V.Key.cmp (at V.seen V.Key.cmp held.old)
-        (takings taking.now.moment (before_fault (messages_of V.reads row.now))) key) }
-    ensures count { OnOk result (taken.new ≡ taken.old + length (before_fault (messages_of V.reads row.now))) }
+        (takings taking.now.moment (before_fault (messages_of (V.reads unknown) row.now))) key) }
+    ensures count { OnOk result (taken.new ≡ taken.old + length (before_fault (messages_of (V.reads unknown) row.now))) }
     ensures sent { OnOk result (Sends (deltas_of V.seen taking.now.key
         (places_but taking.now.route.members taking.now.route.own taking.now.route.origin)
         (changed V.seen V.Key.cmp taking.now.moment (at V.seen V.Key.cmp held.old)
-        (before_fault (messages_of V.reads row.now)))) outbox.old outbox.new) }
+        (before_fault (messages_of (V.reads unknown) row.now)))) outbox.old outbox.new) }
     ensures stopped { OnErr result (IsStoppedRow V.seen V.Key.cmp taking.now.moment held.old
-        (before_fault (messages_of V.reads row.now)) held.new taken.old taken.new) }
+        (before_fault (messages_of (V.reads unknown) row.now)) held.new taken.old taken.new) }
 {
-    for message in Messages::<V>::new(alloc, row) {
+    for message in Messages::<V>::within(alloc, unknown, row, 0) {
         let Ok(version) = message else {
             return Err(AllocError);
         };

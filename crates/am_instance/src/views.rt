@@ -1,4 +1,4 @@
-//! What is shown of the two maps.
+//! The views of the two maps.
 
 ghost use Rattle.std.specs.Prelude.{◌≡◌, ◌++◌, [], ◌∷◌, IfOk, OnOk};
 ghost use Rattle.std.specs.List.{list_all};
@@ -16,7 +16,7 @@ use am_version_order::{Moment, Version};
 use am_wire::Text;
 use std::alloc::{AllocError, Global};
 
-/// Whether the silence of a version passes all filters.
+/// Returns whether the silence of a version passes all filters.
 fn passes_all(version: &MeshSilence, filters: &mut Vec<Filter>) -> Result<bool, AllocError>
     ensures answer { IfOk result (λ yes. yes ≡ list_all (λ f. passes f version.now.silence) filters.old.items) }
     ensures same { filters.new.items ≡ filters.old.items }
@@ -29,7 +29,7 @@ fn passes_all(version: &MeshSilence, filters: &mut Vec<Filter>) -> Result<bool, 
     Ok(true)
 }
 
-/// Shows one silence, if it is in view and passes all filters.
+/// Appends a silence to those shown, if it is in view and passes all filters.
 fn show_silence(
     alloc: Global,
     version: &MeshSilence,
@@ -47,11 +47,11 @@ fn show_silence(
     Ok(())
 }
 
-/// The silences in view that pass all filters, by identifier, with their states.
+/// Returns the silences in view that pass all filters, by identifier, with their states.
 ///
 /// # Errors
 ///
-/// [`AllocError`] where memory runs out.
+/// [`AllocError`] if memory runs out.
 pub fn silences_shown(
     alloc: Global,
     silences: &Held<MeshSilence>,
@@ -67,7 +67,7 @@ pub fn silences_shown(
     Ok(shown)
 }
 
-/// Shows one entry of the log, if it is in view.
+/// Appends an entry of the log to those shown, if it is in view.
 fn show_entry(
     alloc: Global,
     version: &MeshEntry,
@@ -82,11 +82,11 @@ fn show_entry(
     Ok(())
 }
 
-/// The log's entries in view, in the order of their keys.
+/// Returns the log's entries in view, in the order of their keys.
 ///
 /// # Errors
 ///
-/// [`AllocError`] where memory runs out.
+/// [`AllocError`] if memory runs out.
 pub fn log_shown(
     alloc: Global,
     log: &Held<MeshEntry>,
@@ -101,7 +101,7 @@ pub fn log_shown(
     Ok(shown)
 }
 
-/// The version that was found, where it is live.
+/// Returns the version found, if it is live.
 fn live_one<'a, V: Version>(found: Option<&'a V>, now: Moment) -> Option<&'a V>
     ensures { option_copied result ≡ if_live V.seen now (option_copied found.entry) }
 {
@@ -113,7 +113,7 @@ fn live_one<'a, V: Version>(found: Option<&'a V>, now: Moment) -> Option<&'a V>
     }
 }
 
-/// The silence of an identifier, where it is in view. It takes no memory.
+/// Returns the silence with an identifier, if it is in view. It takes no memory.
 pub fn silence_in_view<'a>(
     silences: &'a Held<MeshSilence>,
     id: &Text,
@@ -124,7 +124,7 @@ pub fn silence_in_view<'a>(
     live_one(silences.get(id), now)
 }
 
-/// The log's entry of a key, where it is in view. It takes no memory.
+/// Returns the log's entry at a key, if it is in view. It takes no memory.
 pub fn entry_in_view<'a>(
     log: &'a Held<MeshEntry>,
     key: &LogKey,

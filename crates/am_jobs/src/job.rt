@@ -1,80 +1,85 @@
-//! The jobs.
+//! The jobs of the program.
 
 use crate::options::Options;
 use crate::source::{SourceWord, are_live};
 use am_peers::Server;
 use am_report::Compared;
 use am_version_order::Moment;
+use am_wire::Unknown;
 use std::time::Duration;
 
-/// What is asked for.
+/// The job that is asked for.
 #[derive(Drop)]
 pub enum Job<'a> {
-    /// The schedule that stands on standard input is to be played, and drawn where a file is named.
+    /// Playing the schedule on standard input, and drawing it if a file is named.
     Replay(Option<&'a str>),
-    /// Rows are to be folded.
+    /// Folding rows.
     Fold(FoldJob<'a>),
-    /// A snapshot is to be shown.
+    /// Showing a snapshot.
     Show(ShowJob<'a>),
-    /// Sources are to be compared.
+    /// Comparing sources.
     Diff(DiffJob<'a>),
-    /// A state of a running replica is to be read.
+    /// Reading a state of a running replica.
     Pull(PullJob<'a>),
-    /// Versions are to be sent to a running replica.
+    /// Sending versions to a running replica.
     Push(PushJob<'a>),
-    /// Running replicas are to be compared, and perhaps mended.
+    /// Comparing running replicas, and perhaps mending them.
     Mend(MendJob<'a>),
-    /// A member is to be run.
+    /// Running a member.
     Instance(Options<'a>),
 }
 
 /// Rows of versions that are to be folded.
 #[derive(Drop)]
 pub struct FoldJob<'a> {
-    /// The state that the rows are of.
+    /// The state of the rows.
     pub state: StateName,
-    /// The files in which they stand; none where one stands on standard input.
+    /// The files that hold the rows, or none if standard input holds one.
     pub files: Vec<&'a str>,
-    /// Each file stands for itself and the logs beside it.
+    /// True if each file stands for itself and the logs beside it.
     pub has_logs: bool,
     /// The moment of taking.
     pub now: Moment,
     /// The most bytes of each input, and of the fold.
     pub most: u32,
+    /// The treatment of the fields of versions that aren't known here.
+    pub unknown: Unknown,
 }
 
-/// A snapshot of which is to be shown what is live.
+/// A snapshot whose live versions are to be shown.
 #[derive(Clone, Copy)]
 pub struct ShowJob<'a> {
-    /// The state that the snapshot is of.
+    /// The state of the snapshot.
     pub state: StateName,
-    /// The file in which it stands; without one, standard input.
+    /// The file that holds the snapshot; without one, standard input.
     pub file: Option<&'a str>,
-    /// The file stands for itself and the logs beside it.
+    /// True if the file stands for itself and the logs beside it.
     pub has_logs: bool,
-    /// How it is shown.
+    /// The form in which the snapshot is shown.
     pub form: Form,
     /// The moment of the view; without it, the clock's.
     pub now: Option<Moment>,
+    /// The treatment of the fields of versions that aren't known here.
+    pub unknown: Unknown,
 }
 
-/// How something is printed.
+/// The form in which something is printed.
 #[derive(Clone, Copy)]
 pub enum Form {
-    /// In lines of words.
+    /// Lines of words.
     Lines,
-    /// As one line of JSON.
+    /// One line of JSON.
     Json,
 }
 
-/// How differences are told.
+/// The form in which differences are reported.
 #[derive(Clone, Copy)]
 pub enum Report {
-    /// In lines of words.
+    /// Lines of words.
     Lines,
-    /// As one line of JSON.
+    /// One line of JSON.
     Json,
-    /// As figures in Prometheus' text format.
+    /// Figures in Prometheus' text format.
     Figures,
 }
 
@@ -87,66 +92,66 @@ pub enum StateName {
     Log,
 }
 
-/// Which sources are to be compared.
+/// Sources that are to be compared.
 #[derive(Drop)]
 pub struct DiffJob<'a> {
-    /// The state that the sources are of.
+    /// The state of the sources.
     pub state: StateName,
-    /// What of them is compared.
+    /// The part of the sources that is compared.
     pub compared: Compared,
-    /// How the differences are told.
+    /// The form in which the differences are reported.
     pub report: Report,
-    /// Below the line of a version stands more of it.
+    /// True if more of a version is printed below its line.
     pub is_long: bool,
     /// The moment; without it, the clock's.
     pub now: Option<Moment>,
-    /// What is compared: 2 to 16 sources, whose names differ.
+    /// The sources: 2 to 16, whose names differ.
     pub sources: Vec<SourceWord<'a>>,
-    /// For how long a connection to a server may last.
+    /// The most time that a connection to a server may last.
     pub time_limit: Duration,
-    /// Each file stands for itself and the logs beside it.
+    /// True if each file stands for itself and the logs beside it.
     pub has_logs: bool,
 }
 
 impl DiffJob<'_> {
-    /// Whether a source is a server.
+    /// Returns whether a source is a server.
     pub fn is_live(&self) -> bool {
         are_live(&self.sources)
     }
 }
 
-/// Which state of a running replica is to be read.
+/// A state of a running replica that is to be read.
 #[derive(Clone, Copy)]
 pub struct PullJob<'a> {
     /// The state.
     pub state: StateName,
     /// The replica as it was named.
     pub name: &'a str,
-    /// Where it listens for other replicas.
+    /// The address at which the replica listens for other replicas.
     pub replica: Server<'a>,
-    /// For how long a connection to it may last.
+    /// The most time that a connection to the replica may last.
     pub time_limit: Duration,
 }
 
-/// To which running replica the versions on standard input are to be sent.
+/// A running replica to which the versions on standard input are to be sent.
 #[derive(Clone, Copy)]
 pub struct PushJob<'a> {
-    /// The state that they are of, and the replica.
+    /// The state of the versions, and the replica.
     pub to: PullJob<'a>,
-    /// Nothing is sent, and it is told what would be.
+    /// True if nothing is sent, and only what would be is printed.
     pub is_dry: bool,
     /// The moment; without it, the clock's.
     pub now: Option<Moment>,
 }
 
-/// Which running replicas are to be compared, and perhaps mended.
+/// Running replicas that are to be compared, and perhaps mended.
 #[derive(Drop)]
 pub struct MendJob<'a> {
     /// The state that is compared.
     pub state: StateName,
     /// The replicas, 2 to 16, whose names differ.
     pub replicas: Vec<PullJob<'a>>,
-    /// Each is sent what it lacks.
+    /// True if each replica is sent what it lacks.
     pub is_applied: bool,
     /// The moment; without it, the clock's.
     pub now: Option<Moment>,

@@ -1,4 +1,4 @@
-//! What the program can be asked to do: its jobs, with all that each goes by.
+//! The jobs of the program, with the options of each.
 #![tactic(auto)]
 
 mod job;
@@ -10,4 +10,4 @@ pub use options::Options;
 pub use source::{STANDARD_INPUT, SourceWord, are_live, is_file};
 
 /// The version of the program.
-pub const VERSION: &str = "0.1.0";
+pub const VERSION: &str = "0.2.0";

@@ -1,4 +1,4 @@
--- Why a batch was not added.
+-- The reasons why a batch wasn't added.
 use Rattle.std.specs.Prelude.{◌≡◌, ◌<◌, ◌≤◌, ◌^◌, ℕ, Bool, false, Result, Ok, Err}
 use Rattle.am_journal.specs.declared.error.LogError.{LogError}
 use Rattle.am_journal.specs.declared.error.LogError.TheVariants.{Memory, Failed, Full, Closed}

@@ -1,4 +1,4 @@
--- What the calls of a device do to its file, and what a crash may do between two syncs.
+-- The effect of a device's calls on its file, and what a crash may do between two syncs.
 use Rattle.std.specs.Prelude.{◌<◌, ◌≡◌, ◌⊎◌, ℕ, ◌+◌, ◌≤◌, max, List, ◌++◌, length, take, drop, Result, Ok, Err, ⊤}
 use Rattle.am_journal.specs.declared.error.LogError.{LogError}
 use Rattle.am_journal.specs.declared.error.LogError.TheVariants.{Memory, Failed, Full, Closed}
@@ -7,14 +7,14 @@ use Rattle.am_journal.specs.declared.error.LogError.TheVariants.{Memory, Failed,
 abbrev pub Holds : List ℕ → ℕ → List ℕ → List ℕ → Type 0
 Holds old at bytes new = new ≡ take at old ++ bytes ++ drop (at + length bytes) old
 
--- after a write of n bytes that a crash cuts short: any bytes in the range and past the old end, the same elsewhere
+-- after a write of n bytes that a crash cuts short: any bytes in the range and past the old end, and the same bytes elsewhere
 pub record Torn (at n : ℕ) (old new : List ℕ) : Type 0 where
   pub before : take at new ≡ take at old
   pub after : drop (at + n) new ≡ drop (at + n) old
   pub no_shorter : length old ≤ length new
   pub no_longer : length new ≤ max (length old) (at + n)
 
--- after a cut: some length between
+-- after a cut: some length in between
 pub record Cut (n : ℕ) (old new : List ℕ) : Type 0 where
   pub no_shorter : n ≤ length new
   pub front : take (length new) old ≡ new
@@ -40,7 +40,7 @@ pub record LeavesOnly {D : Type 0} (moment : D → ℕ) (left_since : D → ℕ 
   -- for a run that began earlier
   pub before : (t : ℕ) (c : List ℕ) → t ≤ moment old → left_since new t c → left_since old t c ⊎ P c
 
--- The faults rose if the disk is said to have failed, and nothing else is told but out of memory.
+-- The number of faults has risen if the disk is said to have failed, and the only other error is that memory ran out.
 abbrev pub ErrorHasCause : ℕ → ℕ → LogError → Type 0
 ErrorHasCause before now Memory = before ≤ now
 ErrorHasCause before now (Failed _) = before < now
@@ -52,7 +52,7 @@ abbrev pub IsFailed : LogError → Type 0
 IsFailed (Failed _) = ⊤
 IsFailed error = ⊥
 
--- the faults rose, or not, as an answer tells
+-- the number of faults has risen, or not, as the answer says
 abbrev pub HasCause : {T : Type 0} → ℕ → ℕ → Result T LogError → Type 0
 HasCause before now (Ok _) = before ≤ now
 HasCause before now (Err error) = ErrorHasCause before now error

@@ -1,28 +1,29 @@
--- The calls on a file, and what they make of it.
+-- The calls on a file, and their effect on it.
 use Rattle.std.specs.Prelude.{◌≡◌, ◌⊎◌, ◌≤◌, ℕ, zero, suc, ◌+◌, ◌==◌, Bool, true, false, if◌then◌else◌, List, [], ◌∷◌, ◌++◌, length, take, drop, slice_index, refl}
 use Rattle.std.proofs.Common.{inl, inr}
 use Rattle.std.proofs.Math.Nat.{not-suc-le_self}
 use Rattle.am_journal.specs.Device.{Torn, Cut}
 
--- A call with its answer: which call (0 syncs, 1 writes, 2 cuts), an offset or a length, whether it succeeded, and bytes.
+-- A call with its answer: its kind (0 syncs, 1 writes, 2 cuts), an offset or a length, whether it succeeded, and bytes.
 abbrev pub Event : Type 0
 Event = ℕ × ℕ × Bool × List ℕ
 
 abbrev pub event_of : List ℕ → List ℕ → Event
 event_of numbers bytes = (slice_index numbers 0, slice_index numbers 1, slice_index numbers 2 == 1, bytes)
 
--- what a call that succeeds makes of a file
+-- the content of a file after a call that succeeds
 abbrev pub changed : ℕ → ℕ → List ℕ → List ℕ → List ℕ
 changed zero at bytes file = file
 changed (suc zero) at bytes file = take at file ++ bytes ++ drop (at + length bytes) file
 changed (suc (suc _)) at bytes file = take at file
 
--- What a read would return after these calls, the newest first, of a file that held `start`. A call that fails is not seen.
+-- What a read would return after these calls, the newest first, on a file that held `start`. A call that fails has no visible
+-- effect.
 abbrev pub seen_after : List ℕ → List Event → List ℕ
 seen_after start [] = start
 seen_after start (e ∷ earlier) = if e.2 then changed e.0 e.1 e.3 (seen_after start earlier) else seen_after start earlier
 
--- what a crash may make of a call, besides what is seen then: a write or a cut may be half done, also one that fails
+-- what a crash may leave of a call, other than what is visible then: a write or a cut may be half done, even one that fails
 abbrev pub Leaves : ℕ → ℕ → Bool → List ℕ → (List ℕ → Type 0) → List ℕ → Type 0
 Leaves zero at true bytes earlier c = ⊥
 Leaves zero at false bytes earlier c = earlier c
@@ -34,12 +35,12 @@ abbrev pub may_leave_after : List ℕ → List Event → List ℕ → Type 0
 may_leave_after start [] c = c ≡ start
 may_leave_after start (e ∷ earlier) c = (c ≡ seen_after start (e ∷ earlier)) ⊎ Leaves e.0 e.1 e.2 e.3 (may_leave_after start earlier) c
 
--- what a crash might have left since there were t of them
+-- what a crash might have left since there were t calls
 abbrev pub left_since : List ℕ → List Event → ℕ → List ℕ → Type 0
 left_since start [] t c = c ≡ start
 left_since start (e ∷ earlier) t c = may_leave_after start (e ∷ earlier) c ⊎ ((t ≤ length earlier) × left_since start earlier t c)
 
--- how many failed
+-- the number of calls that failed
 abbrev pub faults_of : List Event → ℕ
 faults_of [] = 0
 faults_of (e ∷ earlier) = if e.2 then faults_of earlier else faults_of earlier + 1

@@ -1,4 +1,4 @@
--- What a log shows.
+-- A log, as contracts see it.
 use Rattle.std.specs.Prelude.{ℕ, Bool}
 use Rattle.am_journal.specs.declared.device.Device.{Ghosts}
 use Rattle.am_journal.specs.declared.journal.Journal.{Journal}
@@ -8,7 +8,7 @@ module _ {D : Type 0} {g : Ghosts D} where
   abbrev pub device_of : Journal D g → D
   device_of journal = journal.device
 
-  -- how many bytes its whole blocks take
+  -- the number of bytes in its whole blocks
   abbrev pub end_of : Journal D g → ℕ
   end_of journal = journal.end
 

@@ -1,4 +1,4 @@
--- What is read of the bytes of a file, where they are known.
+-- The result of reading a file whose bytes are known.
 use Rattle.std.specs.Prelude.{◌≡◌, ℕ, List, [], ◌∷◌, ◌++◌, length, Option, Some, None, ⊤, IfSome}
 use Rattle.am_journal.specs.Blocks.{first_block, recovered}
 use Rattle.am_journal.specs.declared.batches.Found.{Found}
@@ -10,11 +10,11 @@ IsNext None left batch = ⊤
 IsNext (Some file) None batch = ⊥
 IsNext (Some file) (Some left) batch = recovered file ≡ batch ∷ recovered left
 
--- what was left has no batch, and so many bytes
+-- what was left has no batch, and this number of bytes
 abbrev pub IsLast : Option (List ℕ) → ℕ → Type 0
 IsLast left bytes = IfSome left (λ file. (recovered file ≡ []) × (bytes ≡ length file))
 
--- the bytes are one block, or they begin none, `left` being what stands behind them
+-- the bytes are one block, or begin none, with `left` behind them
 abbrev pub IsFound : List ℕ → Option (List ℕ) → Found → Type 0
 IsFound bytes left (Whole batch) = (rest : List ℕ) → first_block (bytes ++ rest) ≡ Some (batch.items, rest)
 IsFound bytes left (Part read) = (read ≡ length bytes) × IfSome left (λ rest. first_block (bytes ++ rest) ≡ None)

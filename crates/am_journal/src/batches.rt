@@ -10,19 +10,19 @@ use crate::error::LogError;
 use std::alloc::Global;
 use std::io::Read;
 
-/// A gate and a length.
+/// The number of bytes in a gate and a length.
 const HEAD_BYTES: u64 = 9;
 
 const ROOM_BYTES: usize = 512;
 
-/// No file has so many bytes.
+/// The number of bytes at which an input is too long; no file has as many.
 const MOST_BYTES: u64 = 1 << 62;
 
-/// Reads the batches of a file up to the first block that is closed or cut short.
+/// A reader of a file's batches up to the first block that is closed or cut short.
 #[derive(Drop)]
 pub struct Batches {
     alloc: Global,
-    /// What was read of the gate and the length of a block.
+    /// The part of a block's gate and length that was read.
     head: Vec<u8>,
     end: u64,
     behind: u64,
@@ -32,7 +32,7 @@ pub struct Batches {
 impl Batches {
     ghost use Rattle.am_journal.specs.Batches.{end_of, behind_of, over};
 
-    /// Stands before the first block.
+    /// Returns a reader before the first block.
     pub fn new(alloc: Global) -> Self
         ensures end { end_of result ≡ 0 }
         ensures over { over result ≡ false }
@@ -46,26 +46,26 @@ impl Batches {
         }
     }
 
-    /// How many bytes the whole blocks take that were read.
+    /// Returns the number of bytes in the whole blocks that were read.
     pub fn end(&self) -> u64
         ensures { result ≡ end_of self.now }
     {
         self.end
     }
 
-    /// How many bytes stand behind the last whole block, once it was read.
+    /// Returns the number of bytes behind the last whole block, once it has been read.
     pub fn behind(&self) -> u64
         ensures { result ≡ behind_of self.now }
     {
         self.behind
     }
 
-    /// Reads the next batch. None is the first block that isn't whole, and the input is then read to its end.
+    /// Reads the next batch. `None` stands for the first block that isn't whole, and the input is then read to its end.
     ///
     /// # Errors
     ///
-    /// [`LogError::Failed`] where a read failed, [`LogError::Memory`], [`LogError::Full`] for an input of over 2^62
-    /// bytes, and [`LogError::Closed`] at each call after None or an error.
+    /// [`LogError::Failed`] if a read failed, [`LogError::Memory`], [`LogError::Full`] for an input of more than 2^62 bytes, and
+    /// [`LogError::Closed`] at each call after `None` or an error.
     pub fn next<R: Read>(&mut self, reader: &mut R) -> Result<Option<Vec<u8>>, LogError>
         ensures batch { IfOk result (λ answer. IfSome answer (λ batch.
             IsNext (R.remaining reader.old) (R.remaining reader.new) batch.items)) }
@@ -98,16 +98,16 @@ impl Batches {
     }
 }
 
-/// What stands next in a file.
+/// The next thing in a file.
 #[derive(Drop)]
 enum Found {
-    /// A whole block of this batch.
+    /// A whole block with this batch.
     Whole { batch: Vec<u8> },
-    /// No whole block; so many bytes of it were read.
+    /// An incomplete or closed block, of which `read` bytes were read.
     Part { read: u64 },
 }
 
-/// Reads a block, or the front of what is none. The head has its gate and its length then.
+/// Reads a block, or the front of what isn't one. The head then has its gate and its length.
 fn read_block<R: Read>(alloc: Global, head: &mut Vec<u8>, reader: &mut R) -> Result<Found, LogError>
     ensures { IfOk result (λ found. (bytes : List ℕ) ×
         Consumes (R.remaining reader.old) (R.remaining reader.new) bytes ×
@@ -130,7 +130,7 @@ fn read_block<R: Read>(alloc: Global, head: &mut Vec<u8>, reader: &mut R) -> Res
     Ok(Found::Whole { batch })
 }
 
-/// The length behind an open gate.
+/// Returns the length behind an open gate.
 fn size_in(head: &[u8]) -> Option<u64>
     ensures some { IfSome result (λ n. (size : List ℕ) × (head.now ≡ 1 ∷ size) × (length size ≡ 8) × (from_le_bytes w64 size ≡ n)) }
     ensures none { result ≡ None → length head.now ≡ 9 → slice_index head.now 0 ≢ 1 }
@@ -141,7 +141,7 @@ fn size_in(head: &[u8]) -> Option<u64>
     Some(u64::from_le_bytes([*a, *b, *c, *d, *e, *f, *g, *h]))
 }
 
-/// Reads into the front of the room, and answers how many bytes.
+/// Reads into the front of the room, and returns the number of bytes.
 fn read_some<R: Read>(reader: &mut R, room: &mut [u8], most: usize) -> Result<usize, LogError>
     requires some { 0 < most }
     requires fits { most ≤ length room.old }
@@ -152,8 +152,7 @@ fn read_some<R: Read>(reader: &mut R, room: &mut [u8], most: usize) -> Result<us
     Ok(reader.read(&mut room[..most])?)
 }
 
-/// Reads so many bytes behind those that are held, or fewer at the end of the input. Room is made as they come, so
-/// that no length takes memory by itself.
+/// Reads `wanted` bytes, or fewer at the end of the input. Room is made as they come, so that no length takes memory by itself.
 fn read_up_to<R: Read>(bytes: &mut Vec<u8>, reader: &mut R, wanted: u64) -> Result<(), LogError>
     requires { bytes.old.items ≡ [] }
     ensures whole { OnOk result (Consumes (R.remaining reader.old) (R.remaining reader.new) bytes.new.items) }
@@ -172,7 +171,7 @@ fn read_up_to<R: Read>(bytes: &mut Vec<u8>, reader: &mut R, wanted: u64) -> Resu
     Ok(())
 }
 
-/// Reads to the end of the input, and answers how many bytes came, with those that were read before.
+/// Reads to the end of the input, and returns the number of bytes that came, including those read before.
 fn skip_rest<R: Read>(reader: &mut R, read: u64) -> Result<u64, LogError>
     ensures { IfOk result (λ n. (bytes : List ℕ) × Consumes (R.remaining reader.old) (R.remaining reader.new) bytes ×
         (n ≡ read + length bytes) × IsAtEnd (R.remaining reader.new)) }

@@ -1,26 +1,26 @@
-//! A file as the log sees it: what it holds, and what a crash may leave of it.
+//! A file as the log sees it: its content, and what a crash may leave of it.
 
 ghost use Rattle.std.specs.Prelude.{◌≡◌, ◌≤◌, List, ℕ, length, take, OnOk};
 ghost use Rattle.am_journal.specs.Device.{Only, Follows, Torn, Cut, Holds, Elapses, HasCause};
 
 use crate::error::LogError;
 
-/// A file that is written and synced. Its contract is what a disk does; what has it is [`crate::Memory`], and
-/// [`crate::LogFile`] if the disk does as its model says.
+/// A file that is written and synced. Its contract is what a disk does; [`crate::Memory`] meets it, and [`crate::LogFile`] does
+/// if the disk does what its model says.
 pub trait Device {
     /// The bytes that a read would return.
     ghost seen: { Self → List ℕ };
 
-    /// What a crash at this moment may leave.
+    /// The contents that a crash at this moment may leave.
     ghost may_leave: { Self → List ℕ → Type 0 };
 
-    /// The moment, as a number that doesn't fall.
+    /// The moment, as a number that never falls.
     ghost moment: { Self → ℕ };
 
-    /// What a crash at some moment from that one on might have left, during a call or between two.
+    /// The contents that a crash at some moment from that one on might have left, during a call or between two.
     ghost left_since: { Self → ℕ → List ℕ → Type 0 };
 
-    /// How often the disk has failed.
+    /// The number of times that the disk has failed.
     ghost faults: { Self → ℕ };
 
     /// Writes over what is there, and past the end. Until a sync, a crash may leave any bytes in the range.
@@ -39,7 +39,7 @@ pub trait Device {
         ensures time { Elapses (moment self.old) (moment self.new) (left_since self.old) (left_since self.new) (may_leave self.new) }
         ensures cause { HasCause (faults self.old) (faults self.new) result };
 
-    /// After it, a crash leaves what a read returns.
+    /// Syncs the file: after that, a crash leaves what a read returns.
     fn sync(&mut self) -> Result<(), LogError>
         ensures durable { OnOk result (Only (seen self.old) (may_leave self.new)) }
         ensures seen { seen self.new ≡ seen self.old }
@@ -47,12 +47,12 @@ pub trait Device {
         ensures time { Elapses (moment self.old) (moment self.new) (left_since self.old) (left_since self.new) (may_leave self.new) }
         ensures cause { HasCause (faults self.old) (faults self.new) result };
 
-    /// A crash may leave all that was written.
+    /// States that a crash may leave all that was written.
     ghost seen_may_stay: { (file : Self) → may_leave file (seen file) };
 
-    /// This moment is one of those since an earlier one.
+    /// States that this moment is one of those since an earlier one.
     ghost counts_now: { (file : Self) (t : ℕ) (c : List ℕ) → t ≤ moment file → may_leave file c → left_since file t c };
 
-    /// Since this moment there is no other.
+    /// States that there is no other moment since this one.
     ghost only_now: { (file : Self) (c : List ℕ) → left_since file (moment file) c → may_leave file c };
 }

@@ -1,4 +1,4 @@
-//! Why a log was not written or read.
+//! The reasons why a log wasn't written or read.
 
 ghost use Rattle.std.specs.Prelude.{◌≡◌};
 ghost use Rattle.am_journal.specs.declared.error.LogError.TheVariants.{Memory, Failed};
@@ -7,7 +7,7 @@ use std::alloc::AllocError;
 use std::io;
 use thiserror::Error;
 
-/// Why a call of a log was refused.
+/// The reason why a call of a log was refused.
 #[derive(Clone, Copy, Debug, Error)]
 pub enum LogError {
     #[error("out of memory")]

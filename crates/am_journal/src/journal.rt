@@ -1,6 +1,6 @@
-//! Blocks: a gate byte, the length of a batch in eight bytes, the lowest first, and the batch. A block counts if its
-//! gate is open (1) and it is whole. Behind the last stands a closed gate (0), on the disk before anything is written
-//! behind it. So no bytes that a crash leaves are ever taken for a batch, and no check sum is trusted.
+//! Blocks: a gate byte, the length of a batch in eight bytes, the lowest first, and the batch. A block counts if its gate is open
+//! (1) and it is whole. A closed gate (0) follows the last block, and is on the disk before anything is written behind it. So
+//! bytes that a crash leaves are never taken for a batch, and no checksum is trusted.
 
 ghost use Rattle.std.specs.Prelude.{◌≡◌, ◌++◌, [], ◌∷◌, ℕ, List, length, false, take, IsTrue, IfOk, IfErr, OnOk, OnErr};
 ghost use Rattle.std.specs.Int.{w64, to_le_bytes};
@@ -17,15 +17,15 @@ const CLOSED: u8 = 0;
 
 const OPEN: u8 = 1;
 
-/// No batch is written behind so many bytes.
+/// The number of bytes at which a log is full: no batch is written behind them.
 const MOST_BYTES: u64 = 1 << 62;
 
-/// A log that batches are added to. While it is usable, its file is whole blocks and a closed gate behind them, all of
-/// it on the disk.
+/// A log to which batches are added. While it is usable, its file is whole blocks followed by a closed gate, all of it on the
+/// disk.
 #[derive(Drop)]
 pub struct Journal<D: Device> {
     device: D,
-    /// Where the closed gate stands.
+    /// The place of the closed gate.
     end: u64,
     is_usable: bool,
     ghost at_rest: { IsTrue is_usable → IsAtRest end (D.Device.seen device) },
@@ -35,12 +35,12 @@ pub struct Journal<D: Device> {
 impl<D: Device> Journal<D> {
     ghost use Rattle.am_journal.specs.Journal.{device_of, end_of, usable};
 
-    /// Opens a file whose whole blocks take `end` bytes, and cuts off what stands behind them. It may crash too, at any
-    /// moment, and the file has the same batches. An `Err` hands the file back.
+    /// Opens a file whose whole blocks take `end` bytes, and cuts off what follows them. This may crash too, at any moment, and
+    /// the file has the same batches. An `Err` hands the file back.
     ///
     /// # Errors
     ///
-    /// [`LogError::Failed`] where the disk failed, or [`LogError::Memory`].
+    /// [`LogError::Failed`] if the disk failed, or [`LogError::Memory`].
     pub fn open(device: D, end: u64) -> Result<Journal<D>, (LogError, D)>
         // After a restart, what is read is what is on the disk.
         requires durable { Only (D.seen device) (D.may_leave device) }
@@ -65,34 +65,33 @@ impl<D: Device> Journal<D> {
         }
     }
 
-    /// No call has failed.
+    /// Returns whether no call has failed.
     pub fn is_usable(&self) -> bool
         ensures { result ≡ usable self.now }
     {
         self.is_usable
     }
 
-    /// How many bytes its whole blocks take.
+    /// Returns the number of bytes in its whole blocks.
     pub fn len(&self) -> u64
         ensures { result ≡ end_of self.now }
     {
         self.end
     }
 
-    /// Its file.
+    /// Returns its file.
     pub fn into_device(self) -> D
         ensures { result ≡ device_of self }
     {
         self.device
     }
 
-    /// Adds a batch. At `Ok` it is acknowledged: from then on each crash leaves a file that has it. An empty batch
-    /// writes nothing.
+    /// Adds a batch. `Ok` acknowledges it: from then on every crash leaves a file that has it. An empty batch writes nothing.
     ///
     /// # Errors
     ///
-    /// [`LogError::Failed`] where the disk failed, [`LogError::Memory`], and [`LogError::Full`] for a log of 2^62 bytes.
-    /// The file then has the batch or hasn't, the log is used up, and every later call is [`LogError::Closed`].
+    /// [`LogError::Failed`] if the disk failed, [`LogError::Memory`], and [`LogError::Full`] for a log of 2^62 bytes. The file
+    /// then has the batch or doesn't have it, the log is used up, and every later call returns [`LogError::Closed`].
     pub fn commit(&mut self, alloc: Global, batch: &[u8]) -> Result<(), LogError>
         // PROMISE: A batch that a log acknowledged is on the disk.
         ensures acknowledged { OnOk result (recovered (D.seen (device_of self.new)) ≡
@@ -107,7 +106,7 @@ impl<D: Device> Journal<D> {
         ensures err { OnErr result (usable self.new ≡ false) }
         ensures closed { usable self.old ≡ false → device_of self.new ≡ device_of self.old }
 
-        // It doesn't give up by itself.
+        // It doesn't give up of its own accord.
         ensures cause { HasCommitCause (D.faults (device_of self.old)) (D.faults (device_of self.new)) (end_of self.old) (usable self.old) result }
     {
         if !self.is_usable {
@@ -129,7 +128,7 @@ impl<D: Device> Journal<D> {
     }
 }
 
-/// What is written behind a gate: the length of the batch, the batch and a closed gate.
+/// Returns what is written behind a gate: the length of the batch, the batch and a closed gate.
 fn block_of(alloc: Global, batch: &[u8]) -> Result<Vec<u8>, AllocError>
     ensures { IfOk result (λ block. block.items ≡ to_le_bytes w64 (length batch.now) ++ batch.now ++ 0 ∷ []) }
 {
@@ -140,12 +139,12 @@ fn block_of(alloc: Global, batch: &[u8]) -> Result<Vec<u8>, AllocError>
     Ok(block)
 }
 
-/// Cuts off what stands behind the whole blocks of a file, which take `end` bytes, and closes a gate there. It may
-/// crash too, at any moment, and the file has the same batches.
+/// Cuts off what follows the whole blocks of a file, which take `end` bytes, and closes a gate there. This may crash too, at any
+/// moment, and the file has the same batches.
 ///
 /// # Errors
 ///
-/// [`LogError::Failed`] where the disk failed, or [`LogError::Memory`].
+/// [`LogError::Failed`] if the disk failed, or [`LogError::Memory`].
 pub fn repair<D: Device>(device: &mut D, end: u64) -> Result<(), LogError>
     // After a restart, what is read is what is on the disk.
     requires durable { Only (D.seen device.old) (D.may_leave device.old) }
@@ -159,7 +158,7 @@ pub fn repair<D: Device>(device: &mut D, end: u64) -> Result<(), LogError>
         (λ c. recovered c ≡ recovered (D.seen device.old)) }
     ensures cause { HasCause (D.faults device.old) (D.faults device.new) result }
 {
-    // The cut has to be on the disk first: behind a gate that is torn open, what was there would count.
+    // The cut has to be on the disk first: what was there would count behind a gate that is torn open.
     shorten(device, end)?;
     write_down(device, end, &[CLOSED])
 }

@@ -1,16 +1,15 @@
-//! A file of the operating system. Its calls and their answers are noted in a record that only clauses read, and what
-//! it holds, and what a crash may leave of it, is what the record says of a file that held certain bytes at first. So
-//! the clauses of a log hold of the file that runs, where the disk does as that model says.
+//! A file of the operating system. Its calls and their answers are recorded in a list that only clauses read; its content, and
+//! what a crash may leave of it, are what the record says of a file that held certain bytes at first. So the clauses of a log
+//! hold for the file that runs, if the disk does what that model says.
 //!
-//! What stays argued, since no proof can show it:
+//! The following is argued and not proved, since no proof can show it:
 //!
-//! - each method makes the call that it notes, and no other code writes to the file;
-//! - what a [`Start`] says the file held is what it held, and that was on the disk. [`settle`] before the file is read
-//!   sees to the second: it syncs the file, and asks the kernel to drop its copies, which a failed sync of an earlier
-//!   process may have left other than the disk has them;
+//! - each method makes the call that it records, and no other code writes to the file;
+//! - what a [`Start`] says the file held is what it held, and that was on the disk. [`settle`], called before the file is read,
+//!   sees to the second: it syncs the file, and asks the kernel to drop its copies, which a failed sync of an earlier process
+//!   may have left different from what the disk has;
 //! - a sync that succeeds has put on the disk what was written before it, and the new length;
-//! - bytes outside of a range that is written don't change, in a crash either: the disk finishes a sector once it has
-//!   begun one.
+//! - bytes outside of a range that is written don't change, not even in a crash: the disk finishes a sector once it has begun one.
 
 ghost use Rattle.std.specs.Prelude.{◌≡◌, [], ◌∷◌, List, ℕ, length, is_ok, IsTrue, IfOk, IfErr};
 ghost use Rattle.am_journal.specs.Blocks.{recovered, blocks_length};
@@ -34,22 +33,22 @@ const WRITTEN: u64 = 1;
 
 const CUT: u64 = 2;
 
-/// How many bytes the kernel is asked to read at a time: where it is asked for more, it may read only the first.
+/// The number of bytes that the kernel is asked to read at a time: if asked for more, it may read only the first ones.
 const AHEAD: usize = 1 << 20;
 
 const MOST_AHEAD: u64 = 1 << 26;
 
-/// What a file held as it was opened. Code over `S: Start` is proved for all contents whose whole blocks end where
-/// `end` says.
+/// The content of a file when it was opened. Code over `S: Start` is proved for all contents whose whole blocks end where `end`
+/// says.
 pub trait Start: Drop {
     ghost held: { Self → List ℕ };
 
-    /// How many bytes its whole blocks take.
+    /// Returns the number of bytes in its whole blocks.
     fn end(&self) -> u64
         ensures { result ≡ blocks_length (recovered (held self.now)) };
 }
 
-/// The end that was read of a file. Clauses at this type speak of some file whose blocks end there.
+/// The end of a file's whole blocks, as it was read. Clauses at this type speak of some file whose blocks end there.
 #[derive(Clone, Copy)]
 pub struct Found {
     end: u64,
@@ -57,7 +56,7 @@ pub struct Found {
 }
 
 impl Found {
-    /// No blocks take 1 to 8 bytes.
+    /// Returns the end, or `None` for 1 to 8 bytes, which no blocks take.
     pub fn new(end: u64) -> Option<Found> {
         if 0 < end && end < 9 {
             return None;
@@ -115,7 +114,7 @@ impl<S: Start> Device for LogFile<S> {
     }
 }
 
-/// Notes a call with its answer, and hands that on.
+/// Records a call with its answer, and returns the answer.
 fn noted(
     log: &mut Record,
     call: u64,
@@ -138,12 +137,12 @@ fn noted(
     }
 }
 
-/// Syncs a file before it is read, and asks the kernel to drop its copies of it, and then to read the first 64 MiB anew while
-/// the caller does something else.
+/// Syncs a file before it is read, and asks the kernel to drop its copies of it, and then to read the first 64 MiB anew while the
+/// caller does something else.
 ///
 /// # Errors
 ///
-/// What the system answers.
+/// The error that the system returns.
 pub fn settle(file: &File) -> io::Result<()> {
     file.sync_all()?;
     match libc::posix_fadvise(file.as_raw_fd(), 0, 0, libc::POSIX_FADV_DONTNEED) {
@@ -152,7 +151,7 @@ pub fn settle(file: &File) -> io::Result<()> {
     }
 }
 
-/// Asks the kernel to read a file. What it doesn't read ahead is read when it is asked for.
+/// Asks the kernel to read a file ahead. What it doesn't read then is read when it is asked for.
 fn read_ahead(file: &File) -> io::Result<()> {
     let len = file.metadata()?.len().min(MOST_AHEAD);
     for at in (0..len).step_by(AHEAD) {
@@ -166,11 +165,11 @@ fn read_ahead(file: &File) -> io::Result<()> {
     Ok(())
 }
 
-/// Opens the log of a file that was settled and then read, and cuts off what stands behind its whole blocks.
+/// Opens the log of a file that was settled and then read, and cuts off what follows its whole blocks.
 ///
 /// # Errors
 ///
-/// [`LogError::Failed`] where the disk failed.
+/// [`LogError::Failed`] if the disk failed.
 pub fn open_file<S: Start>(file: File, start: S) -> Result<Journal<LogFile<S>>, LogError>
     ensures usable { IfOk result (λ journal. IsTrue (usable journal)) }
     ensures same { IfOk result (λ journal. recovered (⟦<LogFile<S> as Device>⟧.seen (device_of journal)) ≡ recovered (S.held start)) }

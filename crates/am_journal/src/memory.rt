@@ -1,5 +1,5 @@
-//! A file in memory. Each call is done at once, so a crash leaves what is there. It keeps each past content, so that
-//! its clauses can speak of them: it is for tests, and shows that the contract of a device can be met.
+//! A file in memory. Each call is done at once, so a crash leaves what is there. It keeps each past content, so that its clauses
+//! can speak of them: it is for tests, and shows that the contract of a device can be met.
 
 ghost use Rattle.std.specs.Prelude.{◌≡◌, ◌⊎◌, [], ◌∷◌, ◌++◌, length, drop, refl, OnOk, OnErr};
 ghost use Rattle.std.proofs.Common.{inl};
@@ -19,7 +19,7 @@ pub struct Memory {
 impl Memory {
     ghost use Rattle.am_journal.specs.Memory.{memory_bytes};
 
-    /// A file with these bytes, all of them on the disk.
+    /// Returns a file with these bytes, all of them on the disk.
     pub fn new(alloc: Global, bytes: Vec<u8>) -> Self
         ensures { memory_bytes result ≡ bytes.items }
     {
@@ -30,7 +30,7 @@ impl Memory {
         }
     }
 
-    /// What it holds.
+    /// Returns its bytes.
     pub fn bytes(&self) -> &[u8]
         ensures { result.now ≡ memory_bytes self.now }
     {
@@ -38,7 +38,7 @@ impl Memory {
     }
 }
 
-/// Puts other bytes in the place of those that are there, which it keeps.
+/// Replaces the bytes that are there, and keeps the old ones.
 fn replace(
     alloc: Global,
     bytes: &mut Vec<u8>,

@@ -25,7 +25,7 @@ impl Record {
         }
     }
 
-    /// The numbers are those of an `Event`: which call, an offset or a length, and 1 for success.
+    /// Records a call by the numbers of an `Event`: its kind, an offset or a length, and 1 for success.
     pub(crate) fn note(&mut self, _numbers: &[u64], _bytes: &[u8])
         ensures { self.new.events ≡ event_of _numbers.now _bytes.now ∷ self.old.events }
     {}

@@ -1,4 +1,4 @@
-//! The two things that a log does to its file, each on the disk before it answers.
+//! The two operations of a log on its file, each of which is on the disk when it returns.
 
 ghost use Rattle.std.specs.Prelude.{◌≡◌, ◌≤◌, length, take, OnOk};
 ghost use Rattle.am_journal.specs.Device.{Only, Torn, Cut, Holds, LeavesOnly, HasCause};

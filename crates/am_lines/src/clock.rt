@@ -1,21 +1,21 @@
-//! Whether the clock is behind the moment of the last event, and what is told of that.
+//! The watch on a clock that is behind the moment of the last event.
 
 use am_faults::Fault;
 use am_peers::{is_behind, later_moment};
 use am_version_order::Moment;
 use std::time::{Duration, Instant};
 
-/// After how many seconds it is told again that the clock is behind.
+/// The time in seconds after which a member tells again that its clock is behind.
 const AGAIN: u64 = 60;
 
-/// What is known of the clock.
+/// The watch on a clock.
 #[derive(Clone, Copy)]
 pub struct Watch {
-    /// When it is told next that the clock is behind, while it is.
+    /// The moment when the member tells next that the clock is behind, while it is.
     next: Option<Instant>,
 }
 
-/// By how many seconds a clock is behind a moment.
+/// Returns the number of seconds by which a clock is behind a moment.
 fn seconds_behind(since_1970: Duration, last: Moment) -> u64 {
     let clock = later_moment(since_1970, Moment::LEAST);
     let (last, _) = last.parts();
@@ -23,8 +23,8 @@ fn seconds_behind(since_1970: Duration, last: Moment) -> u64 {
     last.saturating_sub(now).unsigned_abs()
 }
 
-/// Whether a moment is before another one, where there is such.
-fn is_before(now: Instant, next: Option<Instant>) -> bool {
+/// Returns whether a moment is before another one, if there is one.
+pub(crate) fn is_before(now: Instant, next: Option<Instant>) -> bool {
     match next {
         Some(next) => now < next,
         None => false,
@@ -32,12 +32,13 @@ fn is_before(now: Instant, next: Option<Instant>) -> bool {
 }
 
 impl Watch {
-    /// Nothing is told yet.
+    /// Returns a watch that has told nothing yet.
     pub fn new() -> Watch {
         Watch { next: None }
     }
 
-    /// What is to be told of what the clock says, as the time since 1970, beside the moment of the last event.
+    /// Compares what the clock says, as the time since 1970, with the moment of the last event, and returns the fault to tell, if
+    /// there is one.
     pub fn look(&mut self, since_1970: Duration, last: Moment, now: Instant) -> Option<Fault> {
         let next = self.next;
         if !is_behind(since_1970, last) {

@@ -1,4 +1,4 @@
-//! Standard error, on which nobody waits.
+//! Standard error, for which nobody waits.
 
 use mio::unix::SourceFd;
 use mio::{Events, Interest, Poll, Token};
@@ -9,18 +9,18 @@ use std::time::Duration;
 /// The descriptor of standard error.
 const DESCRIPTOR: i32 = 2;
 
-/// What tells of it. There is no other source.
+/// The token of standard error, the only source.
 const TOKEN: Token = Token(0);
 
-/// Standard error, as far as a line finds room there at once.
+/// Standard error, for lines that find room there at once.
 #[derive(Drop)]
 pub struct StandardError {
-    /// What tells of a pipe, a socket or a terminal. The system tells nothing of a file, on which nobody waits either.
+    /// The poll of a pipe, a socket or a terminal. The system tells nothing of a file, for which nobody waits either.
     poll: Option<Poll>,
     events: Events,
 }
 
-/// What tells of standard error, where the system does.
+/// Returns the poll of standard error, if the system has one for it.
 fn watched<R: Net>(rt: &R) -> Option<Poll> {
     let poll = Poll::new(rt).ok()?;
     let mut source = SourceFd(&DESCRIPTOR);
@@ -31,11 +31,11 @@ fn watched<R: Net>(rt: &R) -> Option<Poll> {
 }
 
 impl StandardError {
-    /// Standard error.
+    /// Begins to watch standard error.
     ///
     /// # Errors
     ///
-    /// [`AllocError`] where memory runs out.
+    /// [`AllocError`] if memory runs out.
     pub fn new<R: Net>(alloc: Global, rt: &R) -> Result<StandardError, AllocError> {
         Ok(StandardError {
             poll: watched(rt),
@@ -43,14 +43,14 @@ impl StandardError {
         })
     }
 
-    /// Whether a line of at most 4,096 bytes finds room now, so that writing it waits for nobody. A reader that is gone makes
-    /// room, too.
+    /// Returns whether a line of at most 4,096 bytes finds room now, so that writing it waits for nobody. A reader that is gone
+    /// makes room, too.
     pub fn has_room(&mut self) -> bool {
         let Some(poll) = &mut self.poll else {
             return true;
         };
         let mut source = SourceFd(&DESCRIPTOR);
-        // (the system tells anew of what it told before)
+        // (the system tells again what it told before)
         if poll
             .registry()
             .reregister(&mut source, TOKEN, Interest::WRITABLE)

@@ -1,5 +1,5 @@
-//! The lines of faults that a member prints: of each kind so many a second, and how many were left out; and none that would
-//! have to wait until somebody reads.
+//! The lines of faults that a member prints: only so many of each kind a second, with a count of those left out; and none that
+//! would have to wait until somebody reads.
 
 ghost use Rattle.std.specs.Prelude.{◌<◌};
 
@@ -23,7 +23,7 @@ pub struct Told {
 }
 
 impl Told {
-    /// When it is told, now, and the name of its peer, by the names of the members.
+    /// Returns the occasion of the fault: now, and the name of its peer among those of the members.
     fn occasion<'a, R: Clock>(&self, rt: &R, members: &'a [Text]) -> Occasion<'a> {
         let peer = match self.peer {
             Some(place) => members
@@ -39,17 +39,17 @@ impl Told {
     }
 }
 
-/// What is printed of faults.
+/// A line that is printed of faults.
 #[derive(Clone, Copy)]
 enum Line {
     /// A fault.
     One(Told),
-    /// So many more like this one.
+    /// A count of more faults like this one.
     Count(u64, Told),
 }
 
 impl Line {
-    /// Prints it. The members' names stand by place.
+    /// Prints the line. The members' names are in the order of their places.
     fn print<R: Clock + Eprint>(&self, rt: &R, members: &[Text]) {
         match self {
             Line::One(told) => print(rt, &told.fault, &told.occasion(rt, members)),
@@ -59,7 +59,7 @@ impl Line {
         }
     }
 
-    /// How many faults it tells.
+    /// Returns the number of faults that the line tells.
     fn count(&self) -> u64 {
         match self {
             Line::One(_) => 1,
@@ -68,10 +68,10 @@ impl Line {
     }
 }
 
-/// The lines of one kind in a second.
+/// The tally of the lines of one kind in a second.
 #[derive(Clone, Copy)]
 struct Tally {
-    /// When the second is over.
+    /// The moment when the second is over.
     end: Option<Instant>,
     printed: u32,
     left_out: u64,
@@ -86,14 +86,14 @@ pub struct Lines {
     most: u32,
     tallies: [Tally; KINDS],
     output: StandardError,
-    /// How many faults weren't told, since nobody read what was.
+    /// The number of faults that weren't told, since nobody read the lines before.
     lost: u64,
 }
 
-/// After how many milliseconds it is looked again whether somebody reads.
+/// The time in milliseconds after which a member looks again whether somebody reads.
 const LOOK_EVERY: u64 = 500;
 
-/// No line.
+/// A tally of no lines.
 const NONE: Tally = Tally {
     end: None,
     printed: 0,
@@ -102,7 +102,7 @@ const NONE: Tally = Tally {
 };
 
 impl Tally {
-    /// Whether a second has begun that is over by now.
+    /// Returns whether a second has begun that is over by now.
     fn is_over(&self, now: Instant) -> bool {
         match self.end {
             Some(end) => end <= now,
@@ -110,7 +110,7 @@ impl Tally {
         }
     }
 
-    /// Counts a fault, and answers whether it is printed.
+    /// Counts a fault, and returns whether it is printed.
     fn count(&mut self, told: Told, most: u32, now: Instant) -> bool {
         if self.end.is_none() {
             self.end = now.checked_add(Duration::from_secs(1));
@@ -124,7 +124,7 @@ impl Tally {
         false
     }
 
-    /// Tells how many were left out, if any were, and begins anew.
+    /// Returns the line that counts the faults that were left out, if any were, and begins anew.
     fn settle(&mut self) -> Option<Line> {
         let Tally { left_out, last, .. } = mem::replace(self, NONE);
         Some(Line::Count(left_out, last?))
@@ -132,11 +132,11 @@ impl Tally {
 }
 
 impl Lines {
-    /// No line was printed yet.
+    /// Begins with no line printed.
     ///
     /// # Errors
     ///
-    /// [`AllocError`] where memory runs out.
+    /// [`AllocError`] if memory runs out.
     pub fn new<R: Net>(alloc: Global, rt: &R, most: u32) -> Result<Lines, AllocError> {
         Ok(Lines {
             most,
@@ -146,7 +146,7 @@ impl Lines {
         })
     }
 
-    /// Prints a fault, or counts it as left out. The members' names stand by place.
+    /// Prints a fault, or counts it as left out. The members' names are in the order of their places.
     pub fn tell<R: Clock + Eprint>(&mut self, rt: &R, members: &[Text], told: Told) {
         let Ok(now) = Instant::now(rt) else {
             return self.print(rt, members, Some(Line::One(told)));
@@ -159,12 +159,12 @@ impl Lines {
         }
     }
 
-    /// Whether a line of at most 4,096 bytes finds room.
+    /// Returns whether a line of at most 4,096 bytes finds room.
     pub fn has_room(&mut self) -> bool {
         self.output.has_room()
     }
 
-    /// Whether a line finds room. It is told first how many faults weren't told.
+    /// Returns whether a line finds room, after printing how many faults weren't told.
     fn makes_room<R: Clock + Eprint>(&mut self, rt: &R, members: &[Text]) -> bool {
         if !self.output.has_room() {
             return false;
@@ -180,7 +180,7 @@ impl Lines {
         self.output.has_room()
     }
 
-    /// Prints a line, if there is one, where it finds room.
+    /// Prints a line, if there is one and it finds room.
     fn print<R: Clock + Eprint>(&mut self, rt: &R, members: &[Text], line: Option<Line>) {
         let Some(line) = line else {
             return;
@@ -192,7 +192,7 @@ impl Lines {
         }
     }
 
-    /// Prints how many were left out of a kind, where its second is over by then, or in any case.
+    /// Prints how many faults of a kind were left out, if its second is over by `now`, or in any case if `now` is none.
     fn settle_kind<R: Clock + Eprint>(
         &mut self,
         rt: &R,
@@ -213,7 +213,7 @@ impl Lines {
         }
     }
 
-    /// Prints how many were left out of each kind whose second is over by now, and how many faults weren't told.
+    /// Prints how many faults were left out of each kind whose second is over by now, and how many faults weren't told.
     pub fn settle<R: Clock + Eprint>(&mut self, rt: &R, members: &[Text], now: Instant) {
         for kind in 0..KINDS {
             self.settle_kind(rt, members, kind, Some(now));
@@ -223,14 +223,14 @@ impl Lines {
         }
     }
 
-    /// Prints how many were left out of each kind.
+    /// Prints how many faults were left out of each kind.
     pub fn settle_all<R: Clock + Eprint>(&mut self, rt: &R, members: &[Text]) {
         for kind in 0..KINDS {
             self.settle_kind(rt, members, kind, None);
         }
     }
 
-    /// How long it is until a count of lines that were left out is due, or it is looked again for room.
+    /// Returns the time until a count of faults that were left out is due, or until the next look for room.
     pub fn left(&self, now: Instant) -> Option<Duration> {
         let mut left = (self.lost > 0).then_some(Duration::from_millis(LOOK_EVERY));
         for tally in &self.tallies {

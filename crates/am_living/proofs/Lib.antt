@@ -1,2 +1,3 @@
+pub mod Fronts
 mod Lived
 pub mod Talking

@@ -1,7 +1,6 @@
 -- What calls make of a member's connections, as its life.
-use Rattle.std.proofs.Math.Seq.{take-add}
 use Rattle.std.proofs.lemmas.List.{length-take, take_min}
-use Rattle.std.proofs.Common.{◌≡◌, ◌≢◌, ◌⊎◌, ◌∙◌, ℕ, List, [], ◌∷◌, ◌++◌, take, drop, length, Option, None, Some, Result, Ok, Err, ap, sym, subst, refl, inl, inr, append-nil, append_assoc, arith}
+use Rattle.std.proofs.Common.{◌≡◌, ◌≢◌, ◌⊎◌, ◌∙◌, ◌-◌, ℕ, min, List, [], ◌∷◌, ◌++◌, take, drop, length, Option, None, Some, Result, Ok, Err, ap, sym, subst, refl, inl, inr, append-nil, append_assoc, arith}
 use Rattle.std.proofs.lemmas.Bool.{cases_lt}
 use Rattle.std.proofs.lemmas.Bool.{cases_order}
 use Rattle.std.proofs.lemmas.Option.{none-some}
@@ -9,13 +8,13 @@ use Rattle.am_dialogue.proofs.Sayings.{keeps_same}
 use Rattle.am_dialogue.proofs.Steps.{nothing_made}
 use Rattle.am_dialogue.specs.Answered.{AreOwnSteps, ByItself, IsAnswered, IsKept, IsLeft, IsTaken}
 use Rattle.am_dialogue.specs.Answered.{SaysBy}
-use Rattle.am_dialogue.specs.Talks.{AsksElsewhere, Idles, IsClosed, IsElsewhere, IsOwed, IsRequest, Keeps, Lasts, Owed, Saying, Talk, WaitsNoMore, gone_of, pending_of, sent_on}
+use Rattle.am_dialogue.specs.Talks.{AsksElsewhere, Idles, IsClosed, IsElsewhere, IsOwed, IsRequest, Keeps, Lasts, Owed, Saying, Talk, WaitsNoMore, gone_of, sent_in, sent_on}
 use Rattle.am_dialogue.specs.Talks.Owed.{Line, Reply}
 use Rattle.am_dialogue.specs.Talks.Saying.{Silent, Making, Elsewhere, Held as HeldBack, Out}
 use Rattle.am_gate.specs.declared.fault.GateFault.{GateFault}
 use Rattle.am_gate.specs.declared.passing.Hears.{Hears}
 use Rattle.am_gate.specs.declared.passing.Hears.TheVariants.{Requests, Frames, Both}
-use Rattle.am_gate.specs.Gates.{Asks as AsksAtGate, Begins as BeginsAtGate, Greets as GreetsSealed, GoesOn as SealedGoesOn, GreetsBy, IsFailed, IsGreeted as IsGreetedSealed, IsTurnedBack, Knocks, Passes, PassesOn, Sends, TakesSealed, Told, UnsealsFrom, Waits, Way}
+use Rattle.am_gate.specs.Gates.{Asks as AsksAtGate, Begins as BeginsAtGate, Greets as GreetsSealed, GoesOn as SealedGoesOn, GreetsBy, IsFailed, IsGreeted as IsGreetedSealed, IsTurnedBack, Knocks, Passes, PassesOn, Sends, TakesSealed, Told, UnsealsFrom, Waits, Way, challenge_left, challenge_sent}
 use Rattle.am_gate.specs.Gates.Way.{before, passing, greeting, sealed, shut}
 use Rattle.am_gossip.specs.declared.error.FrameError.{FrameError}
 use Rattle.am_gossip.specs.declared.frame.Frame.{Frame}
@@ -30,6 +29,7 @@ use Rattle.am_instance.specs.InstanceStates.{InstanceState}
 use Rattle.am_instance.specs.Laws.{Happened}
 use Rattle.am_api_silences.specs.Replies.{bytes_of as reply_bytes}
 use Rattle.am_api_silences.specs.declared.pending_reply.PendingReply.{PendingReply}
+use Rattle.am_api_silences.specs.declared.replies.ReplyBytes.{ReplyBytes}
 use Rattle.am_member.specs.declared.session_answer.SessionAnswer.{SessionAnswer}
 use Rattle.am_member.specs.Exchanging.{AreStepped, IsSessionAnswer, left_at}
 use Rattle.am_member.specs.Incoming.{SoFar, no_effects, so_far}
@@ -46,8 +46,11 @@ use Rattle.am_reactor.specs.History.{IsCall}
 use Rattle.am_reactor.specs.Sending.{IsFirstPart}
 use Rattle.am_seal.specs.declared.seal.Lock.{Lock}
 use Rattle.am_seal.specs.declared.seal.SealError.{SealError}
+use Rattle.am_seal.specs.declared.sequence.Sequence.{Sequence}
+use Rattle.am_seal.specs.Sequences.{after, first_in}
 use Rattle.am_living.specs.Living.{AreOf, AreOwn, LivesOn, Passed, nothing_passed, passed_on}
-use Rattle.am_living.specs.Talking.{AreFed, HasAskedElsewhere, Does, HasAsked, IsAlone, IsDone, IsEnded, IsFed, IsHeard, IsInAccord, IsLetIn, IsReplied, IsSent, IsTakenUp, fresh_talk, owed_after, owed_by, owed_on}
+use Rattle.am_living.specs.Talking.{AreFed, HasAskedElsewhere, Does, HasAsked, IsAlone, IsDone, IsEnded, IsFed, IsFront, IsHeard, IsInAccord, IsLetIn, IsMeantFor, IsReplied, IsSent, IsTakenUp, fresh_talk, owed_after, owed_by, owed_on}
+use Rattle.am_living.proofs.Fronts.{asked_then, front_bound, front_ends, front_on, front_then, gate_fronts, gone_then, order_then}
 use Rattle.am_living.proofs.Lived.{chosen_is, own_stay}
 
 -- ---- a request ends what is heard
@@ -224,10 +227,13 @@ taken_lasts said old new talk talk' silent none taken =
     ]
 
 left_keeps : (said : Spoken) (old new : InstanceState) (talk talk' : Talk) → said.request ≡ None → IsLeft said old talk new talk' → Keeps talk.saying talk'.saying
-left_keeps said old new talk talk' silent left = elim left.saying [
-  | inl keeps ↦ keeps
-  | inr elsewhere ↦ no_request _ said silent (elsewhere_asked said elsewhere.0)
+left_keeps said old new talk talk' silent left = elim left.done [
+  | inl refused ↦ refused.line
+  | inr done ↦ no_request _ said silent (elsewhere_asked said done.elsewhere)
 ]
+
+left_own : (said : Spoken) (old new : InstanceState) (talk talk' : Talk) → IsLeft said old talk new talk' → ByItself old new
+left_own said old new talk talk' left = elim left.done [ inl refused ↦ nothing_made old new refused.same | inr done ↦ done.own ]
 
 silent_alone : (fault : Option SessionFault) (said : Spoken) (old new : InstanceState) (talk talk' : Talk) → said ≡ heard [] fault → talk.waiting ≡ None →
     IsAnswered said old talk new talk' → IsAlone old talk new talk'
@@ -238,7 +244,7 @@ silent_alone fault said old new talk talk' says none (inl taken) = record {
 }
 silent_alone fault said old new talk talk' says none (inr (inl kept)) = no_request _ said (request_of said _ says) kept.request
 silent_alone fault said old new talk talk' says none (inr (inr left)) = record {
-  own = left.own;
+  own = left_own said old new talk talk' left;
   lasts = inr (record {
     way = left.closes.way;
     session = left.closes.session;
@@ -299,7 +305,7 @@ are_fed_by_turn : (way : Way) (fed : List ℕ) (turns : List Turn) (turn : Turn)
 are_fed_by_turn before fed turns turn e = fed_by_turn fed turns turn e
 are_fed_by_turn passing fed turns turn e = fed_by_turn fed turns turn e
 are_fed_by_turn (greeting bytes) fed turns turn e = tt
-are_fed_by_turn (sealed bytes) fed turns turn e = tt
+are_fed_by_turn (sealed place out bytes) fed turns turn e = tt
 are_fed_by_turn shut fed turns turn e = tt
 
 fed_piece : (fed piece : List ℕ) (turns : List Turn) → fed ≡ bytes_in turns ++ [] → fed ++ piece ≡ bytes_in turns ++ piece
@@ -309,7 +315,7 @@ are_fed_piece : (way : Way) (fed piece : List ℕ) (turns : List Turn) → AreFe
 are_fed_piece before fed piece turns e = fed_piece fed piece turns e
 are_fed_piece passing fed piece turns e = fed_piece fed piece turns e
 are_fed_piece (greeting bytes) fed piece turns e = tt
-are_fed_piece (sealed bytes) fed piece turns e = tt
+are_fed_piece (sealed place out bytes) fed piece turns e = tt
 are_fed_piece shut fed piece turns e = tt
 
 -- the same, between what is the same
@@ -395,11 +401,25 @@ module _ (fed : List ℕ) (standing : Standing) (turns : List Turn) (talk talk' 
     owed = elim done.owed [ inl owed ↦ inl ((keeps_saying talk talk' lasts).owed (owed_by turns) owed) | inr asks ↦ inr asks ];
   }))
 
+-- the session of what lasts is the same, or over
+lasts_session : (talk talk' : Talk) → Lasts talk talk' → (talk'.session ≡ talk.session) ⊎ (talk'.session ≡ over (name_of talk'.session))
+lasts_session talk talk' (inl idles) = inl idles.stays.session
+lasts_session talk talk' (inr closes) = inr (over_name talk'.session (name_of talk.session) closes.session)
+
+-- what went out stays in order
+same_order : (talk talk' : Talk) → talk'.way ≡ talk.way → gone_of talk'.saying ≡ gone_of talk.saying → (challenge_left talk.way ≡ []) ⊎ (gone_of talk.saying ≡ []) →
+    (challenge_left talk'.way ≡ []) ⊎ (gone_of talk'.saying ≡ [])
+same_order talk talk' way gone (inl left) = inl (ap challenge_left way ∙ left)
+same_order talk talk' way gone (inr none) = inr (gone ∙ none)
+
 -- what lasts stays in accord
 lasts_in_accord : (passed : Passed) (standing : Standing) (turns : List Turn) (talk talk' : Talk) → IsInAccord talk passed standing turns → Lasts talk talk' →
     IsInAccord talk' passed standing turns
 lasts_in_accord passed standing turns talk talk' accord lasts = record {
-  gone = accord.gone ∙ sym (keeps_saying talk talk' lasts).gone;
+  front = accord.front;
+  gone = accord.gone ∙ ap (λ (l : List ℕ). accord.front ++ l) (sym (keeps_saying talk talk' lasts).gone);
+  asked = front_on talk.way talk'.way talk.session talk'.session passed.fed accord.front (same_way talk talk' lasts) (lasts_session talk talk' lasts) accord.asked;
+  order = same_order talk talk' (same_way talk talk' lasts) (keeps_saying talk talk' lasts).gone accord.order;
   stands = lasts_standing passed.fed standing turns talk talk' accord.stands lasts;
 }
 
@@ -440,7 +460,9 @@ module _ (connection : ℕ) (standings : ℕ → Standing) (old new : InstanceSt
   record Comes : Type 0 where
     none : talk.waiting ≡ None
     silent : talk.saying ≡ Silent
-    gone : passed.gone ≡ gone_of talk.saying
+    front : List ℕ
+    gone : passed.gone ≡ front ++ gone_of talk.saying
+    asked : IsFront talk.way talk.session passed.fed front
     tells : Tells (standings connection) came said talk.session
     are : AreFed talk.way passed.fed turns (bytes_of came)
     plain : IsElsewhere said → passed.fed ≡ bytes_in turns ++ bytes_of came
@@ -453,6 +475,12 @@ module _ (connection : ℕ) (standings : ℕ → Standing) (old new : InstanceSt
       (λ none. unsaid taken.answer.reply talk.saying talk'.saying (taken.exchanged.heard none).silent taken.saying ∙ comes.silent)
       (λ request. absurd (still (subst (λ (s : Standing). s ≡ over (name_of s)) (sym taken.session) (left_over taken.answer.fault talk.session (asked_ends comes request)))))
 
+  taken_session : (taken : IsTaken said old talk new talk') → (talk'.session ≡ talk.session) ⊎ (talk'.session ≡ over (name_of talk'.session))
+  taken_session taken = elim (left_rests taken.answer.fault talk.session) [
+    | inl on ↦ inl (taken.session ∙ on)
+    | inr ends ↦ inr (over_name talk'.session (name_of talk.session) (taken.session ∙ ends))
+  ]
+
   taken_lives : Comes → IsTaken said old talk new talk' → LivesOn connection standings old new turns (IsInAccord talk' passed)
   taken_lives comes taken =
       let turn : Turn = turn_of taken in
@@ -464,7 +492,10 @@ module _ (connection : ℕ) (standings : ℕ → Standing) (old new : InstanceSt
             (sym (chosen_is connection connection (left_at taken.answer.fault talk.session) (standings connection) refl))
             (subst (λ (l : List Turn). IsInAccord talk' passed (left_at taken.answer.fault talk.session) (turns ++ l)) (sym (chosen_is connection connection (turn ∷ []) [] refl))
             (record {
-              gone = comes.gone ∙ sym (begun_gone taken.answer.reply talk.saying talk'.saying taken.saying);
+              front = comes.front;
+              gone = comes.gone ∙ ap (λ (l : List ℕ). comes.front ++ l) (sym (begun_gone taken.answer.reply talk.saying talk'.saying taken.saying));
+              asked = front_on talk.way talk'.way talk.session talk'.session passed.fed comes.front taken.way (taken_session taken) comes.asked;
+              order = inr (begun_gone taken.answer.reply talk.saying talk'.saying taken.saying ∙ ap gone_of comes.silent);
               stands = inl (record {
                 waiting = no_more talk talk' comes.none taken.waiting;
                 session = taken.session;
@@ -481,7 +512,10 @@ module _ (connection : ℕ) (standings : ℕ → Standing) (old new : InstanceSt
       let session : talk'.session ≡ talk.session = ap (λ (t : Talk). t.session) kept.waits in
       let silent : talk'.saying ≡ Silent = ap (λ (t : Talk). t.saying) kept.waits in
       alone connection standings old new turns (nothing_made old new kept.same) (IsInAccord talk' passed) (record {
-        gone = comes.gone ∙ ap gone_of (comes.silent ∙ sym silent);
+        front = comes.front;
+        gone = comes.gone ∙ ap (λ (s : Saying). comes.front ++ gone_of s) (comes.silent ∙ sym silent);
+        asked = front_on talk.way talk'.way talk.session talk'.session passed.fed comes.front (ap (λ (t : Talk). t.way) kept.waits) (inl session) comes.asked;
+        order = inr (ap gone_of silent);
         stands = inr (inl (record {
           said = said;
           came = came;
@@ -496,24 +530,28 @@ module _ (connection : ℕ) (standings : ℕ → Standing) (old new : InstanceSt
       })
 
   left_owed : Comes → IsLeft said old talk new talk' → IsOwed (owed_by turns) talk'.saying ⊎ HasAskedElsewhere passed.fed (standings connection) turns
-  left_owed comes left = elim left.saying [
-    | inl keeps ↦ inl (keeps.owed (owed_by turns) (silent_owed (owed_by turns) talk.saying comes.silent))
-    | inr elsewhere ↦ inr (record {
+  left_owed comes left = elim left.done [
+    | inl refused ↦ inl (refused.line.owed (owed_by turns) (silent_owed (owed_by turns) talk.saying comes.silent))
+    | inr done ↦ inr (record {
       came = came;
       said = said;
       left = talk.session;
       tells = comes.tells;
-      elsewhere = elsewhere.0;
-      bytes = comes.plain elsewhere.0;
+      elsewhere = done.elsewhere;
+      bytes = comes.plain done.elsewhere;
     })
   ]
 
   left_gone : IsLeft said old talk new talk' → gone_of talk'.saying ≡ gone_of talk.saying
-  left_gone left = elim left.saying [ inl keeps ↦ keeps.gone | inr elsewhere ↦ elsewhere.1 ]
+  left_gone left = elim left.done [ inl refused ↦ refused.line.gone | inr done ↦ done.gone ]
 
   left_lives : Comes → IsLeft said old talk new talk' → LivesOn connection standings old new turns (IsInAccord talk' passed)
-  left_lives comes left = alone connection standings old new turns left.own (IsInAccord talk' passed) (record {
-    gone = comes.gone ∙ sym (left_gone left);
+  left_lives comes left = alone connection standings old new turns (left_own said old new talk talk' left) (IsInAccord talk' passed) (record {
+    front = comes.front;
+    gone = comes.gone ∙ ap (λ (l : List ℕ). comes.front ++ l) (sym (left_gone left));
+    asked = front_on talk.way talk'.way talk.session talk'.session passed.fed comes.front left.closes.way
+        (inr (over_name talk'.session (name_of talk.session) left.closes.session)) comes.asked;
+    order = inr (left_gone left ∙ ap gone_of comes.silent);
     stands = inr (inr (record {
       rest = bytes_of came;
       waiting = no_more talk talk' comes.none left.closes.waiting;
@@ -592,22 +630,24 @@ module _ (way : Way) (session : Standing) (piece : List ℕ) (told : Told) (way'
     plain = λ asked. no_request _ told.said (request_of told.said _ says) asked;
   })
 
-  sealed_unclaimed : (rest : List ℕ) → way' ≡ sealed rest → (fed : List ℕ) (turns : List Turn) (more : List ℕ) → AreFed way' fed turns more
-  sealed_unclaimed rest same = unclaimed (sealed rest) way' (λ fed turns more. tt) same
+  sealed_unclaimed : (next : Sequence) (out : ℕ) (rest : List ℕ) → way' ≡ sealed next out rest → (fed : List ℕ) (turns : List Turn) (more : List ℕ) → AreFed way' fed turns more
+  sealed_unclaimed next out rest same = unclaimed (sealed next out rest) way' (λ fed turns more. tt) same
 
-  goes_on_through : (greeting_ : List ℕ) (mid : Standing) (frames : List Frame) (error : Option SealError) (rest : List ℕ) → IsGreetedBy session greeting_ mid → told.said ≡ heard frames None →
-      SealedGoesOn error rest mid way' session' → GoesThrough way session piece told.said way' session'
-  goes_on_through greeting_ mid frames None rest met says on = kept_through greeting_ mid frames None met says (inl on.1) (sealed_unclaimed rest on.0)
-  goes_on_through greeting_ mid frames (Some error) rest met says on = kept_through greeting_ mid frames (Some error) met says (inr on.1) (shut_unclaimed on.0)
+  goes_on_through : (greeting_ : List ℕ) (mid : Standing) (frames : List Frame) (error : Option SealError) (next : Sequence) (out : ℕ) (rest : List ℕ) →
+      IsGreetedBy session greeting_ mid → told.said ≡ heard frames None → SealedGoesOn error next out rest mid way' session' → GoesThrough way session piece told.said way' session'
+  goes_on_through greeting_ mid frames None next out rest met says on = kept_through greeting_ mid frames None met says (inl on.1) (sealed_unclaimed next out rest on.0)
+  goes_on_through greeting_ mid frames (Some error) next out rest met says on = kept_through greeting_ mid frames (Some error) met says (inr on.1) (shut_unclaimed on.0)
 
-  takes_through : (lock : Lock) (sender bytes greeting_ : List ℕ) (mid : Standing) → IsGreetedBy session greeting_ mid → TakesSealed lock sender mid bytes told way' session' →
-      GoesThrough way session piece told.said way' session'
-  takes_through lock sender bytes greeting_ mid met takes = goes_on_through greeting_ mid takes.0 takes.1 takes.2 met takes.4.said takes.4.next
+  takes_through : (lock : Lock) (sender : List ℕ) (place : Sequence) (out : ℕ) (bytes greeting_ : List ℕ) (mid : Standing) → IsGreetedBy session greeting_ mid →
+      TakesSealed lock sender place out mid bytes told way' session' → GoesThrough way session piece told.said way' session'
+  takes_through lock sender place out bytes greeting_ mid met takes =
+      goes_on_through greeting_ mid takes.0 takes.1 (after (length takes.0) place) out takes.2 met takes.4.said takes.4.goes_on
 
-  greeted_by : (lock : Lock) (name text behind : List ℕ) (is : IsGreetedSealed lock name session text behind told way' session') (fault : Option SessionFault) → is.said.fault ≡ fault →
-      GoesThrough way session piece told.said way' session'
-  greeted_by lock name text behind is None e = takes_through lock name behind text is.mid (inr (is.said, is.greets, e)) (is.frames e)
-  greeted_by lock name text behind is (Some fault) e =
+  greeted_by : (lock : Lock) (challenge name text behind : List ℕ) (is : IsGreetedSealed lock challenge name session text behind told way' session') (fault : Option SessionFault) →
+      is.said.fault ≡ fault → GoesThrough way session piece told.said way' session'
+  greeted_by lock challenge name text behind is None e =
+      takes_through lock name (first_in challenge) 0 behind text is.mid (inr (is.said, is.greets, e)) (is.frames e)
+  greeted_by lock challenge name text behind is (Some fault) e =
       let lacks = is.lacks fault e in
       inl (record {
         came = FedAnyhow text;
@@ -616,19 +656,20 @@ module _ (way : Way) (session : Standing) (piece : List ℕ) (told : Told) (way'
         plain = λ asked. absurd (none-some fault (sym (feeds_sound session text is.said is.mid is.greets (subst IsRequest (said_of is.said None lacks.0) asked)) ∙ e));
       })
 
-  hello_through : (lock : Lock) (bytes : List ℕ) (hello : Result (Option (List ℕ × ℕ)) FrameError) → GreetsBy hello lock session bytes told way' session' →
+  hello_through : (lock : Lock) (challenge bytes : List ℕ) (hello : Result (Option (List ℕ × ℕ)) FrameError) → GreetsBy hello lock challenge session bytes told way' session' →
       GoesThrough way session piece told.said way' session'
-  hello_through lock bytes (Ok None) waits = waits_through (greeting bytes) (λ fed turns more. tt) waits
-  hello_through lock bytes (Ok (Some hello)) is = greeted_by lock hello.0 (take hello.1 bytes) (drop hello.1 bytes) is is.said.fault refl
-  hello_through lock bytes (Err error) failed = failed_through error failed
+  hello_through lock challenge bytes (Ok None) waits = waits_through (greeting bytes) (λ fed turns more. tt) waits
+  hello_through lock challenge bytes (Ok (Some hello)) is = greeted_by lock challenge hello.0 (take hello.1 bytes) (drop hello.1 bytes) is is.said.fault refl
+  hello_through lock challenge bytes (Err error) failed = failed_through error failed
 
-  greets_through : (lock : Lock) (bytes : List ℕ) → GreetsSealed lock session bytes told way' session' → GoesThrough way session piece told.said way' session'
-  greets_through lock bytes (inl by) = hello_through lock bytes (hello_of bytes) by
-  greets_through lock bytes (inr failed) = failed_through _ failed
+  greets_through : (lock : Lock) (challenge bytes : List ℕ) → GreetsSealed lock challenge session bytes told way' session' → GoesThrough way session piece told.said way' session'
+  greets_through lock challenge bytes (inl by) = hello_through lock challenge bytes (hello_of bytes) by
+  greets_through lock challenge bytes (inr failed) = failed_through _ failed
 
-  unseals_through : (lock : Lock) (bytes : List ℕ) (name : Option (List ℕ)) → UnsealsFrom name lock session bytes told way' session' → GoesThrough way session piece told.said way' session'
-  unseals_through lock bytes None back = turned_through _ back
-  unseals_through lock bytes (Some sender) takes = takes_through lock sender bytes [] session (inl (refl, refl)) takes
+  unseals_through : (lock : Lock) (place : Sequence) (out : ℕ) (bytes : List ℕ) (name : Option (List ℕ)) → UnsealsFrom name lock place out session bytes told way' session' →
+      GoesThrough way session piece told.said way' session'
+  unseals_through lock place out bytes None back = turned_through _ back
+  unseals_through lock place out bytes (Some sender) takes = takes_through lock sender place out bytes [] session (inl (refl, refl)) takes
 
 -- a first byte passes
 module _ (session : Standing) (first : ℕ) (behind : List ℕ) (told : Told) (way' : Way) (session' : Standing) where
@@ -646,58 +687,44 @@ module _ (session : Standing) (first : ℕ) (behind : List ℕ) (told : Told) (w
   asks_through Requests passes = on passes
   asks_through Both passes = on passes
 
-  knocks_through : (lock : Lock) → Knocks lock first behind session told way' session' → Through
-  knocks_through lock knocks = elim (cases_order first 1) [
-    | inl is ↦ greets_through before session (first ∷ behind) told way' session' lock behind (knocks.sealed_ is)
+  knocks_through : (lock : Lock) (challenge : List ℕ) → Knocks lock challenge first behind session told way' session' → Through
+  knocks_through lock challenge knocks = elim (cases_order first 1) [
+    | inl is ↦ greets_through before session (first ∷ behind) told way' session' lock challenge behind (knocks.sealed_ is)
     | inr (inl below) ↦ back _ (knocks.open_ (λ is. absurd (omega (arith, is, below))))
     | inr (inr above) ↦ back _ (knocks.open_ (λ is. absurd (omega (arith, is, above))))
   ]
 
-  sends_through : (kind : Hears) (lock : Option Lock) → Sends kind lock first behind session told way' session' → Through
-  sends_through Requests lock turned = back _ turned
-  sends_through Frames None passes = on passes
-  sends_through Both None passes = on passes
-  sends_through Frames (Some lock) knocks = knocks_through lock knocks
-  sends_through Both (Some lock) knocks = knocks_through lock knocks
+  sends_through : (kind : Hears) (lock : Option Lock) (challenge : List ℕ) → Sends kind lock challenge first behind session told way' session' → Through
+  sends_through Requests lock challenge turned = back _ turned
+  sends_through Frames None challenge passes = on passes
+  sends_through Both None challenge passes = on passes
+  sends_through Frames (Some lock) challenge knocks = knocks_through lock challenge knocks
+  sends_through Both (Some lock) challenge knocks = knocks_through lock challenge knocks
 
-  begins_through : (kind : Hears) (lock : Option Lock) → BeginsAtGate kind lock first behind session told way' session' → Through
-  begins_through kind lock begins = elim (cases_lt first 32) [
-    | inl below ↦ sends_through kind lock (begins.peer below)
+  begins_through : (kind : Hears) (lock : Option Lock) (challenge : List ℕ) → BeginsAtGate kind lock challenge first behind session told way' session' → Through
+  begins_through kind lock challenge begins = elim (cases_lt first 32) [
+    | inl below ↦ sends_through kind lock challenge (begins.peer below)
     | inr from ↦ asks_through kind (begins.request from)
   ]
 
 -- what comes of a piece with a byte
-gate_through : (kind : Hears) (lock : Option Lock) (way : Way) (session : Standing) (piece : List ℕ) (told : Told) (way' : Way) (session' : Standing) → piece ≢ [] →
-    Passes kind lock way session piece told way' session' → GoesThrough way session piece told.said way' session'
-gate_through kind lock before session [] told way' session' some passes = absurd (some refl)
-gate_through kind lock before session (first ∷ behind) told way' session' some passes = begins_through session first behind told way' session' kind lock passes
-gate_through kind None passing session piece told way' session' some passes = passes_through passing session piece told way' session' (λ fed turns are. are) passes
-gate_through kind (Some lock) passing session piece told way' session' some passes = passes_through passing session piece told way' session' (λ fed turns are. are) passes
-gate_through kind None (greeting bytes) session piece told way' session' some passes = waits_through (greeting bytes) session piece told way' session' shut (λ fed turns more. tt) passes
-gate_through kind (Some lock) (greeting bytes) session piece told way' session' some passes = greets_through (greeting bytes) session piece told way' session' lock (bytes ++ piece) passes
-gate_through kind None (sealed bytes) session piece told way' session' some passes = waits_through (sealed bytes) session piece told way' session' shut (λ fed turns more. tt) passes
-gate_through kind (Some lock) (sealed bytes) session piece told way' session' some passes =
-    unseals_through (sealed bytes) session piece told way' session' lock (bytes ++ piece) (name_of session) passes
-gate_through kind None shut session piece told way' session' some passes = waits_through shut session piece told way' session' shut (λ fed turns more. tt) passes
-gate_through kind (Some lock) shut session piece told way' session' some passes = waits_through shut session piece told way' session' shut (λ fed turns more. tt) passes
+gate_through : (kind : Hears) (lock : Option Lock) (challenge : List ℕ) (way : Way) (session : Standing) (piece : List ℕ) (told : Told) (way' : Way) (session' : Standing) → piece ≢ [] →
+    Passes kind lock challenge way session piece told way' session' → GoesThrough way session piece told.said way' session'
+gate_through kind lock challenge before session [] told way' session' some passes = absurd (some refl)
+gate_through kind lock challenge before session (first ∷ behind) told way' session' some passes = begins_through session first behind told way' session' kind lock challenge passes
+gate_through kind None challenge passing session piece told way' session' some passes = passes_through passing session piece told way' session' (λ fed turns are. are) passes
+gate_through kind (Some lock) challenge passing session piece told way' session' some passes = passes_through passing session piece told way' session' (λ fed turns are. are) passes
+gate_through kind None challenge (greeting bytes) session piece told way' session' some passes = waits_through (greeting bytes) session piece told way' session' shut (λ fed turns more. tt) passes
+gate_through kind (Some lock) challenge (greeting bytes) session piece told way' session' some passes =
+    greets_through (greeting bytes) session piece told way' session' lock challenge (bytes ++ piece) passes
+gate_through kind None challenge (sealed place out bytes) session piece told way' session' some passes =
+    waits_through (sealed place out bytes) session piece told way' session' shut (λ fed turns more. tt) passes
+gate_through kind (Some lock) challenge (sealed place out bytes) session piece told way' session' some passes =
+    unseals_through (sealed place out bytes) session piece told way' session' lock place out (bytes ++ piece) (name_of session) passes
+gate_through kind None challenge shut session piece told way' session' some passes = waits_through shut session piece told way' session' shut (λ fed turns more. tt) passes
+gate_through kind (Some lock) challenge shut session piece told way' session' some passes = waits_through shut session piece told way' session' shut (λ fed turns more. tt) passes
 
 -- ---- calls
-
--- bytes more went out
-nothing_first : (bytes : List ℕ) → IsFirstPart bytes [] → bytes ≡ []
-nothing_first [] first = refl
-nothing_first (byte ∷ bytes) first = absurd (let e : byte ∷ bytes ≡ [] = first in cc)
-
-none_more : (bytes : List ℕ) → IsFirstPart bytes [] → [] ≡ [] ++ bytes
-none_more bytes first = sym (nothing_first bytes first)
-
-sent_gone : (bytes : List ℕ) (saying : Saying) → IsFirstPart bytes (pending_of saying) → gone_of (sent_on (length bytes) saying) ≡ gone_of saying ++ bytes
-sent_gone bytes Silent first = none_more bytes first
-sent_gone bytes (Making making) first = none_more bytes first
-sent_gone bytes Elsewhere first = none_more bytes first
-sent_gone bytes (HeldBack reply) first = none_more bytes first
-sent_gone bytes (Out reply written) first =
-    take-add written (length bytes) (reply_bytes reply) ∙ ap (λ (l : List ℕ). take written (reply_bytes reply) ++ l) (sym first)
 
 sent_owed : (count : ℕ) (owed : Owed) (saying : Saying) → IsOwed owed saying → IsOwed owed (sent_on count saying)
 sent_owed count owed Silent was = was
@@ -709,15 +736,29 @@ sent_owed count owed (Out reply written) was = was
 sent_silent : (count : ℕ) (saying : Saying) → saying ≡ Silent → sent_on count saying ≡ Silent
 sent_silent count saying silent = ap (sent_on count) silent
 
-module _ (fed : List ℕ) (standing : Standing) (turns : List Turn) (talk : Talk) (count : ℕ) where
+module _ (fed : List ℕ) (standing : Standing) (turns : List Turn) (talk : Talk) (bytes : List ℕ) where
   abbrev talk_sent : Talk
-  talk_sent = record talk { saying = sent_on count talk.saying }
+  talk_sent = sent_in (length bytes) talk
+
+  -- of the reply
+  abbrev count : ℕ
+  count = length bytes - length (challenge_left talk.way)
+
+  sent_fed : (way : Way) (more : List ℕ) (first : ℕ) → AreFed way fed turns more → AreFed (challenge_sent first way) fed turns more
+  sent_fed before more first are = are
+  sent_fed passing more first are = are
+  sent_fed (greeting text) more first are = are
+  sent_fed (sealed place out text) more first are = are
+  sent_fed shut more first are = are
+
+  abbrev first_of : ℕ
+  first_of = min (length bytes) (length (challenge_left talk.way))
 
   sent_standing : Stands fed standing turns talk → Stands fed standing turns talk_sent
   sent_standing (inl is) = inl (record {
     waiting = is.waiting;
     session = is.session;
-    bytes = is.bytes;
+    bytes = sent_fed talk.way [] first_of is.bytes;
     silent = λ still. sent_silent count talk.saying (is.silent still);
     owed = sent_owed count (owed_by turns) talk.saying is.owed;
   })
@@ -728,7 +769,7 @@ module _ (fed : List ℕ) (standing : Standing) (turns : List Turn) (talk : Talk
     request = asked.request;
     tells = asked.tells;
     ended = asked.ended;
-    bytes = asked.bytes;
+    bytes = sent_fed talk.way (bytes_of asked.came) first_of asked.bytes;
     plain = asked.plain;
     silent = sent_silent count talk.saying asked.silent;
   }))
@@ -736,7 +777,7 @@ module _ (fed : List ℕ) (standing : Standing) (turns : List Turn) (talk : Talk
     rest = done.rest;
     waiting = done.waiting;
     ended = done.ended;
-    bytes = done.bytes;
+    bytes = sent_fed talk.way done.rest first_of done.bytes;
     owed = elim done.owed [ inl owed ↦ inl (sent_owed count (owed_by turns) talk.saying owed) | inr asks ↦ inr asks ];
   }))
 
@@ -758,9 +799,14 @@ module _ (connection : ℕ) (standings : ℕ → Standing) (old new : InstanceSt
   alone_lives : IsInAccord talk passed (standings connection) turns → IsAlone old talk new talk' → OnBehind passed
   alone_lives accord is = alone connection standings old new turns is.own (IsInAccord talk' passed) (lasts_in_accord passed (standings connection) turns talk talk' accord is.lasts)
 
-  screened_lives : (piece : List ℕ) → passed.gone ≡ gone_of talk.saying → IsHeard talk passed.fed (standings connection) turns → new ≡ old → IsClosed talk talk' → OnBehind (fed_more piece)
-  screened_lives piece gone is same closes = alone connection standings old new turns (nothing_made old new same) (IsInAccord talk' (fed_more piece)) (record {
-    gone = gone ∙ sym closes.saying.gone;
+  screened_lives : (piece : List ℕ) → IsInAccord talk passed (standings connection) turns → IsHeard talk passed.fed (standings connection) turns → new ≡ old → IsClosed talk talk' →
+      OnBehind (fed_more piece)
+  screened_lives piece accord is same closes = alone connection standings old new turns (nothing_made old new same) (IsInAccord talk' (fed_more piece)) (record {
+    front = accord.front;
+    gone = accord.gone ∙ ap (λ (l : List ℕ). accord.front ++ l) (sym closes.saying.gone);
+    asked = front_ends talk.way talk'.way talk.session talk'.session passed.fed piece accord.front closes.way
+        (over_name talk'.session (name_of talk.session) closes.session) accord.asked;
+    order = same_order talk talk' closes.way closes.saying.gone accord.order;
     stands = inr (inr (record {
       rest = piece;
       waiting = closes.waiting;
@@ -792,30 +838,35 @@ module _ (connection : ℕ) (standings : ℕ → Standing) (old new : InstanceSt
     owed = inl is.owed;
   }))
 
-  let_in_lives : (lock : Option Lock) (piece : List ℕ) → passed.gone ≡ gone_of talk.saying → IsHeard talk passed.fed (standings connection) turns → talk.saying ≡ Silent →
-      (let_in : IsLetIn lock piece old talk new talk') → GoesThrough talk.way talk.session piece let_in.told.said let_in.way let_in.session → OnBehind (fed_more piece)
-  let_in_lives lock piece gone is quiet let_in (inl said) =
+  let_in_lives : (lock : Option Lock) (piece : List ℕ) (accord : IsInAccord talk passed (standings connection) turns) → IsHeard talk passed.fed (standings connection) turns → talk.saying ≡ Silent →
+      (let_in : IsLetIn lock piece old talk new talk') → IsFront let_in.way let_in.session (passed.fed ++ piece) accord.front →
+      GoesThrough talk.way talk.session piece let_in.told.said let_in.way let_in.session → OnBehind (fed_more piece)
+  let_in_lives lock piece accord is quiet let_in front (inl said) =
       answered_lives connection standings old new turns (fed_more piece) let_in.told.said said.came (behind_gate let_in.way let_in.session) talk'
       (record {
         none = is.waiting;
         silent = quiet;
-        gone = gone;
+        front = accord.front;
+        gone = accord.gone;
+        asked = front;
         tells = subst (λ (s : Standing). Tells s said.came let_in.told.said let_in.session) is.session said.tells;
         are = said.fed passed.fed turns is.bytes;
         plain = λ elsewhere. said.plain (elsewhere_asked let_in.told.said elsewhere) passed.fed turns is.bytes;
       }) let_in.answered
-  let_in_lives lock piece gone is quiet let_in (inr silent) =
+  let_in_lives lock piece accord is quiet let_in front (inr silent) =
       let alone_ = silent_alone silent.fault let_in.told.said old new (behind_gate let_in.way let_in.session) talk' silent.says is.waiting let_in.answered in
       alone connection standings old new turns alone_.own (IsInAccord talk' (fed_more piece))
       (lasts_in_accord (fed_more piece) (standings connection) turns (behind_gate let_in.way let_in.session) talk'
-      (record { gone = gone; stands = silent_standing piece let_in.told.said let_in.way let_in.session is quiet silent silent.stands }) alone_.lasts)
+      (record { front = accord.front; gone = accord.gone; asked = front; order = inr (ap gone_of quiet); stands = silent_standing piece let_in.told.said let_in.way let_in.session is quiet silent silent.stands }) alone_.lasts)
 
   fed_lives : (lock : Option Lock) (piece : List ℕ) → IsInAccord talk passed (standings connection) turns → IsFed lock piece old talk new talk' → OnBehind (fed_more piece)
   fed_lives lock piece accord call = elim accord.stands [
     | inl is ↦ elim call.comes [
-      | inl screened ↦ screened_lives piece accord.gone is screened.0 screened.1
-      | inr let_in ↦ let_in_lives lock piece accord.gone is (is.silent call.open_) let_in
-          (gate_through let_in.hears lock talk.way talk.session piece let_in.told let_in.way let_in.session call.has_byte let_in.passes)
+      | inl screened ↦ screened_lives piece accord is screened.0 screened.1
+      | inr let_in ↦ let_in_lives lock piece accord is (is.silent call.open_) let_in
+          (gate_fronts let_in.hears lock let_in.challenge talk.way talk.session piece let_in.told let_in.way let_in.session passed.fed accord.front let_in.long
+          call.has_byte call.open_ let_in.passes accord.asked)
+          (gate_through let_in.hears lock let_in.challenge talk.way talk.session piece let_in.told let_in.way let_in.session call.has_byte let_in.passes)
     ]
     | inr (inl asked) ↦ absurd (call.open_ asked.ended)
     | inr (inr done) ↦ absurd (call.open_ done.ended)
@@ -827,7 +878,9 @@ module _ (connection : ℕ) (standings : ℕ → Standing) (old new : InstanceSt
         (record {
           none = is.waiting;
           silent = is.silent call.open_;
+          front = accord.front;
           gone = accord.gone;
+          asked = front_on talk.way talk.way talk.session (over (name_of talk.session)) passed.fed accord.front refl (inr refl) accord.asked;
           tells = subst (λ (s : Standing). Tells s AtEnd call.said (over (name_of talk.session))) is.session (call.says, refl);
           are = is.bytes;
           plain = λ elsewhere. end_elsewhere _ talk.session call.said call.says elsewhere;
@@ -843,7 +896,7 @@ module _ (connection : ℕ) (standings : ℕ → Standing) (old new : InstanceSt
   resumed_lives accord call = elim accord.stands [
     | inl is ↦ alone_lives accord (subst taken_up is.waiting call)
     | inr (inl asked) ↦ answered_lives connection standings old new turns passed asked.said asked.came (record talk { waiting = None }) talk'
-        (record { none = refl; silent = asked.silent; gone = accord.gone; tells = asked.tells; are = asked.bytes; plain = asked.plain })
+        (record { none = refl; silent = asked.silent; front = accord.front; gone = accord.gone; asked = accord.asked; tells = asked.tells; are = asked.bytes; plain = asked.plain })
         (subst taken_up asked.waiting call asked.request)
     | inr (inr done) ↦ alone_lives accord (subst taken_up done.waiting call)
   ]
@@ -851,8 +904,11 @@ module _ (connection : ℕ) (standings : ℕ → Standing) (old new : InstanceSt
   sent_lives : (bytes : List ℕ) → IsInAccord talk passed (standings connection) turns → IsSent bytes old talk new talk' → OnBehind (both passed.fed (passed.gone ++ bytes))
   sent_lives bytes accord call = alone connection standings old new turns (nothing_made old new call.same) (IsInAccord talk' (both passed.fed (passed.gone ++ bytes)))
       (subst (λ (t : Talk). IsInAccord t (both passed.fed (passed.gone ++ bytes)) (standings connection) turns) (sym call.sent) (record {
-        gone = ap (λ (l : List ℕ). l ++ bytes) accord.gone ∙ sym (sent_gone bytes talk.saying call.first);
-        stands = sent_standing passed.fed (standings connection) turns talk (length bytes) accord.stands;
+        front = front_then bytes talk passed.fed accord.front passed.gone accord.gone accord.asked accord.order call.first;
+        gone = gone_then bytes talk passed.fed accord.front passed.gone accord.gone accord.asked accord.order call.first;
+        asked = asked_then bytes talk passed.fed accord.front passed.gone accord.gone accord.asked accord.order call.first;
+        order = order_then bytes talk passed.fed accord.front passed.gone accord.gone accord.asked accord.order call.first;
+        stands = sent_standing passed.fed (standings connection) turns talk bytes accord.stands;
       }))
 
   nothing_more : OnBehind passed → OnBehind (passed_on passed [])
@@ -872,48 +928,58 @@ module _ (connection : ℕ) (standings : ℕ → Standing) (old new : InstanceSt
 -- a connection over which nothing passed is in accord
 pub fresh_in_accord : (talk : Talk) → talk ≡ fresh_talk → IsInAccord talk nothing_passed fresh []
 fresh_in_accord talk same = subst (λ (t : Talk). IsInAccord t nothing_passed fresh []) (sym same)
-    (record { gone = refl; stands = inl (record { waiting = refl; session = refl; bytes = refl; silent = λ still. refl; owed = tt }) })
+    (record { front = []; gone = refl; asked = (refl, λ _. refl); order = inl refl; stands = inl (record { waiting = refl; session = refl; bytes = refl; silent = λ still. refl; owed = tt }) })
 
 -- ---- what was replied
 
 pub none_replied : IsReplied nothing_passed fresh []
-none_replied = inl refl
+none_replied = record { front = []; rest = []; gone = refl; asked = inl refl; replied = inl refl }
 
 first_taken : (written : ℕ) (bytes : List ℕ) → IsFirstPart (take written bytes) bytes
 first_taken written bytes = sym (ap (λ n. take n bytes) (length-take written bytes) ∙ take_min written bytes)
 
 module _ (passed : Passed) (standing : Standing) (turns : List Turn) where
-  owed_replied : (saying : Saying) → passed.gone ≡ gone_of saying → IsOwed (owed_by turns) saying ⊎ HasAskedElsewhere passed.fed standing turns → IsReplied passed standing turns
-  owed_replied Silent gone owed = inl gone
-  owed_replied (Making making) gone owed = inl gone
-  owed_replied Elsewhere gone owed = inl gone
-  owed_replied (HeldBack reply) gone owed = inl gone
-  owed_replied (Out reply written) gone owed =
-      inr (reply, subst (λ (l : List ℕ). IsFirstPart l (reply_bytes reply)) (sym gone) (first_taken written (reply_bytes reply)), owed)
+  -- what is replied of one that is owed
+  abbrev Replies : Saying → Type 0
+  Replies saying = (gone_of saying ≡ []) ⊎ ((reply : ReplyBytes) × IsFirstPart (gone_of saying) (reply_bytes reply) × IsMeantFor passed.fed standing turns reply)
 
--- what went out over a connection in accord is of one reply, and of the right one
+  owed_replied : (saying : Saying) → IsOwed (owed_by turns) saying ⊎ HasAskedElsewhere passed.fed standing turns → Replies saying
+  owed_replied Silent owed = inl refl
+  owed_replied (Making making) owed = inl refl
+  owed_replied Elsewhere owed = inl refl
+  owed_replied (HeldBack reply) owed = inl refl
+  owed_replied (Out reply written) owed = inr (reply, first_taken written (reply_bytes reply), owed)
+
+  stands_replied : (talk : Talk) → Stands passed.fed standing turns talk → Replies talk.saying
+  stands_replied talk (inl is) = owed_replied talk.saying (inl is.owed)
+  stands_replied talk (inr (inl asked)) = inl (ap gone_of asked.silent)
+  stands_replied talk (inr (inr done)) = owed_replied talk.saying done.owed
+
+-- what went out over a connection in accord is of one reply, and of the right one, but for its challenge before
 pub replied_in_accord : (talk : Talk) (passed : Passed) (standing : Standing) (turns : List Turn) → IsInAccord talk passed standing turns → IsReplied passed standing turns
-replied_in_accord talk passed standing turns accord = elim accord.stands [
-  | inl is ↦ owed_replied passed standing turns talk.saying accord.gone (inl is.owed)
-  | inr (inl asked) ↦ inl (accord.gone ∙ ap gone_of asked.silent)
-  | inr (inr done) ↦ owed_replied passed standing turns talk.saying accord.gone done.owed
-]
+replied_in_accord talk passed standing turns accord = record {
+  front = accord.front;
+  rest = gone_of talk.saying;
+  gone = accord.gone;
+  asked = front_bound talk.way talk.session passed.fed accord.front accord.asked;
+  replied = stands_replied passed standing turns talk accord.stands;
+}
 
 -- ---- calls that are for no session
 
 module _ {S : Type 0} (instance_of : S → InstanceState) (acts : S → S → Type 0) (loses : S → ℕ → LinkFault → S → Type 0) (answers : S → ℕ → List ℕ → S → Type 0)
-    (gives : S → ℕ → Option (List ℕ) → S → Type 0) (offers asks : S → ℕ → List ℕ → S → Type 0) where
+    (gives : S → ℕ → List ℕ → Option (List ℕ) → S → Type 0) (offers asks : S → ℕ → List ℕ → S → Type 0) where
   -- one that is for a peer leaves the instance, and another makes steps by itself
   pub call_alone : ((s s' : S) → acts s s' → ByItself (instance_of s) (instance_of s'))
       → ((s : S) (peer : ℕ) (fault : LinkFault) (s' : S) → loses s peer fault s' → instance_of s' ≡ instance_of s)
       → ((s : S) (peer : ℕ) (bytes : List ℕ) (s' : S) → answers s peer bytes s' → instance_of s' ≡ instance_of s)
-      → ((s : S) (peer : ℕ) (more : Option (List ℕ)) (s' : S) → gives s peer more s' → instance_of s' ≡ instance_of s)
+      → ((s : S) (peer : ℕ) (answer : List ℕ) (more : Option (List ℕ)) (s' : S) → gives s peer answer more s' → instance_of s' ≡ instance_of s)
       → ((s : S) (peer : ℕ) (bytes : List ℕ) (s' : S) → offers s peer bytes s' → instance_of s' ≡ instance_of s)
       → ((s : S) (peer : ℕ) (bytes : List ℕ) (s' : S) → asks s peer bytes s' → instance_of s' ≡ instance_of s)
       → (s s' : S) → IsCall acts loses answers gives offers asks s s' → ByItself (instance_of s) (instance_of s')
   call_alone acted lost answered given offered asked s s' (inl call) = acted s s' call
   call_alone acted lost answered given offered asked s s' (inr (inl call)) = nothing_made (instance_of s) (instance_of s') (lost s call.0 call.1 s' call.2)
   call_alone acted lost answered given offered asked s s' (inr (inr (inl call))) = nothing_made (instance_of s) (instance_of s') (answered s call.0 call.1 s' call.2)
-  call_alone acted lost answered given offered asked s s' (inr (inr (inr (inl call)))) = nothing_made (instance_of s) (instance_of s') (given s call.0 call.1 s' call.2)
+  call_alone acted lost answered given offered asked s s' (inr (inr (inr (inl call)))) = nothing_made (instance_of s) (instance_of s') (given s call.0 call.1 call.2 s' call.3)
   call_alone acted lost answered given offered asked s s' (inr (inr (inr (inr (inl call))))) = nothing_made (instance_of s) (instance_of s') (offered s call.0 call.1 s' call.2)
   call_alone acted lost answered given offered asked s s' (inr (inr (inr (inr (inr call))))) = nothing_made (instance_of s) (instance_of s') (asked s call.0 call.1 s' call.2)

@@ -1,4 +1,4 @@
--- What a loop did, as a member's life.
+-- The history of a loop, as a member's life.
 use Rattle.std.specs.Prelude.{◌≡◌, ◌==◌, ℕ, ◌+◌, ◌<◌, ◌≤◌, List, [], ◌∷◌, ◌++◌, Option, Some, ⊤, if◌then◌else◌}
 use Rattle.am_http.specs.Sessions.{Standing, fresh}
 use Rattle.am_instance.specs.InstanceStates.{InstanceState}
@@ -10,17 +10,17 @@ use Rattle.am_reactor.specs.History.Happening.{Came, Called}
 
 -- ---- connections, each with a number that is never used again
 
--- how many connections came
+-- the number of connections that came, after a happening
 abbrev pub count_after : ℕ → Happening → ℕ
 count_after count (Came key) = count + 1
 count_after count _ = count
 
--- The number of the connection under each key: how many had come before it.
+-- the number of the connection under each key, after a happening: how many had come before it
 abbrev pub numbers_after : ℕ → (ℕ → ℕ) → Happening → ℕ → ℕ
 numbers_after count numbers (Came key) = λ other. if other == key then count else numbers other
 numbers_after count numbers _ = numbers
 
--- those of the connections that are under the keys behind these happenings
+-- the numbers of the connections under their keys, after these happenings
 abbrev pub numbers_by : ℕ → (ℕ → ℕ) → List Happening → ℕ → ℕ
 numbers_by count numbers [] = numbers
 numbers_by count numbers (happening ∷ happenings) = numbers_by (count_after count happening) (numbers_after count numbers happening) happenings
@@ -30,20 +30,20 @@ pub record Passed : Type 0 where
   pub fed : List ℕ
   pub gone : List ℕ
 
--- none
+-- no bytes
 abbrev pub nothing_passed : Passed
 nothing_passed = record { fed = []; gone = [] }
 
--- those that pass by calls come behind
+-- the bytes that passed over a connection, followed by those that pass by these calls
 abbrev pub passed_on : Passed → List Deed → Passed
 passed_on passed deeds = record { fed = passed.fed ++ fed_in deeds; gone = passed.gone ++ out_in deeds }
 
--- those of each connection, by its number
+-- the bytes that passed over each connection, by its number, after a happening
 abbrev pub passed_after : (ℕ → ℕ) → (ℕ → Passed) → Happening → ℕ → Passed
 passed_after numbers passed (Called key deeds) = λ number. if number == numbers key then passed_on (passed number) deeds else passed number
 passed_after numbers passed _ = passed
 
--- those that passed by these happenings
+-- the bytes that passed over each connection, after these happenings
 abbrev pub passed_by : ℕ → (ℕ → ℕ) → (ℕ → Passed) → List Happening → ℕ → Passed
 passed_by count numbers passed [] = passed
 passed_by count numbers passed (happening ∷ happenings) =
@@ -51,19 +51,19 @@ passed_by count numbers passed (happening ∷ happenings) =
 
 -- ---- what a member does, as its life
 
--- deeds of one connection, and steps that the member made by itself
+-- The deeds are those of one connection, and steps that the member made by itself.
 abbrev pub AreOf : ℕ → List LifeDeed → Type 0
 AreOf connection [] = ⊤
 AreOf connection (Served turn ∷ deeds) = (turn.connection ≡ connection) × AreOf connection deeds
 AreOf connection (Own step ∷ deeds) = IsOwnEvent step.event × AreOf connection deeds
 
--- steps that the member made by itself
+-- The deeds are steps that the member made by itself.
 abbrev pub AreOwn : List LifeDeed → Type 0
 AreOwn [] = ⊤
 AreOwn (Served turn ∷ deeds) = ⊥
 AreOwn (Own step ∷ deeds) = IsOwnEvent step.event × AreOwn deeds
 
--- all that a member made by itself are such steps
+-- All that a member made by itself are such steps.
 abbrev pub OwnsItsOwn : List LifeDeed → Type 0
 OwnsItsOwn [] = ⊤
 OwnsItsOwn (Served turn ∷ deeds) = OwnsItsOwn deeds
@@ -75,7 +75,7 @@ pub record ActsAlone {S : Type 0} (instance_of : S → InstanceState) (service s
   pub own : AreOwn deeds
   pub life : (standings : ℕ → Standing) → IsLife standings (instance_of service) deeds (instance_of service')
 
--- turns of one connection that had these, and steps by itself, behind which it is in accord
+-- Turns of one connection, after these, and steps by itself lead the instance on, after which the connection is in accord.
 pub record LivesOn (connection : ℕ) (standings : ℕ → Standing) (old new : InstanceState) (turns : List Turn) (IsInAccord : Standing → List Turn → Type 0) : Type 0 where
   pub deeds : List LifeDeed
   pub of : AreOf connection deeds
@@ -83,26 +83,27 @@ pub record LivesOn (connection : ℕ) (standings : ℕ → Standing) (old new : 
   pub accord : IsInAccord (standings_in standings deeds connection) (turns ++ turns_of connection deeds)
 
 module _ {S T : Type 0} (instance_of : S → InstanceState) (accords : T → Passed → Standing → List Turn → Type 0) where
-  -- a session begins with a connection of which nothing came
+  -- A session begins with a connection over which nothing came.
   pub record BeginsFresh (service : S) (session : T) (service' : S) : Type 0 where
     pub same : instance_of service' ≡ instance_of service
     pub accord : accords session nothing_passed fresh []
 
-  -- A call for a session is turns of its connection, whichever that is, and steps by itself.
+  -- A call for a session is turns of its connection, whichever that is, and steps that the member made by itself.
   abbrev pub DoesForOne : S → T → Deed → S → T → Type 0
   DoesForOne service session deed service' session' =
       (connection : ℕ) (standings : ℕ → Standing) (passed : Passed) (turns : List Turn) → accords session passed (standings connection) turns
       → LivesOn connection standings (instance_of service) (instance_of service') turns (accords session' (passed_on passed (deed ∷ [])))
 
--- ---- what a loop did, as a life
+-- ---- the history of a loop, as a life
 
--- there is a connection under a key
+-- There is a connection under a key.
 abbrev pub StandsUnder : {T C : Type 0} → (ℕ → Option (Line T C)) → ℕ → Type 0
 StandsUnder {T} {C} lines key = (line : Line T C) × (lines key ≡ Some line)
 
--- How the connections stand in a life: each session accords with the bytes that passed over its connection, and with its turns, by its
--- number. No two have one number, and each number was given already; over those that weren't nothing passed. Of each connection that
--- ever came, this is so of the bytes that passed over it, of how far it came and of its turns.
+-- The connections accord with a life: each session accords with the bytes that passed over its connection, and with its turns, by
+-- its number. No two have the same number, and each number was already given; nothing passed over connections whose number
+-- wasn't. For each connection that ever came, `is_so` holds of the bytes that passed over it, of how far it came and of its
+-- turns.
 pub record Accords {T C : Type 0} (accords : T → Passed → Standing → List Turn → Type 0) (is_so : Passed → Standing → List Turn → Type 0) (count : ℕ) (numbers : ℕ → ℕ)
     (passed : ℕ → Passed) (standings : ℕ → Standing) (turns : ℕ → List Turn) (lines : ℕ → Option (Line T C)) : Type 0 where
   pub each : (key : ℕ) (line : Line T C) → lines key ≡ Some line → accords line.session (passed (numbers key)) (standings (numbers key)) (turns (numbers key))
@@ -111,13 +112,13 @@ pub record Accords {T C : Type 0} (accords : T → Passed → Standing → List 
   pub unused : (number : ℕ) → count ≤ number → (passed number ≡ nothing_passed) × (standings number ≡ fresh) × (turns number ≡ [])
   pub ever : (number : ℕ) → is_so (passed number) (standings number) (turns number)
 
--- how many connections came by these happenings
+-- the number of connections that came, after these happenings
 abbrev pub count_by : ℕ → List Happening → ℕ
 count_by count [] = count
 count_by count (happening ∷ happenings) = count_by (count_after count happening) happenings
 
--- What a loop did is the life of a member: turns of its connections, each by its number, and steps that the member made by itself, lead
--- its instance from where it stood to where it stands.
+-- The history of a loop is the life of a member: turns of its connections, each by its number, and steps that the member made by
+-- itself, lead its instance from where it stood to where it stands.
 pub record IsLived {S T C : Type 0} (instance_of : S → InstanceState) (accords : T → Passed → Standing → List Turn → Type 0) (is_so : Passed → Standing → List Turn → Type 0)
     (first : S) (happenings : List Happening) (service : S) (lines : ℕ → Option (Line T C)) : Type 0 where
   pub deeds : List LifeDeed

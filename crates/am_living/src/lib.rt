@@ -1,5 +1,5 @@
-//! A member that a loop runs has lived a life: what came of its connections, in whatever order, are turns of it one after the
-//! other.
+//! The life of a member that a loop runs: what comes of its connections, in whatever order, is turns of that life, one after
+//! another.
 #![tactic(auto)]
 
 ghost use Rattle.std.specs.Prelude.{[], ℕ, List, Option};
@@ -20,14 +20,15 @@ use std::rt::Clock;
 
 /// A service that is a member: its calls are turns of its connections, and steps that it makes by itself.
 pub trait Living: Service {
-    /// The instance that it holds.
+    /// The instance that the member holds.
     ghost instance_of: { Self → InstanceState };
 
-    /// A session accords with the bytes that passed over its connection, with how far that has come in the member's life, and with
-    /// the turns that the connection had in it.
+    /// The accord of a session with the bytes that passed over its connection, with how far the connection has come in the
+    /// member's life, and with the turns that it had there.
     ghost accords: { Self.Session → Passed → Standing → List Turn → Type 0 };
 
-    /// What is so of the bytes that passed over a connection, of how far it came and of its turns, whether it is still open or not.
+    /// A property of the bytes that passed over a connection, of how far the connection came and of its turns, whether it is
+    /// still open or not.
     ghost is_so: { Passed → Standing → List Turn → Type 0 };
 
     ghost begins_fresh: { (service : Self) (session : Self.Session) (service' : Self) → Self.begins service session service' →
@@ -45,13 +46,13 @@ pub trait Living: Service {
         Self.does service session deed service' session' → DoesForOne instance_of accords service session deed service' session' };
 }
 
-/// Serves the connections of listeners as [`am_reactor::run`] does. What happened is what that tells of it, and it is a life of
-/// the member: turns of the connections, each by its number, and steps that the member made by itself, one after the other. Of the
-/// links to peers and of the exchanges with them it tells what that tells.
+/// Serves the connections of listeners as [`am_reactor::run`] does. Its history is a life of the member: turns of the
+/// connections, each by its number, and steps that the member made by itself, one after another. The links to peers and the
+/// exchanges with them are as [`am_reactor::run`] says.
 ///
 /// # Errors
 ///
-/// As [`am_reactor::run`].
+/// The same as those of [`am_reactor::run`].
 pub fn run<S: Living, R: Net + Clock + Input>(
     alloc: Global,
     rt: &R,

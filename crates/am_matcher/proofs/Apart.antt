@@ -1,5 +1,5 @@
 -- What is muted among the silences that pass a test is muted among all, where no other one could be.
-use Rattle.std.proofs.Common.{◌≡◌, ℕ, Bool, true, false, cond, List, [], ◌∷◌, map, filter, All, refl, sym, ap, ap₂, ◌∙◌, true≢false}
+use Rattle.std.proofs.Common.{◌≡◌, ◌≢◌, ℕ, Bool, true, false, cond, List, [], ◌∷◌, map, filter, All, refl, sym, ap, ap₂, ◌∙◌, true≢false}
 use Rattle.std.proofs.lemmas.List.Elements.{All-cons, All-head, All-tail}
 use Rattle.am_silence.specs.Mesh.{Mesh}
 use Rattle.am_matcher.specs.declared.labels.Label.{Label}
@@ -64,10 +64,10 @@ module _ (dialect : Dialect) (active test : Mesh → Bool) (mutes : Judged → B
     woven [] some all = record { all = some; silences = all; judged = λ h. h; muting = refl; broken = refl }
     woven (m ∷ held) some all = woven_by m held some (active m) (test m) refl refl (λ f. apart m f) all (woven held)
 
-pub muted_among_all : (dialect : Dialect) (labels : List Label) (now : ℕ) (test : Mesh → Bool) (held : List Mesh) (ids broken : List (List ℕ)) → ((m : Mesh) → test m ≡ false → AreMeant dialect m.silence.matchers m.silence.matchers × All IsSoundMatcher m.silence.matchers × (match_all m.silence.matchers labels ≡ false)) → AreMutedIn dialect labels now (filter test held) ids broken → AreMutedIn dialect labels now held ids broken
+pub muted_among_all : (dialect : Dialect) (labels : List Label) (now : ℕ) (test : Mesh → Bool) (held : List Mesh) (ids broken : List (List ℕ)) → ((m : Mesh) → test m ≡ false → AreMeant dialect m.silence.matchers m.silence.matchers × All IsSoundMatcher m.silence.matchers × (match_all m.silence.matchers labels ≡ false) × (m.silence.matchers ≢ [])) → AreMutedIn dialect labels now (filter test held) ids broken → AreMutedIn dialect labels now held ids broken
 muted_among_all dialect labels now test held ids broken other some =
     let judged : (m : Mesh) → test m ≡ false → IsJudged dialect (plain m) × (is_muting labels (plain m) ≡ false) =
-    λ m no. (record { refused = λ e. absurd (true≢false (sym e)); are_meant = λ e. (other m no).0; read = λ e. (other m no).1 }, (other m no).2) in
+    λ m no. (record { refused = λ e. absurd (true≢false (sym e)); told = λ e unread. (other m no).3 unread.0; are_meant = λ e. (other m no).0; read = λ e. (other m no).1 }, (other m no).2) in
     let all = woven dialect (is_active now) test (is_muting labels) judged held some.judged some.all_active in
     record {
       judged = all.all;

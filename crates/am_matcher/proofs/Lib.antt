@@ -19,3 +19,4 @@ pub mod Re2Nestings
 pub mod Re2Names
 pub mod Re2Readings
 pub mod Meant
+pub mod Named

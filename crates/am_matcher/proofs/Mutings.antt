@@ -9,7 +9,7 @@ use Rattle.am_matcher.specs.declared.muting.Effect.{Effect}
 use Rattle.am_matcher.specs.declared.muting.Effect.TheVariants.{Idle, Mutes, Passes, Broken}
 use Rattle.am_matcher.specs.declared.dialect.Dialect.{Dialect}
 use Rattle.am_matcher.specs.Dialects.{DoMatch}
-use Rattle.am_matcher.specs.Mutes.{is_active, IsEffect, if_mutes, if_broken, Judged, IsJudged, is_muting, id_of, AreMutedIn}
+use Rattle.am_matcher.specs.Mutes.{is_active, IsUnread, IsEffect, if_mutes, if_broken, Judged, IsJudged, is_muting, id_of, AreMutedIn}
 
 active_more : (now : ℕ) (held : List Mesh) (i : ℕ) (v : Mesh) (b : Bool) → i < length held → v ≡ get_or held i v → is_active now v ≡ b → filter (is_active now) (take (i + 1) held) ≡ filter (is_active now) (take i held) ++ cond b (v ∷ []) []
 active_more now held i v b within is active =
@@ -43,8 +43,14 @@ judged_more dialect labels now held i v j muting broken ids bs ids' bs' within i
 }
 
 -- a silence whose matchers are read is judged
-read_judged : (dialect : Dialect) (labels : List Label) (v : Mesh) (told : Bool) (does : DoMatch dialect v.silence.matchers labels told) → IsJudged dialect (record { silence = v; broken = false; meant = does.meant })
-read_judged dialect labels v told does = record { refused = λ e. absurd (true≢false (sym e)); are_meant = λ e. does.are_meant; read = λ e. does.sound }
+read_judged : (dialect : Dialect) (labels : List Label) (v : Mesh) (matches : Bool) → (¬ IsUnread v) → (does : DoMatch dialect v.silence.matchers labels matches)
+    → IsJudged dialect (record { silence = v; broken = false; meant = does.meant })
+read_judged dialect labels v matches told does = record {
+  refused = λ e. absurd (true≢false (sym e));
+  told = λ e. told;
+  are_meant = λ e. does.are_meant;
+  read = λ e. does.sound;
+}
 
 -- one more silence, whose ids go where its effect wants them
 pub muted_more : (dialect : Dialect) (labels : List Label) (now : ℕ) (held : List Mesh) (i : ℕ) (v : Mesh) (e : Effect) (ids bs ids' bs' : List (List ℕ)) → i < length held → v ≡ get_or held i v → IsEffect dialect labels now v e → AreMutedIn dialect labels now (take i held) ids bs → ids' ≡ ids ++ if_mutes e v.silence.id → bs' ≡ bs ++ if_broken e v.silence.id → AreMutedIn dialect labels now (take (i + 1) held) ids' bs'
@@ -56,12 +62,12 @@ muted_more dialect labels now held i v Idle ids bs ids' bs' within is effect bef
   broken_are = bs_so ∙ append-nil bs ∙ before.broken_are;
 }
 muted_more dialect labels now held i v Mutes ids bs ids' bs' within is effect before ids_so bs_so =
-    let j : Judged = record { silence = v; broken = false; meant = effect.1.meant } in
-    judged_more dialect labels now held i v j true false ids bs ids' bs' within is effect.0 refl (read_judged dialect labels v true effect.1) (sym effect.1.answer) refl before ids_so bs_so
+    let j : Judged = record { silence = v; broken = false; meant = effect.2.meant } in
+    judged_more dialect labels now held i v j true false ids bs ids' bs' within is effect.0 refl (read_judged dialect labels v true effect.1 effect.2) (sym effect.2.answer) refl before ids_so bs_so
 muted_more dialect labels now held i v Passes ids bs ids' bs' within is effect before ids_so bs_so =
-    let j : Judged = record { silence = v; broken = false; meant = effect.1.meant } in
-    judged_more dialect labels now held i v j false false ids bs ids' bs' within is effect.0 refl (read_judged dialect labels v false effect.1) (sym effect.1.answer) refl before ids_so bs_so
+    let j : Judged = record { silence = v; broken = false; meant = effect.2.meant } in
+    judged_more dialect labels now held i v j false false ids bs ids' bs' within is effect.0 refl (read_judged dialect labels v false effect.1 effect.2) (sym effect.2.answer) refl before ids_so bs_so
 muted_more dialect labels now held i v Broken ids bs ids' bs' within is effect before ids_so bs_so =
     let j : Judged = record { silence = v; broken = true; meant = [] } in
-    let refused : IsJudged dialect j = record { refused = λ e. effect.1; are_meant = λ e. absurd (true≢false e); read = λ e. absurd (true≢false e) } in
+    let refused : IsJudged dialect j = record { refused = λ e. effect.1; told = λ e. absurd (true≢false e); are_meant = λ e. absurd (true≢false e); read = λ e. absurd (true≢false e) } in
     judged_more dialect labels now held i v j false true ids bs ids' bs' within is effect.0 refl refused refl refl before ids_so bs_so

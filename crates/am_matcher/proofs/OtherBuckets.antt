@@ -1,5 +1,5 @@
 -- A silence of another bucket than the labels' has no pattern, and a matcher that the labels don't meet.
-use Rattle.std.proofs.Common.{◌≡◌, ℕ, ◌==◌, Bool, true, false, not, List, [], length, map, reverse, Option, Some, None, All, Contains, find, bytes_eq, if◌then◌else◌, refl, sym, ap, ap₂, ◌∙◌, true≢false}
+use Rattle.std.proofs.Common.{◌≡◌, ◌≢◌, ℕ, ◌==◌, Bool, true, false, not, List, [], length, map, reverse, Option, Some, None, All, Contains, find, bytes_eq, if◌then◌else◌, refl, sym, ap, ap₂, ◌∙◌, true≢false}
 use Rattle.std.specs.List.{list_any}
 use Rattle.std.specs.Option.{option_map_or}
 use Rattle.std.proofs.lemmas.List.Elements.{All-weaker}
@@ -56,7 +56,11 @@ module _ (labels : List Label) where
     wanted_by true m e = absurd cc
     wanted_by false m e = (refl, e)
 
-    by_matcher : (o : Option Matcher) → bucket_matcher_of ms ≡ o → list_any (λ b. bytes_eq (option_map_or writes_matcher o []) b) (buckets_for labels) ≡ false → AreMeant dialect ms ms × All IsSoundMatcher ms × (match_all ms labels ≡ false)
+    -- where one is found, there are some
+    found_among : (m : Matcher) → find wants_label ms ≡ Some m → ms ≢ []
+    found_among m found nothing = let none : find wants_label [] ≡ Some m = ap (find wants_label) (sym nothing) ∙ found in absurd cc
+
+    by_matcher : (o : Option Matcher) → bucket_matcher_of ms ≡ o → list_any (λ b. bytes_eq (option_map_or writes_matcher o []) b) (buckets_for labels) ≡ false → AreMeant dialect ms ms × All IsSoundMatcher ms × (match_all ms labels ≡ false) × (ms ≢ [])
     by_matcher None e none = absurd (true≢false none)
     by_matcher (Some m) e none =
         let wanted = wanted_by (list_any (λ x. is_regexp x.kind) ms) m e in
@@ -65,7 +69,8 @@ module _ (labels : List Label) where
           plain_are_meant dialect ms wanted.0,
           All-weaker (λ x. is_regexp x.kind ≡ false) IsSoundMatcher (λ x plain regexp. absurd (true≢false (sym regexp ∙ plain))) ms (All-from_list_any (λ x. is_regexp x.kind) ms wanted.0),
           list_all-from_Contains (λ x. matches_value x (value_in labels x.name)) ms m found.0 (unmet m.kind m.name m.pattern found.1 at_none.1),
+          found_among m wanted.1,
         )
 
-  pub other_bucket : (dialect : Dialect) (m : Mesh) → is_in (buckets_for labels) m ≡ false → AreMeant dialect m.silence.matchers m.silence.matchers × All IsSoundMatcher m.silence.matchers × (match_all m.silence.matchers labels ≡ false)
+  pub other_bucket : (dialect : Dialect) (m : Mesh) → is_in (buckets_for labels) m ≡ false → AreMeant dialect m.silence.matchers m.silence.matchers × All IsSoundMatcher m.silence.matchers × (match_all m.silence.matchers labels ≡ false) × (m.silence.matchers ≢ [])
   other_bucket dialect m none = by_matcher dialect m.silence.matchers (bucket_matcher_of m.silence.matchers) refl none

@@ -1,6 +1,7 @@
 -- Which silences mute an alert.
-use Rattle.std.specs.Prelude.{◌≡◌, ℕ, Bool, true, false, not, ◌&&◌, List, [], ◌∷◌, map, filter, nat_lt, nat_le, All, Any}
+use Rattle.std.specs.Prelude.{◌≡◌, ◌≢◌, ◌⊎◌, ℕ, Bool, true, false, not, ◌&&◌, List, [], ◌∷◌, map, filter, nat_lt, nat_le, All, Any}
 use Rattle.am_version_order.specs.Versions.{is_live}
+use Rattle.am_wire.specs.Unknown.{none}
 use Rattle.am_silence.specs.Mesh.{Mesh, mesh_version}
 use Rattle.am_matcher.specs.declared.labels.Label.{Label}
 use Rattle.am_matcher.specs.declared.muting.Effect.{Effect}
@@ -15,12 +16,20 @@ use Rattle.am_matcher.specs.Dialects.{AreMeant, DoMatch, IsRefusedMatcher}
 abbrev pub is_active : ℕ → Mesh → Bool
 is_active now m = (is_live now (mesh_version m) && nat_le m.silence.starts_at now) && nat_lt now m.silence.ends_at
 
--- What a silence does to an alert: where it is active and no pattern is broken, its matchers say.
+-- a silence has unknown fields and no matcher: those say what it matches
+abbrev pub IsUnread : Mesh → Type 0
+IsUnread m = (m.silence.matchers ≡ []) × (m.unknown ≢ none)
+
+-- a silence can't be judged where one of its patterns is broken, or unknown fields say what it matches
+abbrev pub IsRefused : Dialect → Mesh → Type 0
+IsRefused dialect m = Any (IsRefusedMatcher dialect) m.silence.matchers ⊎ IsUnread m
+
+-- What a silence does to an alert: where it is active and can be judged, its matchers say.
 abbrev pub IsEffect : Dialect → List Label → ℕ → Mesh → Effect → Type 0
 IsEffect dialect labels now m Idle = is_active now m ≡ false
-IsEffect dialect labels now m Mutes = (is_active now m ≡ true) × DoMatch dialect m.silence.matchers labels true
-IsEffect dialect labels now m Passes = (is_active now m ≡ true) × DoMatch dialect m.silence.matchers labels false
-IsEffect dialect labels now m Broken = (is_active now m ≡ true) × Any (IsRefusedMatcher dialect) m.silence.matchers
+IsEffect dialect labels now m Mutes = (is_active now m ≡ true) × (¬ IsUnread m) × DoMatch dialect m.silence.matchers labels true
+IsEffect dialect labels now m Passes = (is_active now m ≡ true) × (¬ IsUnread m) × DoMatch dialect m.silence.matchers labels false
+IsEffect dialect labels now m Broken = (is_active now m ≡ true) × IsRefused dialect m
 
 -- the id alone where the effect is that, else none
 abbrev pub if_mutes : Effect → List ℕ → List (List ℕ)
@@ -36,15 +45,17 @@ if_broken Mutes id = []
 if_broken Passes id = []
 if_broken Broken id = id ∷ []
 
--- a silence, whether one of its patterns is told as broken, and else its matchers as they are meant
+-- a silence, whether it is told as broken, and else its matchers as they are meant
 pub record Judged : Type 0 where
   pub silence : Mesh
   pub broken : Bool
   pub meant : List Matcher
 
--- one of the patterns of a broken silence is broken, and those that the matchers of another stand for are all read
+-- A broken silence can't be judged. Of another one the matchers say what it matches, and the patterns that they stand for
+-- are all read.
 pub record IsJudged (dialect : Dialect) (j : Judged) : Type 0 where
-  pub refused : j.broken ≡ true → Any (IsRefusedMatcher dialect) j.silence.silence.matchers
+  pub refused : j.broken ≡ true → IsRefused dialect j.silence
+  pub told : j.broken ≡ false → ¬ IsUnread j.silence
   pub are_meant : j.broken ≡ false → AreMeant dialect j.silence.silence.matchers j.meant
   pub read : j.broken ≡ false → All IsSoundMatcher j.meant
 

@@ -30,13 +30,13 @@ pub record CompiledPattern : Type 0 where
   pub transitions : ℕ
   pub tables : ℕ
 
--- the bytes of what was compiled: 4,096, those of the text, 96 for a state, 24 for a transition and 65,536 for a table
+-- the bytes of what was compiled: 4,096, those of the text, 160 for a state, 24 for a transition and 16,384 for a table
 abbrev pub bytes_of : Compilation → ℕ
-bytes_of c = 4_096 + length c.text + 96 * c.states + 24 * c.transitions + 65_536 * c.tables
+bytes_of c = 4_096 + length c.text + 160 * c.states + 24 * c.transitions + 16_384 * c.tables
 
 -- the bytes of a pattern: the same, with those of the text that was written for it
 abbrev pub size_of : CompiledPattern → ℕ
-size_of p = 4_096 + length p.text + length p.written + 96 * p.states + 24 * p.transitions + 65_536 * p.tables
+size_of p = 4_096 + length p.text + length p.written + 160 * p.states + 24 * p.transitions + 16_384 * p.tables
 
 -- the bytes of all of them
 abbrev pub size_of_all : List CompiledPattern → ℕ

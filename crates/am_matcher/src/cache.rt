@@ -17,7 +17,7 @@ use std::alloc::{AllocError, Global};
 use std::marker::Model;
 
 /// What is kept takes at most so many bytes.
-const MOST_BYTES: usize = 64 << 20;
+const MOST_BYTES: usize = 128 << 20;
 
 /// What came of a pattern that is to be kept.
 #[derive(Clone, Copy, PartialEq, Eq)]
@@ -62,7 +62,7 @@ impl Model for PatternCache {
 
     ghost view = { λ c. patterns_in c.entries.items };
 
-    ghost invariant = { λ c. (c.bytes ≡ size_of_all (patterns_in c.entries.items)) × (c.bytes ≤ 67_108_864) };
+    ghost invariant = { λ c. (c.bytes ≡ size_of_all (patterns_in c.entries.items)) × (c.bytes ≤ 134_217_728) };
 }
 
 impl PatternCache {
@@ -81,11 +81,11 @@ impl PatternCache {
         self.alloc
     }
 
-    /// The bytes that are counted for what is kept: at most 64 MiB.
+    /// The bytes that are counted for what is kept: at most 128 MiB.
     pub fn size(&self) -> usize
         ensures size { result ≡ size_of_all self.now }
-        // PROMISE: At most 64 MiB of patterns are kept.
-        ensures bounded { size_of_all self.now ≤ 67_108_864 }
+        // PROMISE: At most 128 MiB of patterns are kept.
+        ensures bounded { size_of_all self.now ≤ 134_217_728 }
     {
         self.bytes
     }
@@ -131,7 +131,7 @@ impl PatternCache {
         self.prepare_in(Dialect::Regex, pattern)
     }
 
-    /// As [`PatternCache::prepare`], for a pattern of the dialect.
+    /// Prepares a pattern of the dialect, as [`PatternCache::prepare`] does one of `regex`.
     ///
     /// # Errors
     ///
@@ -157,7 +157,7 @@ impl PatternCache {
         Ok(Prepared { bytes, is_broken })
     }
 
-    /// What is compiled of the pattern of `regex` that a pattern stands for: it shares what is kept, or is built.
+    /// Returns what is compiled of the pattern of `regex` that a pattern stands for: it shares what is kept, or is built.
     pub(crate) fn whole(&self, dialect: Dialect, pattern: &str) -> Result<Whole, BuildError>
         ensures meant { IfOk result (λ whole. IsMeaning dialect pattern.now whole.text) }
         ensures sound { IfOk result (λ whole. IsSound whole.text) }

@@ -18,7 +18,7 @@ use thiserror::Error;
 /// Why a matcher was not built.
 #[derive(Clone, Copy, Debug, PartialEq, Eq, Error)]
 pub enum BuildError {
-    /// `regex` refuses the pattern, by itself or as it is compiled; or it isn't taken as one of RE2.
+    /// A pattern that `regex` refuses, by itself or as it is compiled, or that isn't taken as one of RE2.
     #[error("bad pattern")]
     BadPattern,
     #[error("out of memory")]
@@ -121,12 +121,12 @@ impl Model for Compiled {
 }
 
 impl Compiled {
-    /// The matcher with its pattern compiled.
+    /// Returns the matcher with its pattern compiled.
     ///
     /// # Errors
     ///
-    /// [`BuildError::BadPattern`] where `regex` refuses the pattern `p`, by itself or as `^(?:p)$`, for
-    /// another cause than memory. Only a matcher that a regular expression decides has one.
+    /// [`BuildError::BadPattern`] if `regex` refuses the pattern `p`, by itself or as `^(?:p)$`, for another cause than memory.
+    /// Only a matcher that a regular expression decides has one.
     pub fn build(alloc: Global, matcher: &Matcher) -> Result<Compiled, BuildError>
         ensures matcher { IfOk result (λ compiled. compiled ≡ matcher.now) }
         ensures sound { OnOk result (IsSoundMatcher matcher.now) }
@@ -135,11 +135,12 @@ impl Compiled {
         Compiled::build_in(Dialect::Regex, &PatternCache::new(alloc), matcher)
     }
 
-    /// As [`Compiled::build`], of a matcher of the dialect. A pattern that is kept is shared, and nothing is compiled for it.
+    /// Compiles a matcher of the dialect, as [`Compiled::build`] does one of `regex`. A pattern that is kept is shared, and
+    /// nothing is compiled for it.
     ///
     /// # Errors
     ///
-    /// [`BuildError::BadPattern`] where the pattern is broken in the dialect.
+    /// [`BuildError::BadPattern`] if the pattern is broken in the dialect.
     pub(crate) fn build_in(
         dialect: Dialect,
         patterns: &PatternCache,
@@ -160,7 +161,7 @@ impl Compiled {
         }
     }
 
-    /// The matcher with its regular expression compiled.
+    /// Returns the matcher with its regular expression compiled.
     fn of_regexp(
         dialect: Dialect,
         patterns: &PatternCache,
@@ -186,18 +187,26 @@ impl Compiled {
         })
     }
 
-    /// The matcher. It takes no memory.
+    /// Returns the matcher. It takes no memory.
     pub fn matcher(&self) -> &Matcher
         ensures { result.now ≡ self.now }
     {
         &self.matcher
     }
 
-    /// Whether the label's value matches; an absent label is the empty text.
+    /// Returns the bytes that are counted for what was compiled, or 0 if nothing was.
+    pub(crate) fn size(&self) -> usize {
+        match &self.whole {
+            Some(whole) => whole.size(),
+            None => 0,
+        }
+    }
+
+    /// Returns whether the label's value matches; an absent label is the empty text.
     ///
     /// # Errors
     ///
-    /// [`AllocError`] where memory runs out.
+    /// [`AllocError`] if memory runs out.
     pub fn matches(&mut self, value: &str) -> Result<bool, AllocError>
         // PROMISE: A matcher answers as `regex` finds its pattern from end to end.
         ensures answer { IfOk result (λ yes. yes ≡ matches_value self.old value.now) }
@@ -211,7 +220,7 @@ impl Compiled {
     }
 }
 
-/// Whether a value that matches its pattern, or doesn't, is as a matcher of the kind wants it.
+/// Returns whether a value that matches its pattern, or doesn't, is as a matcher of the kind wants it.
 pub fn as_wanted(kind: MatcherKind, found: bool) -> bool
     ensures { (pattern value : List ℕ) → found ≡ is_found_by kind pattern value → result ≡ is_met kind pattern value }
 {

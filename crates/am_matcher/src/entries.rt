@@ -33,7 +33,7 @@ pub fn place_of(entries: &[Entry], text: &str) -> Result<usize, usize>
     entries.binary_search_by(|entry| entry.kept.text().cmp(text))
 }
 
-/// Where the pattern of a text is, if it is one of the dialect.
+/// Returns where the pattern of a text is, if it is one of the dialect.
 fn place_in(entries: &[Entry], dialect: Dialect, text: &str) -> Option<usize>
     ensures found { IfSome result (HoldsAt (λ e. e.kept.text ≡ text.now) entries.now) }
     ensures dialect { IfSome result (HoldsAt (λ e. e.kept.dialect ≡ dialect) entries.now) }
@@ -49,7 +49,7 @@ fn place_in(entries: &[Entry], dialect: Dialect, text: &str) -> Option<usize>
     }
 }
 
-/// Whether the value matches the pattern of a text, where that is kept as one of the dialect.
+/// Tells whether the value matches the pattern of a text, where that is kept as one of the dialect.
 pub fn ask(
     entries: &mut Vec<Entry>,
     dialect: Dialect,
@@ -65,7 +65,7 @@ pub fn ask(
     Some(entry.kept.is_match(value))
 }
 
-/// Whether the pattern of a text is broken, where it is kept as one of the dialect.
+/// Tells whether the pattern of a text is broken, where it is kept as one of the dialect.
 pub fn is_broken_in(entries: &[Entry], dialect: Dialect, pattern: &str) -> Option<bool>
     ensures sound { IfSome result (λ broken. broken ≡ false → IsSoundIn dialect pattern.now) }
     ensures broken { IfSome result (λ broken. broken ≡ true → IsBrokenIn dialect pattern.now) }
@@ -74,7 +74,7 @@ pub fn is_broken_in(entries: &[Entry], dialect: Dialect, pattern: &str) -> Optio
     Some(entries[place].kept.is_broken())
 }
 
-/// What was compiled of the pattern of a text, where it is kept as one of the dialect. It shares what is kept.
+/// Returns what was compiled of the pattern of a text, where it is kept as one of the dialect. It shares what is kept.
 pub fn whole_in(
     entries: &[Entry],
     dialect: Dialect,

@@ -21,10 +21,10 @@ use thiserror::Error;
 /// Why a filter was refused.
 #[derive(Clone, Copy, Debug, PartialEq, Eq, Error)]
 pub enum FilterError {
-    /// The text is no filter.
+    /// A text that is no filter.
     #[error("bad filter")]
     Syntax,
-    /// `regex` refuses its pattern, or it isn't taken as one of RE2.
+    /// A pattern that `regex` refuses, or that isn't taken as one of RE2.
     #[error("bad pattern")]
     BadPattern,
     #[error("out of memory")]
@@ -56,14 +56,14 @@ impl From<BuildError> for FilterError {
     }
 }
 
-/// The characters of a text.
+/// Returns the characters of a text.
 pub fn characters_of(alloc: Global, text: &str) -> Result<Vec<char>, AllocError>
     ensures { IfOk result (λ characters. characters.items ≡ chars text.now) }
 {
     text.chars().collect(alloc)
 }
 
-/// The text that a value stands for, as it is written.
+/// Returns the text that a written value stands for.
 fn value_of(alloc: Global, written: &[char]) -> Result<String, FilterError>
     ensures read { IfOk result (λ text. (value : List ℕ) × IsValue written.now value × (string_bytes text ≡ encode_utf8_all value)) }
     ensures syntax { IsErrOf result FilterError.Syntax → (value : List ℕ) → ¬ IsValue written.now value }
@@ -76,7 +76,7 @@ fn value_of(alloc: Global, written: &[char]) -> Result<String, FilterError>
     Ok(text_of_pieces(alloc, inside)?)
 }
 
-/// What a text that is a filter stands for.
+/// Returns the matcher that a filter's text stands for.
 fn read_filter(alloc: Global, text: &str) -> Result<Matcher, FilterError>
     ensures read { IfOk result (IsFilter text.now) }
     ensures syntax { IsErrOf result FilterError.Syntax → (m : Matcher) → ¬ IsFilter text.now m }
@@ -95,7 +95,7 @@ fn read_filter(alloc: Global, text: &str) -> Result<Matcher, FilterError>
     })
 }
 
-/// The pattern of the matcher where it has this name, else that of one before it.
+/// Returns the pattern of the matcher if it has this name, else that of one before it.
 fn later_pattern<'a>(before: &'a str, matcher: &MatcherRef<'a>, name: &str) -> &'a str
     ensures { result.now ≡ (if is_text matcher.now.name name.now then matcher.now.pattern else before.now) }
 {
@@ -106,7 +106,7 @@ fn later_pattern<'a>(before: &'a str, matcher: &MatcherRef<'a>, name: &str) -> &
     }
 }
 
-/// The pattern of the last matcher with this name, or the empty text.
+/// Returns the pattern of the last matcher with this name, or the empty text.
 fn pattern_of<'a>(matchers: MatcherIter<'a>, name: &str) -> &'a str
     ensures { result.now ≡ pattern_in matchers.entry name.now }
 {
@@ -145,7 +145,7 @@ impl Filter {
     /// # Errors
     ///
     /// [`FilterError::Syntax`] where the text is no filter, and [`FilterError::BadPattern`] where
-    /// `regex` refuses its pattern, or it isn't taken as one of RE2.
+    /// A pattern that `regex` refuses, or that isn't taken as one of RE2.
     pub fn parse(alloc: Global, text: &str) -> Result<Filter, FilterError>
         ensures read { IfOk result (IsFilter text.now) }
         ensures sound { IfOk result IsSoundMatcher }
@@ -156,11 +156,11 @@ impl Filter {
         Filter::parse_by(&PatternCache::new(alloc), text)
     }
 
-    /// As [`Filter::parse`]: a pattern that is kept is shared, and nothing is compiled for it.
+    /// Parses the text of a filter, as [`Filter::parse`] does. A pattern that is kept is shared, and nothing is compiled for it.
     ///
     /// # Errors
     ///
-    /// As those of [`Filter::parse`].
+    /// Those of [`Filter::parse`].
     pub fn parse_by(patterns: &PatternCache, text: &str) -> Result<Filter, FilterError>
         ensures read { IfOk result (IsFilter text.now) }
         ensures sound { IfOk result IsSoundMatcher }
@@ -171,12 +171,11 @@ impl Filter {
         Filter::parse_in(Dialect::Regex, patterns, text)
     }
 
-    /// As [`Filter::parse_by`], of a text whose pattern is one of the dialect.
+    /// Parses a text whose pattern is one of the dialect, as [`Filter::parse_by`] does.
     ///
     /// # Errors
     ///
-    /// [`FilterError::Syntax`] where the text is no filter, and [`FilterError::BadPattern`] where its pattern is broken in the
-    /// dialect.
+    /// [`FilterError::Syntax`] if the text is no filter, and [`FilterError::BadPattern`] if its pattern is broken in the dialect.
     pub fn parse_in(
         dialect: Dialect,
         patterns: &PatternCache,
@@ -193,11 +192,11 @@ impl Filter {
         Ok(Filter { compiled })
     }
 
-    /// The regular expression of the filter that the text is, where one decides. Nothing is compiled.
+    /// Returns the regular expression of the filter that the text is, if one decides. Nothing is compiled.
     ///
     /// # Errors
     ///
-    /// [`FilterError::Syntax`] where the text is no filter, and [`FilterError::Memory`].
+    /// [`FilterError::Syntax`] if the text is no filter, and [`FilterError::Memory`].
     pub fn regexp_of(alloc: Global, text: &str) -> Result<Option<Text>, FilterError>
         ensures read { IfOk result (λ pattern. (m : Matcher) × IsFilter text.now m × (pattern ≡ regexp_of m)) }
         ensures syntax { IsErrOf result FilterError.Syntax → (m : Matcher) → ¬ IsFilter text.now m }
@@ -216,12 +215,17 @@ impl Filter {
         }
     }
 
-    /// Whether the silence passes: whether the filter matches the labels that its matchers make, name to
-    /// pattern, whatever their kinds; of matchers with one name the last one counts.
+    /// Returns the bytes that are counted for the filter's compiled pattern, or 0 if no regular expression decides.
+    pub fn size(&self) -> usize {
+        self.compiled.size()
+    }
+
+    /// Returns whether the silence passes: whether the filter matches the labels that its matchers make, name to pattern,
+    /// whatever their kinds; of matchers with one name the last one counts.
     ///
     /// # Errors
     ///
-    /// [`AllocError`] where memory runs out.
+    /// [`AllocError`] if memory runs out.
     pub fn passes(&mut self, silence: &Silence) -> Result<bool, AllocError>
         ensures answer { IfOk result (λ yes. yes ≡ passes self.old silence.now) }
         ensures same { self.new ≡ self.old }
@@ -231,11 +235,11 @@ impl Filter {
         self.compiled.matches(pattern)
     }
 
-    /// Whether the silence of a version passes, as [`Filter::passes`] says.
+    /// Returns whether the silence of a version passes, as [`Filter::passes`] says.
     ///
     /// # Errors
     ///
-    /// [`AllocError`] where memory runs out.
+    /// [`AllocError`] if memory runs out.
     pub fn passes_version(&mut self, version: &MeshSilence) -> Result<bool, AllocError>
         // PROMISE: A filter passes exactly the silences of the rule.
         ensures answer { IfOk result (λ yes. yes ≡ passes self.old version.now.silence) }

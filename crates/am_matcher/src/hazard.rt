@@ -6,7 +6,7 @@ ghost use Rattle.am_matcher.specs.Hazards.{IsHazard};
 use crate::cache::PatternCache;
 use crate::compiled::BuildError;
 use crate::dialect::Dialect;
-use crate::judged::judge_all;
+use crate::judged::judge_by_no_labels;
 use crate::label_names::are_labels;
 use am_silence::MeshSilence;
 use std::alloc::{AllocError, Global};
@@ -14,24 +14,24 @@ use std::alloc::{AllocError, Global};
 /// Why an Alertmanager can't hold a silence.
 #[derive(Clone, Copy, Debug, PartialEq, Eq)]
 pub enum Hazard {
-    /// It refuses a pattern, and with it each query of its silences.
+    /// A pattern that the Alertmanager refuses, and with it each query of its silences.
     Pattern,
-    /// There is no matcher, one has a name that no label has, or all match the empty text.
+    /// No matcher, one with a name that no label has, or only ones that match the empty text.
     Matcher,
 }
 
-/// Says why an Alertmanager can't hold the silence, if it can't: [`Hazard::Pattern`] where it refuses a pattern, or what `regex`
-/// would search for in its place is too big; else [`Hazard::Matcher`] where the matchers are none that it takes.
+/// Returns why an Alertmanager can't hold the silence, if it can't: [`Hazard::Pattern`] if it refuses a pattern, or if what
+/// `regex` would search for in its place is too big; else [`Hazard::Matcher`] if it doesn't take the matchers.
 ///
 /// # Errors
 ///
-/// [`AllocError`] where memory runs out.
+/// [`AllocError`] if memory runs out.
 pub fn hazard_of(alloc: Global, silence: &MeshSilence) -> Result<Option<Hazard>, AllocError>
     // PROMISE: A silence without a hazard has patterns that RE2 reads alike, names of labels, and a matcher that wants a label.
     ensures { IfOk result (IsHazard silence.now.silence.matchers) }
 {
     let mut patterns = PatternCache::new(alloc);
-    match judge_all(&mut patterns, Dialect::Re2, silence.matchers(), &[], false) {
+    match judge_by_no_labels(&mut patterns, Dialect::Re2, silence.matchers()) {
         Ok(false) if are_labels(silence.matchers()) => Ok(None),
         Ok(_) => Ok(Some(Hazard::Matcher)),
         Err(BuildError::BadPattern) => Ok(Some(Hazard::Pattern)),

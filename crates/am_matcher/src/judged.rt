@@ -10,16 +10,16 @@ use crate::cache::PatternCache;
 use crate::compiled::{BuildError, as_wanted};
 use crate::dialect::Dialect;
 use crate::label_names::takes_names;
-use crate::labels::{Label, value_of};
+use crate::labels::NamedLabels;
 use am_silence::{Matcher, MatcherIter, MatcherRef, Matchers, Verdict};
 use std::alloc::{AllocError, Global};
 
-/// Whether the value of a matcher's label matches. Its pattern may be kept if `keeps` says so.
+/// Returns whether the value of a matcher's label matches. Its pattern may be kept if `keeps` says so.
 fn judge(
     patterns: &mut PatternCache,
     dialect: Dialect,
     matcher: &MatcherRef<'_>,
-    labels: &[Label],
+    labels: &NamedLabels<'_>,
     keeps: bool,
 ) -> Result<bool, BuildError>
     ensures answer { IfOk result (DoesMatch dialect matcher.now labels.now) }
@@ -29,7 +29,7 @@ fn judge(
     ensures kept { (test : List ℕ → Bool) → (is_regexp matcher.now.kind ≡ true → test matcher.now.pattern ≡ true) →
         TextsPass test patterns.old → TextsPass test patterns.new }
 {
-    let value = value_of(labels, matcher.name());
+    let value = labels.value(matcher.name());
     let found = if matcher.kind().is_regexp() {
         patterns.is_match(dialect, matcher.pattern(), value, keeps)?
     } else {
@@ -38,13 +38,13 @@ fn judge(
     Ok(as_wanted(matcher.kind(), found))
 }
 
-/// Whether each of the matchers matches its label's value. All patterns are judged, whatever the
-/// labels are, and may be kept if `keeps` says so.
+/// Returns whether each of the matchers matches its label's value. All patterns are judged, whatever the labels are, and may be
+/// kept if `keeps` says so.
 pub fn judge_all(
     patterns: &mut PatternCache,
     dialect: Dialect,
     matchers: MatcherIter<'_>,
-    labels: &[Label],
+    labels: &NamedLabels<'_>,
     keeps: bool,
 ) -> Result<bool, BuildError>
     ensures answer { IfOk result (DoMatch dialect matchers.entry labels.now) }
@@ -62,7 +62,22 @@ pub fn judge_all(
     Ok(all)
 }
 
-// Says whether each of the matchers matches the empty text. All patterns are judged.
+/// Returns whether each of the matchers matches the empty text. All patterns are judged, and none is kept.
+pub fn judge_by_no_labels(
+    patterns: &mut PatternCache,
+    dialect: Dialect,
+    matchers: MatcherIter<'_>,
+) -> Result<bool, BuildError>
+    ensures answer { IfOk result (DoMatch dialect matchers.entry []) }
+    ensures broken { IsErrOf result BuildError.BadPattern → Any (IsRefusedMatcher dialect) matchers.entry }
+    ensures failed { OnErr result (has_regexp matchers.entry ≡ true) }
+    ensures same { patterns.new ≡ patterns.old }
+{
+    let labels = NamedLabels::none(patterns.alloc());
+    judge_all(patterns, dialect, matchers, &labels, false)
+}
+
+/// Returns whether each of the matchers matches the empty text. All patterns are judged.
 fn judge_each(alloc: Global, matchers: &[Matcher]) -> Result<bool, BuildError>
     ensures answer { IfOk result (λ yes. yes ≡ match_all matchers.now []) }
     ensures sound { OnOk result (All IsSoundMatcher matchers.now) }
@@ -70,13 +85,14 @@ fn judge_each(alloc: Global, matchers: &[Matcher]) -> Result<bool, BuildError>
     ensures failed { OnErr result (has_regexp matchers.now ≡ true) }
 {
     let mut patterns = PatternCache::new(alloc);
+    let labels = NamedLabels::none(alloc);
     let mut every = true;
     for matcher in matchers {
         let matches = judge(
             &mut patterns,
             Dialect::Regex,
             &matcher.borrowed(),
-            &[],
+            &labels,
             false,
         )?;
         every &= matches;
@@ -84,7 +100,7 @@ fn judge_each(alloc: Global, matchers: &[Matcher]) -> Result<bool, BuildError>
     Ok(every)
 }
 
-// Returns the verdict on matchers that were judged by the empty text.
+/// Returns the verdict on matchers that were judged by the empty text.
 fn verdict_of(judged: Result<bool, BuildError>) -> Result<Verdict, AllocError>
     ensures all { judged ≡ Ok true → result ≡ Ok Verdict.AllEmpty }
     ensures some { judged ≡ Ok false → result ≡ Ok Verdict.Fine }
@@ -100,11 +116,12 @@ fn verdict_of(judged: Result<bool, BuildError>) -> Result<Verdict, AllocError>
 }
 
 impl PatternCache {
-    /// As [`verdict`], by the patterns that are kept. It keeps none, since no silence has those that are posted yet.
+    /// Returns what posted matchers are judged as, as [`verdict`] does, by the patterns that are kept. It keeps none, since no
+    /// silence has the posted ones yet.
     ///
     /// # Errors
     ///
-    /// [`AllocError`] where memory runs out. Without a regular expression no memory is needed.
+    /// [`AllocError`] if memory runs out. Without a regular expression no memory is needed.
     pub fn verdict(&mut self, matchers: &Matchers) -> Result<Verdict, AllocError>
         ensures verdict { IfOk result (IsVerdict matchers.now) }
         ensures memory { OnErr result (has_regexp matchers.now ≡ true) }
@@ -113,12 +130,12 @@ impl PatternCache {
         self.verdict_in(Dialect::Regex, matchers)
     }
 
-    /// What posted matchers of the dialect are judged as, by the patterns that are kept: [`Verdict::Bad`] where a pattern is
-    /// broken in it or, beside RE2, a name is that of no label; else as [`verdict`] says of the matchers as they are meant.
+    /// Returns what posted matchers of the dialect are judged as, by the patterns that are kept: [`Verdict::Bad`] if a pattern is
+    /// broken in it or, in that of RE2, a name isn't one of a label; else as [`verdict`] says of the matchers as they are meant.
     ///
     /// # Errors
     ///
-    /// [`AllocError`] where memory runs out. Without a regular expression no memory is needed.
+    /// [`AllocError`] if memory runs out. Without a regular expression no memory is needed.
     pub fn verdict_in(
         &mut self,
         dialect: Dialect,
@@ -131,17 +148,16 @@ impl PatternCache {
         if !takes_names(dialect, matchers.iter()) {
             return Ok(Verdict::Bad);
         }
-        verdict_of(judge_all(self, dialect, matchers.iter(), &[], false))
+        verdict_of(judge_by_no_labels(self, dialect, matchers.iter()))
     }
 }
 
-/// What the matchers of a silence that is posted are judged as: [`Verdict::Bad`] where `regex` refuses
-/// one of their patterns, else [`Verdict::AllEmpty`] where each matches the empty text, also where there
-/// are none, else [`Verdict::Fine`].
+/// Returns what the matchers of a posted silence are judged as: [`Verdict::Bad`] if `regex` refuses one of their patterns, else
+/// [`Verdict::AllEmpty`] if each matches the empty text, also if there are none, else [`Verdict::Fine`].
 ///
 /// # Errors
 ///
-/// [`AllocError`] where memory runs out. Without a regular expression no memory is needed.
+/// [`AllocError`] if memory runs out. Without a regular expression no memory is needed.
 pub fn verdict(alloc: Global, matchers: &[Matcher]) -> Result<Verdict, AllocError>
     ensures verdict { IfOk result (IsVerdict matchers.now) }
     ensures memory { OnErr result (has_regexp matchers.now ≡ true) }

@@ -46,7 +46,7 @@ pub fn whole_of(alloc: Global, dialect: Dialect, pattern: &str) -> Result<Whole,
     }
 }
 
-/// What is kept of a pattern that was compiled.
+/// Returns what is kept of a pattern that was compiled.
 fn compiled_of(
     alloc: Global,
     dialect: Dialect,
@@ -124,7 +124,7 @@ impl Kept {
         }
     }
 
-    /// The dialect of the pattern.
+    /// Returns the dialect of the pattern.
     pub fn dialect(&self) -> Dialect
         ensures { result ≡ self.now.dialect }
     {
@@ -158,7 +158,7 @@ impl Kept {
         }
     }
 
-    /// What was compiled of the pattern that it stands for. It shares what is kept.
+    /// Returns what was compiled of the pattern that it stands for. It shares what is kept.
     pub fn whole(&self) -> Result<Whole, BuildError>
         ensures meant { IfOk result (λ whole. IsMeaning self.now.dialect self.now.text whole.text) }
         ensures sound { IfOk result (λ whole. IsSound whole.text) }

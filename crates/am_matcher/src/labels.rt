@@ -1,10 +1,11 @@
 //! Labels of alerts.
 
-ghost use Rattle.std.specs.Prelude.{◌≡◌, List, ℕ};
-ghost use Rattle.am_matcher.specs.Labels.{last_named, value_in};
-ghost use Rattle.std.specs.Option.{option_copied};
+ghost use Rattle.std.specs.Prelude.{◌≡◌, [], IfOk};
+ghost use Rattle.am_matcher.specs.Labels.{value_in, AreValuesOf};
 
 use am_wire::Text;
+use std::alloc::{AllocError, Global};
+use std::collections::BTreeMap;
 use std::marker::Model;
 
 /// A name, and its value.
@@ -33,14 +34,14 @@ impl Model for Labels {
 }
 
 impl Labels {
-    /// These labels. It takes no memory.
+    /// Returns these labels. It takes no memory.
     pub fn new(labels: Vec<Label>) -> Labels
         ensures { result ≡ labels.items }
     {
         Labels { labels }
     }
 
-    /// The labels in their order.
+    /// Returns the labels in their order.
     pub fn as_slice(&self) -> &[Label]
         ensures { result.now ≡ self.now }
     {
@@ -55,22 +56,65 @@ impl Labels {
     }
 }
 
-/// The last label with this name.
-fn last_label<'a>(labels: &'a [Label], name: &str) -> Option<&'a Label>
-    ensures { option_copied result ≡ last_named (λ label. label.name) name.now labels.now }
-{
-    labels
-        .iter()
-        .rev()
-        .find(|label| label.name.as_str() == name)
+/// The values of labels, each found by its name without a walk through all labels. Contracts see the list of the labels.
+#[derive(Drop)]
+pub struct NamedLabels<'a> {
+    labels: &'a [Label],
+    values: BTreeMap<&'a str, &'a str>,
 }
 
-/// The value of the label with this name, or the empty text.
-pub fn value_of<'a>(labels: &'a [Label], name: &str) -> &'a str
-    ensures { result.now ≡ value_in labels.now name.now }
+impl<'a> Model for NamedLabels<'a> {
+    ghost use Rattle.std.specs.Prelude.{List};
+    ghost use Rattle.am_matcher.specs.declared.labels.Label.{Label};
+    ghost use Rattle.am_matcher.specs.Labels.{AreValuesOf};
+
+    ghost Value = { List Label };
+
+    ghost view = { λ n. n.labels.now };
+
+    ghost invariant = { λ n. AreValuesOf n.labels.now n.values };
+}
+
+/// Returns the values of labels by their names. Of labels with one name the last one counts.
+fn values_of<'a>(
+    alloc: Global,
+    labels: &'a [Label],
+) -> Result<BTreeMap<&'a str, &'a str>, AllocError>
+    ensures { IfOk result (AreValuesOf labels.now) }
 {
-    match last_label(labels, name) {
-        Some(label) => label.value.as_str(),
-        None => "",
+    let mut values = BTreeMap::new(alloc);
+    for label in labels {
+        values.insert(label.name.as_str(), label.value.as_str())?;
+    }
+    Ok(values)
+}
+
+impl<'a> NamedLabels<'a> {
+    /// Returns no labels. It takes no memory.
+    pub fn none(alloc: Global) -> NamedLabels<'a>
+        ensures { result ≡ [] }
+    {
+        NamedLabels {
+            labels: &[],
+            values: BTreeMap::new(alloc),
+        }
+    }
+
+    /// Sorts labels by their names.
+    pub fn new(alloc: Global, labels: &'a [Label]) -> Result<NamedLabels<'a>, AllocError>
+        ensures { IfOk result (λ named. named ≡ labels.now) }
+    {
+        let values = values_of(alloc, labels)?;
+        Ok(NamedLabels { labels, values })
+    }
+
+    /// Returns the value of the label with this name, or the empty text.
+    pub fn value(&self, name: &str) -> &str
+        ensures { result.now ≡ value_in self.now name.now }
+    {
+        match self.values.get(name) {
+            Some(value) => value,
+            None => "",
+        }
     }
 }

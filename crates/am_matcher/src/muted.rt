@@ -46,6 +46,7 @@ impl Ids {
 pub struct Mutes {
     /// The active silences that are not broken and whose matchers all match.
     pub ids: Ids,
-    /// The active silences with a broken pattern: one that `regex` refuses, or that isn't taken as one of RE2.
+    /// The active silences with a broken pattern, which `regex` refuses or which isn't taken as one of RE2, and those
+    /// without matchers that have unknown fields.
     pub broken: Ids,
 }

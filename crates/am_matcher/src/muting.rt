@@ -1,8 +1,8 @@
-//! Which silences mute an alert.
+//! The silences that mute an alert.
 
-ghost use Rattle.std.specs.Prelude.{◌≡◌, ◌++◌, ◌||◌, ℕ, Bool, List, All, map, IfOk, OnOk};
+ghost use Rattle.std.specs.Prelude.{◌≡◌, ◌++◌, ◌||◌, ◌↔◌, ℕ, Bool, List, All, map, IsTrue, IfOk, OnOk};
 ghost use Rattle.am_silence.specs.Mesh.{Mesh};
-ghost use Rattle.am_matcher.specs.Mutes.{is_active, IsEffect, if_mutes, if_broken, AreMuted, AreMutedIn};
+ghost use Rattle.am_matcher.specs.Mutes.{is_active, IsEffect, IsUnread, if_mutes, if_broken, AreMuted, AreMutedIn};
 ghost use Rattle.am_matcher.specs.Uses.{is_among, is_used_by, PatternsPass, SilencesPass, TextsPass};
 
 use crate::cache::PatternCache;
@@ -10,7 +10,7 @@ use crate::compiled::BuildError;
 use crate::dialect::Dialect;
 use crate::gathering::{buckets_for, gather};
 use crate::judged::judge_all;
-use crate::labels::{Label, Labels};
+use crate::labels::{Label, Labels, NamedLabels};
 use crate::muted::{Ids, Mutes};
 use am_merge::Held;
 use am_silence::MeshSilence;
@@ -18,33 +18,40 @@ use am_version_order::{Moment, Version};
 use am_wire::Text;
 use std::alloc::{AllocError, Global};
 
-/// What a silence does to an alert.
+/// The effect of a silence on an alert.
 #[derive(Clone, Copy)]
 pub enum Effect {
-    /// It is not active.
+    /// None, since the silence isn't active.
     Idle,
-    /// All its matchers match.
+    /// All matchers match.
     Mutes,
-    /// One of its matchers doesn't match.
+    /// One of the matchers doesn't match.
     Passes,
-    /// One of its patterns is refused.
+    /// One of the patterns is refused, or unknown fields say what the silence matches.
     Broken,
 }
 
-/// It is in view, and it has begun and hasn't ended.
+/// Returns whether a silence is in view, has begun and hasn't ended.
 fn is_active(version: &MeshSilence, now: Moment) -> bool
     ensures { result ≡ is_active now version.now }
 {
     now < version.expires() && version.starts_at() <= now && now < version.ends_at()
 }
 
-/// What a silence does to an alert with these labels. Only the patterns of an active one are looked at, and may be kept
-/// if `keeps` says so.
+/// Returns whether a silence has no matcher, but fields that its reader doesn't know: they say what it matches.
+fn is_unread(version: &MeshSilence) -> bool
+    ensures { IsTrue result ↔ IsUnread version.now }
+{
+    version.matchers().is_empty() && !version.is_plain()
+}
+
+/// Returns the effect of a silence on an alert with these labels. Only the patterns of an active one are looked at, and may be
+/// kept if `keeps` says so.
 fn effect_of(
     patterns: &mut PatternCache,
     dialect: Dialect,
     version: &MeshSilence,
-    labels: &[Label],
+    labels: &NamedLabels<'_>,
     now: Moment,
     keeps: bool,
 ) -> Result<Effect, AllocError>
@@ -55,6 +62,9 @@ fn effect_of(
     if !is_active(version, now) {
         return Ok(Effect::Idle);
     }
+    if is_unread(version) {
+        return Ok(Effect::Broken);
+    }
     match judge_all(patterns, dialect, version.matchers(), labels, keeps) {
         Ok(true) => Ok(Effect::Mutes),
         Ok(false) => Ok(Effect::Passes),
@@ -63,7 +73,7 @@ fn effect_of(
     }
 }
 
-/// Puts the id of a silence where its effect wants it.
+/// Appends the id of a silence to the list that its effect names, if it names one.
 fn put_id(
     alloc: Global,
     id: &Text,
@@ -82,13 +92,13 @@ fn put_id(
     Ok(())
 }
 
-/// Which of the silences mute an alert, and which are broken. Patterns may be kept if `keeps` says so.
+/// Returns which of the silences mute an alert, and which are broken. Patterns may be kept if `keeps` says so.
 fn mutes_among(
     alloc: Global,
     patterns: &mut PatternCache,
     dialect: Dialect,
     silences: &[&MeshSilence],
-    labels: &[Label],
+    labels: &NamedLabels<'_>,
     now: Moment,
     keeps: bool,
 ) -> Result<Mutes, AllocError>
@@ -108,7 +118,7 @@ fn mutes_among(
     })
 }
 
-/// Which silences of a map mute an alert. Patterns may be kept if `keeps` says so.
+/// Returns which silences of a map mute an alert. Patterns may be kept if `keeps` says so.
 fn mutes_by(
     patterns: &mut PatternCache,
     dialect: Dialect,
@@ -124,16 +134,18 @@ fn mutes_by(
     let alloc = patterns.alloc();
     let buckets = buckets_for(alloc, labels)?;
     let silences = gather(alloc, held, &buckets)?;
-    let muted = mutes_among(alloc, patterns, dialect, &silences, labels, now, keeps)?;
+    let named = NamedLabels::new(alloc, labels)?;
+    let muted = mutes_among(alloc, patterns, dialect, &silences, &named, now, keeps)?;
     Ok(muted)
 }
 
 impl PatternCache {
-    /// As [`mutes`], with the patterns of the silences kept where there is room: each is compiled once.
+    /// Returns which silences mute labels, as [`mutes`] does. The patterns of the silences are kept if there is room: each is
+    /// compiled once.
     ///
     /// # Errors
     ///
-    /// [`AllocError`] where memory runs out.
+    /// [`AllocError`] if memory runs out.
     pub fn mutes(
         &mut self,
         held: &Held<MeshSilence>,
@@ -147,11 +159,11 @@ impl PatternCache {
         self.mutes_in(Dialect::Regex, held, labels, now)
     }
 
-    /// As [`PatternCache::mutes`], where the patterns of silences are those of the dialect.
+    /// Returns which silences mute labels, as [`PatternCache::mutes`] does, by patterns of the dialect.
     ///
     /// # Errors
     ///
-    /// [`AllocError`] where memory runs out.
+    /// [`AllocError`] if memory runs out.
     pub fn mutes_in(
         &mut self,
         dialect: Dialect,
@@ -167,23 +179,23 @@ impl PatternCache {
     }
 }
 
-/// The silences that mute an alert with these labels, and those with a pattern that `regex` refuses.
+/// Returns the silences that mute an alert with these labels, and the broken ones: those with a pattern that `regex` refuses,
+/// and those without matchers that have unknown fields, which say what they match.
 ///
-/// Only silences in view that have begun and haven't ended are asked. One without matchers mutes
-/// every alert. Patterns are compiled for this call alone, and those of an active silence all of them,
-/// since a broken one is told whatever the labels are. Silences that have no pattern and want a label to
-/// be a text that it isn't are not looked at.
+/// Only silences in view that have begun and haven't ended are asked. One without matchers mutes every alert if it has no
+/// unknown fields. Patterns are compiled for this call alone, and all those of an active silence, since a broken one is told
+/// whatever the labels are. Silences that have no pattern and want a label to be a text that it isn't are not looked at.
 ///
 /// # Errors
 ///
-/// [`AllocError`] where memory runs out.
+/// [`AllocError`] if memory runs out.
 pub fn mutes(
     alloc: Global,
     held: &Held<MeshSilence>,
     labels: &Labels,
     now: Moment,
 ) -> Result<Mutes, AllocError>
-    // PROMISE: An alert is muted by exactly the active silences whose matchers all match.
+    // PROMISE: An alert is muted by exactly the active silences that can be judged and whose matchers all match.
     ensures { IfOk result (λ m. AreMuted labels.now now held.now m.ids m.broken) }
 {
     mutes_by(

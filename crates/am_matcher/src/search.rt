@@ -1,17 +1,19 @@
 //! Searches in texts by the engines of `regex`, which keep what they have built from one search to the next.
+//!
+//! A search reads its text at most twice, and follows each state at most once for each byte: no engine begins anew within a
+//! text, since nothing matches from any place but the first.
 
-ghost use Rattle.std.specs.Prelude.{◌≡◌, ◌≤◌, ℕ, None, length, is_some, if◌then◌else◌, IfOk, OnOk, IsTrue};
+ghost use Rattle.std.specs.Prelude.{◌≡◌, ℕ, length, is_some, IfOk, IfSome};
 ghost use Rattle.regex_hir.specs.Text.{is_boundary};
-ghost use Rattle.regex_nfa.specs.Run.{run};
 ghost use Rattle.regex_dfa.specs.Search.{IsForwardFor};
-ghost use Rattle.am_matcher.specs.Searches.{match_from, found_by};
+ghost use Rattle.am_matcher.specs.Searches.{match_from, found_by, BeginsFirst, IsRunnerFor};
 
 use regex_dfa::{Dfa, End, Forward};
 use regex_nfa::Nfa;
 use regex_vm::PikeVm;
 use std::alloc::{AllocError, Global};
 
-/// Whether a character begins here, or the text ends.
+/// Returns whether a character begins here, or the text ends.
 fn begins_character(text: &[u8], place: usize) -> bool
     ensures { result ≡ is_boundary text.now place }
 {
@@ -21,94 +23,69 @@ fn begins_character(text: &[u8], place: usize) -> bool
     (text[place] < 0x80) | (text[place] > 0xBF)
 }
 
-/// Nothing matches from any place.
-fn matches_nowhere(dfa: &Dfa, forward: &mut Forward, text: &[u8]) -> bool
-    requires { IsForwardFor forward.old dfa.now }
-    ensures nowhere { IsTrue result → (place : ℕ) → place ≤ length text.now → match_from dfa.now.nfa text.now place ≡ None }
-    ensures own { IsForwardFor forward.new dfa.now }
+/// Returns whether there is a match from the first place, found by following all states at once. The engine is made once, and kept.
+fn runs_from_first(
+    alloc: Global,
+    nfa: &Nfa,
+    runner: &mut Option<PikeVm>,
+    text: &[u8],
+) -> Result<bool, AllocError>
+    requires { IfSome runner.old (IsRunnerFor nfa.now) }
+    ensures answer { IfOk result (λ yes. yes ≡ is_some (match_from nfa.now text.now 0)) }
+    ensures runner { IfSome runner.new (IsRunnerFor nfa.now) }
 {
-    match forward.find_end(dfa, text, 0, text.len(), false, true) {
-        End::NoMatch => true,
-        _ => false,
-    }
-}
-
-/// Whether there is a match from a place, found by following all ways at once. It needs nothing built before.
-fn runs_from(alloc: Global, nfa: &Nfa, text: &[u8], place: usize) -> Result<bool, AllocError>
-    requires { place ≤ length text.now }
-    ensures { IfOk result (λ yes. yes ≡ is_some (match_from nfa.now text.now place)) }
-{
-    let mut engine = PikeVm::new(alloc, nfa)?;
-    let found = engine.is_match(nfa, text, place, place, text.len());
+    let mut engine = match runner.take() {
+        Some(engine) => engine,
+        None => PikeVm::new(alloc, nfa)?,
+    };
+    let found = engine.is_match(nfa, text, 0, 0, text.len());
+    *runner = Some(engine);
     Ok(found)
 }
 
-/// Whether there is a match from a place.
-fn matches_from(
+/// Returns whether there is a match from the first place.
+fn matches_from_first(
     alloc: Global,
     dfa: &Dfa,
     forward: &mut Forward,
+    runner: &mut Option<PikeVm>,
     text: &[u8],
-    place: usize,
 ) -> Result<bool, AllocError>
     requires own { IsForwardFor forward.old dfa.now }
-    requires within { place ≤ length text.now }
-    ensures answer { IfOk result (λ yes. yes ≡ is_some (match_from dfa.now.nfa text.now place)) }
+    requires runner { IfSome runner.old (IsRunnerFor dfa.now.nfa) }
+    ensures answer { IfOk result (λ yes. yes ≡ is_some (match_from dfa.now.nfa text.now 0)) }
     ensures own { IsForwardFor forward.new dfa.now }
+    ensures runner { IfSome runner.new (IsRunnerFor dfa.now.nfa) }
 {
-    match forward.find_end(dfa, text, place, text.len(), true, true) {
+    match forward.find_end(dfa, text, 0, text.len(), true, true) {
         End::At(_) => Ok(true),
         End::NoMatch => Ok(false),
         End::Idle(_) | End::GaveUp => {
-            let found = runs_from(alloc, &dfa.nfa, text, place)?;
+            let found = runs_from_first(alloc, &dfa.nfa, runner, text)?;
             Ok(found)
         }
     }
 }
 
-/// Whether there is a match from a place where a character begins.
-fn is_found_at(
-    alloc: Global,
-    dfa: &Dfa,
-    forward: &mut Forward,
-    text: &[u8],
-    place: usize,
-) -> Result<bool, AllocError>
-    requires own { IsForwardFor forward.old dfa.now }
-    requires within { place ≤ length text.now }
-    ensures answer { IfOk result (λ yes. yes ≡ is_some
-        (if is_boundary text.now place then match_from dfa.now.nfa text.now place else None)) }
-    ensures own { IsForwardFor forward.new dfa.now }
-{
-    if begins_character(text, place) {
-        let found = matches_from(alloc, dfa, forward, text, place)?;
-        Ok(found)
-    } else {
-        Ok(false)
-    }
-}
-
-/// Whether there is a match from any place where a character begins.
-///
-/// Most texts that don't match are told by the first search.
+/// Returns whether there is a match from any place where a character begins: nothing matches from any but the first.
 pub fn is_found(
     alloc: Global,
     dfa: &Dfa,
     forward: &mut Forward,
+    runner: &mut Option<PikeVm>,
     text: &[u8],
 ) -> Result<bool, AllocError>
-    requires { IsForwardFor forward.old dfa.now }
+    requires own { IsForwardFor forward.old dfa.now }
+    requires runner { IfSome runner.old (IsRunnerFor dfa.now.nfa) }
+    requires first { BeginsFirst dfa.now.nfa }
     ensures answer { IfOk result (λ yes. yes ≡ is_some (found_by dfa.now.nfa text.now)) }
     ensures own { IsForwardFor forward.new dfa.now }
+    ensures runner { IfSome runner.new (IsRunnerFor dfa.now.nfa) }
 {
-    if matches_nowhere(dfa, forward, text) {
-        return Ok(false);
+    if begins_character(text, 0) {
+        let found = matches_from_first(alloc, dfa, forward, runner, text)?;
+        Ok(found)
+    } else {
+        Ok(false)
     }
-    for place in 0..text.len() {
-        if is_found_at(alloc, dfa, forward, text, place)? {
-            return Ok(true);
-        }
-    }
-    let found = is_found_at(alloc, dfa, forward, text, text.len())?;
-    Ok(found)
 }

@@ -5,20 +5,22 @@ ghost use Rattle.regex.specs.declared.error.Error.{Error};
 ghost use Rattle.regex_hir.specs.Meaning.{meaning};
 ghost use Rattle.regex_compile.specs.Implements.{Implements};
 ghost use Rattle.am_matcher.specs.Patterns.{is_match, whole_text, IsReadable, IsSound, IsBroken, IsRefusedFor};
-ghost use Rattle.am_matcher.specs.Searches.{Finds};
+ghost use Rattle.am_matcher.specs.Searches.{BeginsFirst, Finds};
 ghost use Rattle.am_matcher.specs.Sizes.{bytes_of, compilation};
 
 use crate::compiled::BuildError;
 use crate::counting::{SEARCH_BYTES, counted};
 use crate::search::is_found;
 use regex_dfa::{Dfa, Forward};
+use regex_extract::is_anchored_start;
 use regex_nfa::Nfa;
 use regex_syntax::{Config, Parsed, parse};
+use regex_vm::PikeVm;
 use std::alloc::{AllocError, Global};
 use std::marker::Model;
 use std::rc::Rc;
 
-/// What is compiled takes at most so many bytes: the limit that `regex` has by itself.
+/// The most bytes that what is compiled may take: the limit that `regex` has by itself.
 const MOST_BYTES: usize = 10 << 20;
 
 /// A compiled pattern, and what searches for it have built. Contracts see its text, how much was compiled, and how many
@@ -29,6 +31,8 @@ pub struct Whole {
     pattern: String,
     dfa: Rc<Dfa>,
     forward: Forward,
+    /// The engine that follows all states at once, if a search needed it.
+    runner: Option<PikeVm>,
     alloc: Global,
 }
 
@@ -39,28 +43,30 @@ impl Drop for Whole {
             pattern: _,
             dfa: _,
             forward: _,
+            runner: _,
             alloc: _,
         } = self;
     }
 }
 
 impl Model for Whole {
-    ghost use Rattle.std.specs.Prelude.{string_bytes};
+    ghost use Rattle.std.specs.Prelude.{string_bytes, IfSome};
     ghost use Rattle.regex_dfa.specs.Search.{IsForwardFor};
     ghost use Rattle.am_matcher.specs.Patterns.{whole_text};
-    ghost use Rattle.am_matcher.specs.Searches.{Finds};
+    ghost use Rattle.am_matcher.specs.Searches.{BeginsFirst, Finds, IsRunnerFor};
     ghost use Rattle.am_matcher.specs.Sizes.{Compilation, compilation};
 
     ghost Value = { Compilation };
 
     ghost view = { λ w. compilation (string_bytes w.pattern) w.dfa.value };
 
-    ghost invariant = { λ w. Finds w.dfa.value.nfa (whole_text (string_bytes w.pattern)) × IsForwardFor w.forward w.dfa.value };
+    ghost invariant = { λ w. Finds w.dfa.value.nfa (whole_text (string_bytes w.pattern)) × BeginsFirst w.dfa.value.nfa
+        × IsForwardFor w.forward w.dfa.value × IfSome w.runner (IsRunnerFor w.dfa.value.nfa) };
 }
 
 /// Refuses a pattern that is broken by itself, as `a)|(b`, which would be read once it is wrapped.
 ///
-/// One that is too big is so once it is wrapped too, and is refused there.
+/// One that is too big is also too big once it is wrapped, and is refused there.
 fn read_alone(alloc: Global, pattern: &str) -> Result<(), BuildError>
     ensures read { OnOk result (IsReadable pattern.now) }
     ensures unread { IsErrOf result BuildError.BadPattern → ¬ IsReadable pattern.now }
@@ -69,20 +75,26 @@ fn read_alone(alloc: Global, pattern: &str) -> Result<(), BuildError>
     Ok(())
 }
 
-/// The states of a pattern that was read. It is refused where it is too big.
+/// Returns the states of a pattern that was read. It is refused if it is too big.
 fn nfa_of(alloc: Global, parsed: &Parsed) -> Result<Nfa, BuildError>
-    ensures { IfOk result (λ nfa. Implements nfa (meaning parsed.now.hir)) }
+    ensures implements { IfOk result (λ nfa. Implements nfa (meaning parsed.now.hir)) }
+    ensures first { IfOk result BeginsFirst }
 {
     let Ok(groups) = u32::try_from(parsed.names.len()) else {
         return Err(BuildError::BadPattern);
     };
+    // (never so: what is compiled begins with `^`)
+    if !is_anchored_start(&parsed.hir) {
+        return Err(BuildError::BadPattern);
+    }
     let nfa = regex_compile::compile(alloc, &parsed.hir, groups, MOST_BYTES)?;
     Ok(nfa)
 }
 
-/// What a text is compiled to.
+/// Compiles a text that begins with `^`.
 fn dfa_of(alloc: Global, text: &str) -> Result<Dfa, BuildError>
     ensures finds { IfOk result (λ dfa. Finds dfa.nfa text.now) }
+    ensures first { IfOk result (λ dfa. BeginsFirst dfa.nfa) }
     ensures read { OnOk result (IsReadable text.now) }
     ensures refused { IsErrOf result BuildError.BadPattern → (error : Error) × IsRefusedFor text.now error }
 {
@@ -92,9 +104,10 @@ fn dfa_of(alloc: Global, text: &str) -> Result<Dfa, BuildError>
     Ok(dfa)
 }
 
-/// What the pattern `p` is compiled to, as `^(?:p)$`.
+/// Compiles the pattern `p`, as `^(?:p)$`.
 fn dfa_of_pattern(alloc: Global, pattern: &str) -> Result<Dfa, BuildError>
     ensures finds { IfOk result (λ dfa. Finds dfa.nfa (whole_text pattern.now)) }
+    ensures first { IfOk result (λ dfa. BeginsFirst dfa.nfa) }
     ensures sound { OnOk result (IsSound pattern.now) }
     ensures broken { IsErrOf result BuildError.BadPattern → IsBroken pattern.now }
 {
@@ -115,9 +128,10 @@ impl Whole {
         Ok(Whole::over(alloc, pattern, dfa)?)
     }
 
-    /// The pattern with what it was compiled to. Searches build their own tables.
+    /// Returns the pattern with what it was compiled to. Searches build their own tables.
     fn over(alloc: Global, pattern: &str, dfa: Rc<Dfa>) -> Result<Whole, AllocError>
-        requires { Finds dfa.value.nfa (whole_text pattern.now) }
+        requires finds { Finds dfa.value.nfa (whole_text pattern.now) }
+        requires first { BeginsFirst dfa.value.nfa }
         ensures { IfOk result (λ whole. whole ≡ compilation pattern.now dfa.value) }
     {
         let forward = Forward::with_budget(alloc, &dfa, false, SEARCH_BYTES)?;
@@ -126,11 +140,12 @@ impl Whole {
             pattern,
             dfa,
             forward,
+            runner: None,
             alloc,
         })
     }
 
-    /// One more that has the same, whose searches build their own tables. Nothing is compiled.
+    /// Returns another one of the same pattern, whose searches build their own tables. Nothing is compiled.
     pub fn share(&self) -> Result<Whole, AllocError>
         ensures { IfOk result (λ whole. whole ≡ self.now) }
     {
@@ -138,14 +153,14 @@ impl Whole {
         Whole::over(self.alloc, self.pattern.as_str(), dfa)
     }
 
-    /// The text of the pattern.
+    /// Returns the text of the pattern.
     pub fn text(&self) -> &str
         ensures { result.now ≡ self.now.text }
     {
         self.pattern.as_str()
     }
 
-    /// The bytes that are counted for it.
+    /// Returns the bytes that are counted for it.
     pub fn size(&self) -> usize
         ensures { result ≡ min (bytes_of self.now) (2 ^ 64 - 1) }
     {
@@ -159,25 +174,31 @@ impl Whole {
         )
     }
 
-    /// Whether the text matches from end to end.
+    /// Returns whether the text matches from end to end.
     pub fn matches(&mut self, text: &str) -> Result<bool, AllocError>
         ensures answer { IfOk result (λ found. found ≡ is_match self.old.text text.now) }
         ensures same { self.new ≡ self.old }
     {
-        let found = is_found(self.alloc, &self.dfa, &mut self.forward, text.as_bytes())?;
+        let found = is_found(
+            self.alloc,
+            &self.dfa,
+            &mut self.forward,
+            &mut self.runner,
+            text.as_bytes(),
+        )?;
         Ok(found)
     }
 }
 
-/// What was compiled, to be shared.
+/// Returns what was compiled, to be shared.
 fn shared(alloc: Global, dfa: Dfa) -> Result<Rc<Dfa>, AllocError>
     ensures { IfOk result (λ shared. shared.value ≡ dfa) }
 {
     Ok(Rc::new(alloc, dfa)?)
 }
 
-/// How many tables searches may fill: one of the states that they meet, and one of the steps by the characters beside a
-/// word where the pattern asks for these.
+/// Returns how many tables searches may fill: one of the states that they meet, and, if the pattern asks for the characters
+/// beside a word, one of the steps by these.
 fn tables_of(dfa: &Dfa) -> usize
     ensures { result ≡ (if dfa.now.needs.unicode then 2 else 1) }
 {

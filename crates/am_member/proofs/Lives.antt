@@ -7,9 +7,12 @@ use Rattle.am_gossip.specs.declared.frame.Frame.{Frame}
 use Rattle.am_http.specs.declared.refusal.Refusal.{Refusal}
 use Rattle.am_http.specs.declared.request.Read.{Read}
 use Rattle.am_http.specs.declared.request.Read.TheVariants.{More, Whole, Refused}
-use Rattle.am_instance.specs.InstanceStates.{InstanceState}
+use Rattle.am_instance.specs.Configs.{Settings}
+use Rattle.am_instance.specs.Deliveries.{to_silences, to_log}
+use Rattle.am_instance.specs.InstanceStates.{InstanceState, AreSilencesLeftBy, IsLogLeftBy, kept_silences, kept_log}
 use Rattle.am_instance.specs.Laws.{AreMade, Happened}
 use Rattle.am_instance.specs.OneStep.{IsStep}
+use Rattle.am_instance.specs.Steps.{step_events}
 use Rattle.am_refusals.specs.declared.error.StepError.{StepError}
 use Rattle.am_instance.specs.declared.event.Event.{Event}
 use Rattle.am_instance.specs.declared.event.Event.TheVariants as events
@@ -31,10 +34,19 @@ pub made_append : (old mid new : InstanceState) (steps others : List Happened) �
 made_append old mid new [] others same more = subst (λ (s : InstanceState). AreMade s others new) same more
 made_append old mid new (h ∷ hs) others made more = (made.0, made.1, made_append h.left mid new hs others made.2 more)
 
+-- what a step changed, read by the configuration that it left as it was
+by_its_own : (old new : InstanceState) (event : Event) (now : ℕ) (answer : Result Outcome StepError) → IsStep old event now answer new →
+    AreSilencesLeftBy (kept_silences old) (step_events to_silences new.config.unknown event now answer) (kept_silences new)
+    × IsLogLeftBy (kept_log old) (step_events to_log new.config.unknown event now answer) (kept_log new)
+by_its_own old new event now answer step = (
+  subst (λ (c : Settings). AreSilencesLeftBy (kept_silences old) (step_events to_silences c.unknown event now answer) (kept_silences new)) (sym step.config) step.silences,
+  subst (λ (c : Settings). IsLogLeftBy (kept_log old) (step_events to_log c.unknown event now answer) (kept_log new)) (sym step.config) step.log,
+)
+
 -- one step that was made
 one_made : (old new : InstanceState) (event : Event) (now : ℕ) (answer : Result Outcome StepError) → IsStep old event now answer new →
     AreMade old (record { event = event; now = now; answer = answer; left = new } ∷ []) new
-one_made old new event now answer step = (step.silences, step.log, refl)
+one_made old new event now answer step = let left = by_its_own old new event now answer step in (left.0, left.1, refl)
 
 -- the frames of a peer, as events
 abbrev pub sent_from : ℕ → List Frame → List Event
@@ -55,7 +67,7 @@ step_before now event asked answer old mid new step more = (
   record {
     asks = ap (λ (es : List Event). event ∷ es) more.1.asks;
     moments = (refl, more.1.moments);
-    made = (step.silences, step.log, more.1.made);
+    made = (let left = by_its_own old mid event now answer step in (left.0, left.1, more.1.made));
   },
 )
 
@@ -255,4 +267,4 @@ life_steps standings start new (Served turn ∷ deeds) life =
       made_append start turn.left new own.0 others.0 own.1.made others.2,
     )
 life_steps standings start new (Own step ∷ deeds) life =
-    let others = life_steps standings step.left new deeds life.1 in (step ∷ others.0, (others.0, others.1, refl), (life.0.silences, life.0.log, others.2))
+    let others = life_steps standings step.left new deeds life.1 in (step ∷ others.0, (others.0, others.1, refl), (let left = by_its_own start step.left step.event step.now step.answer life.0 in (left.0, left.1, others.2)))

@@ -1,4 +1,4 @@
--- What comes of what a connection said: the answer to its request, or the steps of its frames.
+-- The answer to what a connection says: to its request, or the steps of its frames.
 use Rattle.std.specs.Prelude.{◌≡◌, ◌≢◌, ℕ, Bool, true, false, List, [], Option, None, Some, option_map, Result, Ok, Err, OnOk, IfErr}
 use Rattle.am_api_silences.specs.declared.answering.PendingAnswer.{PendingAnswer}
 use Rattle.am_api_silences.specs.Answers.{Answered, IsRefusalAnswer, IsRequestAnswer, WhenMade}
@@ -30,17 +30,18 @@ pub record IsUntouched (old new : InstanceState) (answer : SessionAnswer) : Type
 
 -- such an answer is handed on
 pub record IsReplied (IsSuch : Answered → Type 0) (answer : SessionAnswer) : Type 0 where
-  -- whatever its reply is finished with, it is such
+  -- whatever its reply is finished with, it is such an answer
   pub begun : PendingAnswer
   pub such : WhenMade IsSuch begun
-  -- its reply is what is replied
+  -- its reply is handed on
   pub reply : answer.reply ≡ Some begun.making
   -- its frames are sent, and no Tick was among its steps
   pub effects : answer.effects ≡ record { outbox = begun.outbox; ticked = false }
   -- the connection is not at fault
   pub no_fault : answer.fault ≡ None
 
--- what was read is answered: a request by what it means, another by why it is refused; nothing is where it decides nothing yet
+-- what was read is answered: a request by what it means, anything else by the reason why it is refused; nothing is answered if it
+-- decides nothing yet
 abbrev pub IsReadAnswer : Read → ℕ → ℕ → InstanceState → InstanceState → SessionAnswer → Type 0
 IsReadAnswer (Whole request) bits now old new answer = IsReplied (λ answered. IsRequestAnswer old request bits now answered new) answer
 IsReadAnswer (Refused refusal) bits now old new answer = IsReplied (λ answered. IsRefusalAnswer refusal old answered new) answer
@@ -48,17 +49,17 @@ IsReadAnswer More bits now old new answer = IsUntouched old new answer
 
 -- ---- frames
 
--- frames are from the one peer that the greeting names; where no greeting came there is no frame
+-- the frames are from the one peer that the greeting names; if no greeting came, there is no frame
 abbrev pub AreFrom : Settings → Option (List ℕ) → List Frame → ℕ → Type 0
 AreFrom config None frames sender = frames ≡ []
 AreFrom config (Some name) frames sender = IsOnlyPeerOf config name sender
 
--- they are from no peer: the greeting names none; or frames came and no greeting, which no session says
+-- the frames are from no peer: the greeting names none; or frames came and no greeting, which no session says
 abbrev pub IsFromNobody : Settings → Option (List ℕ) → List Frame → Type 0
 IsFromNobody config None frames = frames ≢ []
 IsFromNobody config (Some name) frames = (place : ℕ) → ¬ IsPeerOf config name place
 
--- what the frames of a connection with this name did: each step was made; or one is refused; or no peer has the name
+-- the frames of a connection with this name did this: each step was made; or one is refused; or no peer has the name
 abbrev pub AreStepped : Option (List ℕ) → ℕ → List Frame → SoFar → SoFar → Result Unit Fault → Type 0
 AreStepped name now frames before after (Ok _) =
     (sender : ℕ) × AreFrom before.instance.config name frames sender × MakesAll sender now frames before after
@@ -67,47 +68,47 @@ AreStepped name now frames before after (Err (Step error)) =
 AreStepped name now frames before after (Err UnknownName) = IsFromNobody before.instance.config name frames × (after ≡ before)
 AreStepped name now frames before after (Err _) = ⊥
 
--- a fault of a session, as one of its connection
+-- the fault of a session as one of its connection
 abbrev pub fault_heard : SessionFault → Fault
 fault_heard session_faults.TooLarge = TooLarge
 fault_heard (session_faults.Frame error) = InFrame error
 
--- what comes of frames, behind which the session is at fault or goes on
+-- the answer to frames, after which the session is at fault or goes on
 pub record AreHeard (name : Option (List ℕ)) (now : ℕ) (frames : List Frame) (fault : Option SessionFault) (old new : InstanceState) (answer : SessionAnswer) : Type 0 where
   -- nothing is replied
   pub silent : answer.reply ≡ None
   -- each is a step, up to the first that can't be made
   pub steps : Result Unit Fault
   pub stepped : AreStepped name now frames (so_far old no_effects) (so_far new answer.effects) steps
-  -- where all are made, the session's own fault is told
+  -- if all are made, the session's own fault is told
   pub all : OnOk steps (answer.fault ≡ option_map fault_heard fault)
-  -- else why one can't be made
+  -- else the reason is told why one can't be made
   pub stop : IfErr steps (λ stop. answer.fault ≡ Some stop)
 
 -- ---- all that is said
 
--- what comes of what a connection with this name said (a session never says both a request and frames)
+-- the answer to what a connection with this name said (a session never says both a request and frames)
 pub record IsSessionAnswer (name : Option (List ℕ)) (bits now : ℕ) (said : Spoken) (old new : InstanceState) (answer : SessionAnswer) : Type 0 where
   -- a request is answered
   pub asked : (read : Read) → said.request ≡ Some read → IsReadAnswer read bits now old new answer
-  -- else the frames are stepped
+  -- otherwise the frames are stepped
   pub heard : said.request ≡ None → AreHeard name now said.frames said.fault old new answer
 
--- a connection is not heard on whose peer is unknown, or of which a step was refused
+-- whether nothing more is heard of a connection, because its peer is unknown or a step of it was refused
 abbrev pub is_stopped : Option Fault → Bool
 is_stopped (Some UnknownName) = true
 is_stopped (Some (Step error)) = true
 is_stopped _ = false
 
--- how far a connection has come then
+-- the standing of a connection after a fault, or without one
 abbrev pub left_at : Option Fault → Standing → Standing
 left_at (Some UnknownName) standing = over (name_of standing)
 left_at (Some (Step error)) standing = over (name_of standing)
 left_at _ standing = standing
 
--- ---- what is dear
+-- ---- expensive requests
 
--- a call is for a list
+-- whether a call is for a list
 abbrev pub is_list : Result Call Cause → Bool
 is_list (Ok (ListCall query)) = true
 is_list _ = false

@@ -1,4 +1,4 @@
--- A member's life: what came of its connections, in any interleaving, and what it answered.
+-- A member's life: the turns of its connections, in any interleaving, and its answers.
 use Rattle.std.specs.Prelude.{◌≡◌, ◌⊎◌, ◌==◌, ◌≤◌, ℕ, true, false, List, [], ◌∷◌, ◌++◌, map, Option, None, Some, Result, Ok, Err, ⊤, if◌then◌else◌}
 use Rattle.std.specs.List.{AllByRecursion, flat_map}
 use Rattle.am_silence.specs.Mesh.{Mesh, mesh_version}
@@ -34,8 +34,8 @@ use Rattle.am_member.specs.declared.session_answer.SessionAnswer.{SessionAnswer}
 use Rattle.am_member.specs.Exchanging.{AreFrom, IsSessionAnswer, IsFromNobody, is_stopped, left_at}
 use Rattle.am_member.specs.Sparing.{spared}
 
--- what came of a connection: a piece that there was memory for, any piece, or the end of its input; or frames that were sealed, with the
--- text of the greeting before them where that came with them
+-- the input of a connection: a piece for which there was memory, any piece, or the end of its input; or frames that were sealed,
+-- with the text of the greeting before them if that came with them
 pub data Came : Type 0 where
   Heard : List ℕ → Came
   Fed : List ℕ → Came
@@ -49,18 +49,18 @@ bytes_of (Fed piece) = piece
 bytes_of AtEnd = []
 bytes_of (Opened greeting frames) = greeting
 
--- the session heard the greeting, where one came
+-- the session heard the greeting, if one came
 abbrev pub IsGreetedBy : Standing → List ℕ → Standing → Type 0
 IsGreetedBy old greeting new = ((greeting ≡ []) × (new ≡ old)) ⊎ ((said : Spoken) × Feeds old greeting said new × (said.fault ≡ None))
 
--- what sealed frames say: just these, behind the greeting; the connection is heard on or not
+-- sealed frames say just these, behind the greeting; the connection is heard on or not
 pub record SaysOpened (old : Standing) (greeting : List ℕ) (frames : List Frame) (said : Spoken) (new : Standing) : Type 0 where
   pub says : said ≡ record { frames = frames; request = None; fault = None }
   pub mid : Standing
   pub greets : IsGreetedBy old greeting mid
   pub goes_on : (new ≡ mid) ⊎ (new ≡ over (name_of mid))
 
--- what it says, and how far the connection has come then
+-- the input says this, and leaves the connection in this standing
 abbrev pub Tells : Standing → Came → Spoken → Standing → Type 0
 Tells old (Heard piece) said new = SaysPiece old piece said new
 Tells old (Fed piece) said new = Feeds old piece said new
@@ -85,12 +85,12 @@ pub record IsTurn (standing : Standing) (old : InstanceState) (turn : Turn) : Ty
   pub tells : Tells standing turn.came turn.said turn.heard
   pub answered : IsSessionAnswer (name_of turn.heard) turn.bits turn.now (spared turn.said) old turn.left turn.answer
 
--- how far its connection has come after a turn, and each other one as before
+-- the standings after a turn: its connection's as the turn left it, and each other one as before
 abbrev pub standings_after : (ℕ → Standing) → Turn → ℕ → Standing
 standings_after standings turn = λ connection.
     if connection == turn.connection then left_at turn.answer.fault turn.heard else standings connection
 
--- what a member does: a turn of a connection; or a step by itself, as a Tick, that no connection makes
+-- a deed of a member: a turn of a connection; or a step by itself, as a Tick, that no connection makes
 pub data Deed : Type 0 where
   Served : Turn → Deed
   Own : Happened → Deed
@@ -121,8 +121,8 @@ abbrev pub said_in : List Turn → Spoken
 said_in [] = nothing
 said_in (turn ∷ turns) = and_then turn.said (said_in turns)
 
--- What a member does by itself: a collection, what is for a program that sends pages, and a frame of a replica that it asked. Nothing is
--- posted or ended by it.
+-- What a member does by itself: a collection, what is for a program that sends pages, and a frame of a replica that it asked. It
+-- posts and ends nothing by itself.
 abbrev pub IsOwnEvent : Event → Type 0
 IsOwnEvent events.Tick = ⊤
 IsOwnEvent (events.Mutes labels) = ⊤
@@ -131,13 +131,13 @@ IsOwnEvent (events.Notified group_key receiver firing resolved repeat) = ⊤
 IsOwnEvent (events.Frame sender frame) = ⊤
 IsOwnEvent _ = ⊥
 
--- where a life leaves the connections
+-- the standings of the connections after a life
 abbrev pub standings_in : (ℕ → Standing) → List Deed → ℕ → Standing
 standings_in standings [] = standings
 standings_in standings (Served turn ∷ deeds) = standings_in (standings_after standings turn) deeds
 standings_in standings (Own step ∷ deeds) = standings_in standings deeds
 
--- a piece came that there was memory for, and the member heard on: its peer is known, and no step was refused
+-- a piece came for which there was memory, and the member heard on: its peer is known, and no step was refused
 pub record IsHeardOut (turn : Turn) : Type 0 where
   pub piece : List ℕ
   pub came : turn.came ≡ Heard piece
@@ -145,7 +145,7 @@ pub record IsHeardOut (turn : Turn) : Type 0 where
 
 -- ---- the steps of the instance
 
--- what a request means, as a list: one event, or none where it is refused before
+-- the events of what a request means: one, or none if it is refused before
 abbrev pub listed : Result Event Refusal → List Event
 listed (Ok event) = event ∷ []
 listed (Err refusal) = []
@@ -155,7 +155,7 @@ abbrev pub AreEventsOfRead : Dialect → Read → ℕ → List Event → Type 0
 AreEventsOfRead dialect (Whole request) bits asked = (meant : Result Event Refusal) × IsEventIn dialect request bits meant × (asked ≡ listed meant)
 AreEventsOfRead dialect _ bits asked = asked ≡ []
 
--- the events of frames: each comes from the one peer that the connection is from; there is none where no frame or no peer is
+-- the events of frames: each comes from the one peer from which the connection is; there is none if there is no frame or no peer
 abbrev pub AreEventsOfFrames : Settings → Option (List ℕ) → List Frame → List Event → Type 0
 AreEventsOfFrames config name frames sent =
     ((sent ≡ []) × ((frames ≡ []) ⊎ IsFromNobody config name frames))
@@ -166,7 +166,8 @@ pub record AreEventsOf (config : Settings) (name : Option (List ℕ)) (bits : �
   pub of_request : (read : Read) → said.request ≡ Some read → AreEventsOfRead config.dialect read bits asked
   pub of_frames : said.request ≡ None → AreEventsOfFrames config name said.frames asked
 
--- The steps of a turn, all at its moment: their events are those of what was said, but for what frames ask for, in order, up to the first that was refused.
+-- The steps of a turn, all at its moment: their events are those of what was said, without what frames ask for, in order, up to the
+-- first that was refused.
 pub record AreStepsOf (old : InstanceState) (turn : Turn) (steps : List Happened) : Type 0 where
   pub asked : List Event
   pub said : AreEventsOf old.config (name_of turn.heard) turn.bits (spared turn.said) asked
@@ -184,33 +185,33 @@ AreStepsOfAll old (Served turn ∷ deeds) steps =
 AreStepsOfAll old (Own step ∷ deeds) steps =
     (others : List Happened) × AreStepsOfAll step.left deeds others × (steps ≡ step ∷ others)
 
--- ---- what is shown and replied
+-- ---- views and replies
 
 -- the steps were calm for both maps
 pub record AreCalm (start : InstanceState) (steps : List Happened) : Type 0 where
   pub silences : IsCalm mesh_version start.silences start.last (run_events to_silences steps)
   pub log : IsCalm entry_version start.log start.last (run_events to_log steps)
 
--- From the last step on the bare sets are shown of all versions that the instance began with or that were delivered.
+-- From the last step on, the instance shows the bare sets of all versions with which it began or that were delivered.
 pub record ShowsBareSets (start : InstanceState) (steps : List Happened) (new : InstanceState) : Type 0 where
   pub silences : IsCalm mesh_version start.silences start.last (run_events to_silences steps) → (now : ℕ) (id : List ℕ) → new.last ≤ now →
       IsViewAt mesh_version (all_silences start steps) now id (silence_in_view now new.silences id)
   pub log : IsCalm entry_version start.log start.last (run_events to_log steps) → (now : ℕ) (key : LogKey) → new.last ≤ now →
       IsViewAt entry_version (all_entries start steps) now key (entry_in_view now new.log key)
 
--- The bytes tell what bare sets give; or that the clock ran back, or that memory ran out.
+-- The bytes tell what the bare sets give; or that the clock ran back, or that memory ran out.
 abbrev pub IsBareBytes : Dialect → List Mesh → List LogMesh → Event → ℕ → List ℕ → Type 0
 IsBareBytes dialect silences log event now bytes =
     ((reply : Reply) × IsBareReply dialect silences log event now reply × IsReplyBytes reply bytes)
     ⊎ ((bytes ≡ line_bytes clock_line) ⊎ (bytes ≡ memory_bytes))
 
--- What is replied to a request for a list or a silence: the bytes that the bare sets give. One that is refused before its step
--- has its line of the table.
+-- The reply to a request for a list or a silence: the bytes that the bare sets give. A request that is refused before its step has
+-- its line of the table.
 abbrev pub RepliesBare : Dialect → List Mesh → List LogMesh → Result Event Refusal → ℕ → ReplyBytes → Type 0
 RepliesBare dialect silences log (Ok event) now reply = asks_shown event ≡ true → Says (IsBareBytes dialect silences log event now) reply
 RepliesBare dialect silences log (Err refusal) now reply = Says (λ bytes. bytes ≡ line_bytes (line_seen refusal)) reply
 
--- what is replied to a request, whatever it means
+-- the reply to a request, whatever it means
 pub record IsBareTold (dialect : Dialect) (silences : List Mesh) (log : List LogMesh) (request : Request) (bits now : ℕ) (reply : ReplyBytes) : Type 0 where
   pub meant : Result Event Refusal
   pub means : IsEventIn dialect request bits meant

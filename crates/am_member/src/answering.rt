@@ -1,4 +1,4 @@
-//! What comes of what a connection said, piece by piece.
+//! The answers to what a connection says, piece by piece.
 
 ghost use Rattle.std.specs.Prelude.{◌≡◌, false, None, Some, option_map};
 ghost use Rattle.std.specs.Option.{option_copied};
@@ -18,7 +18,7 @@ use am_peers::Fault;
 use am_version_order::Moment;
 use std::alloc::Global;
 
-/// Hands on an answer.
+/// Converts an answer to that of a session.
 fn replied(begun: PendingAnswer) -> SessionAnswer
     ensures reply { result.reply ≡ Some begun.making }
     ensures effects { result.effects ≡ record { outbox = begun.outbox; ticked = false } }
@@ -57,7 +57,7 @@ fn reply_to(
 ///
 /// # Errors
 ///
-/// [`Fault::UnknownName`] where no peer has the name, and the [`Fault::Step`] of the first frame that is refused. The steps
+/// [`Fault::UnknownName`] if no peer has the name, and the [`Fault::Step`] of the first frame that is refused. The steps
 /// before it stand.
 fn step_named(
     instance: &mut Instance,
@@ -82,7 +82,7 @@ fn step_named(
     Ok(())
 }
 
-/// A fault of a session or none, as one of its connection.
+/// Converts the fault of a session, if there is one, to that of its connection.
 fn fault_heard(fault: Option<SessionFault>) -> Option<Fault>
     ensures { result ≡ option_map fault_heard fault }
 {
@@ -93,7 +93,7 @@ fn fault_heard(fault: Option<SessionFault>) -> Option<Fault>
     }
 }
 
-/// Makes the steps of frames that a session said, behind which it is at fault or goes on.
+/// Makes the steps of frames that a session said; `fault` is the session's own behind them, if it has one.
 fn hear(
     alloc: Global,
     instance: &mut Instance,
@@ -126,11 +126,11 @@ fn hear(
 }
 
 /// Answers what a connection said: a request by a step at `now` and a reply, frames by a step each at `now`. `bits` are
-/// random. `session` is the connection's own, by whose greeting the frames have their sender. The reply of a list is written
-/// afterwards, a stretch at a time: whatever it is finished with, it tells of the instance as it was in that step.
+/// random. `session` is the connection's own, whose greeting names the sender of the frames. The reply of a list is written
+/// afterwards, a stretch at a time: whenever it is finished, it tells of the instance as it was in that step.
 ///
-/// No more is heard of the connection where no peer has that name, which is told once the name came, or a step is refused;
-/// the steps before it stand. Where nothing was said, nothing else changes.
+/// Nothing more is heard of the connection if no peer has that name, which is told as soon as the name has come, or if a step is
+/// refused; the steps before it stand. If nothing was said, nothing else changes.
 pub fn apply_session_output(
     alloc: Global,
     instance: &mut Instance,
@@ -160,7 +160,7 @@ fn is_list(call: Result<Call<'_>, Cause>) -> bool
     matches!(call, Ok(Call::List { .. }))
 }
 
-/// Whether a request asks for a list, whose reply may take long to make.
+/// Returns whether a request asks for a list, whose reply may take long to make.
 pub fn is_list_request(read: &Read) -> bool
     ensures { IsListRequest read.now result }
 {

@@ -14,28 +14,28 @@ use am_wire::Text;
 use std::alloc::{AllocError, Global};
 use std::marker::Model;
 
-/// What is compiled of one request takes at most so many bytes, as they are counted for patterns that are kept.
-pub const MOST_PATTERN_BYTES: usize = 10 << 20;
+/// The maximum number of bytes that the compiled patterns of one request take, as they are counted for patterns that are kept.
+pub const MOST_PATTERN_BYTES: usize = 17 << 20;
 
-/// How far the patterns of a request have come.
+/// The progress of a request's patterns.
 #[derive(Clone, Copy, PartialEq, Eq)]
 pub enum Judged {
-    /// Some are still to be compiled.
+    /// Some patterns are still to be compiled.
     More,
-    /// All are that its answer asks for.
+    /// All patterns are compiled that the answer asks for.
     Done,
-    /// They take too much, and the request is to be refused.
+    /// The patterns take too much, and the request is to be refused.
     TooMuch,
 }
 
-/// The patterns of a request that are still to be compiled, and those that were. Contracts see these.
+/// The patterns of a request that are still to be compiled, and those that were. Contracts see the latter.
 pub struct Judging {
     dialect: Dialect,
     is_list: bool,
     left: Vec<Text>,
-    /// How many of them were compiled.
+    /// The number of patterns that were compiled.
     next: usize,
-    /// The bytes that are counted for those.
+    /// The bytes that are counted for those patterns.
     spent: usize,
     patterns: PatternCache,
 }
@@ -66,11 +66,11 @@ impl Model for Judging {
 }
 
 impl Judging {
-    /// The patterns of a request, before the first of them is compiled, which are those of the dialect. `None` where it has none.
+    /// Returns the patterns of a request in the dialect, before the first of them is compiled, or `None` if it has none.
     ///
     /// # Errors
     ///
-    /// [`AllocError`] where memory runs out.
+    /// [`AllocError`] if memory runs out.
     pub fn of(
         alloc: Global,
         dialect: Dialect,
@@ -92,14 +92,14 @@ impl Judging {
         }))
     }
 
-    /// Compiles the next pattern that isn't compiled yet: one that stands in the request before is. Behind a broken one none
-    /// is compiled, since the request is refused for that.
+    /// Compiles the next pattern that isn't compiled yet; one that also stands earlier in the request already is. After a broken
+    /// one none is compiled, since the request is refused for that one.
     ///
     /// # Errors
     ///
-    /// [`AllocError`] where memory runs out.
+    /// [`AllocError`] if memory runs out.
     pub fn go_on(&mut self) -> Result<Judged, AllocError>
-        ensures { IfOk result (λ judged. judged ≢ Judged.TooMuch → size_of_all self.new ≤ 10_485_760) }
+        ensures { IfOk result (λ judged. judged ≢ Judged.TooMuch → size_of_all self.new ≤ 17_825_792) }
     {
         for _ in self.next..self.left.len() {
             if self.prepare_next()? {
@@ -109,13 +109,13 @@ impl Judging {
         Ok(self.judged())
     }
 
-    /// Has the next pattern compiled. Answers whether it wasn't before.
+    /// Compiles the next pattern. Returns whether it wasn't compiled before.
     fn prepare_next(&mut self) -> Result<bool, AllocError> {
         let Some(pattern) = self.left.get(self.next) else {
             return Ok(false);
         };
         let prepared = self.patterns.prepare_in(self.dialect, pattern.as_str())?;
-        // (all that is kept was spent for)
+        // (all that is kept was counted as spent)
         let kept = self.patterns.size();
         self.spent = kept.max(self.spent.saturating_add(prepared.bytes));
         self.next = if prepared.is_broken {
@@ -126,9 +126,9 @@ impl Judging {
         Ok(prepared.bytes > 0)
     }
 
-    /// How far they have come.
+    /// Returns how far the patterns have come.
     fn judged(&self) -> Judged
-        ensures { result ≢ Judged.TooMuch → size_of_all self.now ≤ 10_485_760 }
+        ensures { result ≢ Judged.TooMuch → size_of_all self.now ≤ 17_825_792 }
     {
         if self.spent > MOST_PATTERN_BYTES {
             Judged::TooMuch
@@ -139,7 +139,7 @@ impl Judging {
         }
     }
 
-    /// What a request is refused with whose patterns take too much.
+    /// Returns the refusal of a request whose patterns take too much.
     pub fn refusal(&self) -> Refusal
         ensures { (line_seen result ≡ line_of causes.BadFilter) ⊎ (line_seen result ≡ refused_line errors.BadPattern) }
     {
@@ -150,7 +150,7 @@ impl Judging {
         }
     }
 
-    /// The patterns that were compiled.
+    /// Returns the patterns that were compiled.
     pub fn into_patterns(self) -> PatternCache
         ensures { result ≡ self }
     {

@@ -15,12 +15,12 @@ ghost use Rattle.am_peers.specs.Outgoing.{is_name};
 use am_http::session::laws::pieces_are_their_bytes;
 use am_instance::laws::{calm_steps_reply_as_the_bare_sets, steps_show_the_bare_sets};
 
-/// A member's name is one that a greeting may have: what a member sends is never refused for its own name.
+/// States that a member's name is one that a greeting may have: what a member sends is never refused for its own name.
 pub fn names_of_members_are_sent()
     ensures { (names : List (List ℕ)) (own : ℕ) (name : List ℕ) → AreMembers names own → Contains names name → is_name name ≡ true }
 {}
 
-/// What a connection said is what all its bytes say, whatever came of other connections between them.
+/// States that a connection said what all its bytes say, whatever came of other connections between them.
 pub fn connections_say_what_their_bytes_say()
     ensures { (standings : ℕ → Standing) (start new : InstanceState) (deeds : List Deed) (connection : ℕ) →
         IsLife standings start deeds new → standings connection ≡ fresh → AllByRecursion IsHeardOut (turns_of connection deeds) →
@@ -29,15 +29,16 @@ pub fn connections_say_what_their_bytes_say()
     pieces_are_their_bytes();
 }
 
-/// A member's life is steps of its instance, one after the other: the turns of any connections in any interleaving, whose events
-/// are those of what was said, each at the moment of its turn; and between them the steps that the member made by itself.
+/// States that a member's life is steps of its instance, one after the other: the turns of any connections in any interleaving,
+/// whose events are those of what was said, each at the moment of its turn; and between them the steps that the member made by
+/// itself.
 pub fn lives_are_steps()
     // PROMISE: Any interleaving of connections is one list of steps.
     ensures { (standings : ℕ → Standing) (start new : InstanceState) (deeds : List Deed) → IsLife standings start deeds new →
         (steps : List Happened) × AreStepsOfAll start deeds steps × AreMade start steps new }
 {}
 
-/// So what a member shows, from the last of its steps on, is what the bare sets show of all versions that it began with or that
+/// States that a member shows, from the last of its steps on, what the bare sets show of all versions that it began with or that
 /// were delivered to it by requests and peers, for each map that the steps were calm for; its Ticks are among the steps.
 pub fn lives_show_the_bare_sets()
     ensures { (standings : ℕ → Standing) (start new : InstanceState) (deeds : List Deed) → HasMaps start →
@@ -48,8 +49,8 @@ pub fn lives_show_the_bare_sets()
     steps_show_the_bare_sets();
 }
 
-/// And the bytes that a request for a list or a silence is replied are, after calm steps, those that the bare sets give of all
-/// that came before it, however long they take to be written.
+/// States that the bytes of the reply to a request for a list or a silence are, after calm steps, those that the bare sets give of
+/// all that came before it, however long they take to be written.
 pub fn lives_reply_as_the_bare_sets()
     // PROMISE: After calm steps a list's reply is, byte for byte, that of everything that came.
     ensures { (standings : ℕ → Standing) (start stand : InstanceState) (deeds : List Deed) (turn : Turn) (request : Request) →

@@ -1,4 +1,4 @@
-//! A member of a cluster: what comes of what its connections say.
+//! A member of a cluster, which answers what its connections say.
 #![tactic(auto)]
 
 mod answering;

@@ -5,7 +5,7 @@ ghost use Rattle.am_member.specs.Incoming.{IsOnlyPeerOf, IsPeerOf};
 
 use am_instance::{Config, Place};
 
-/// The place of the peer of this name.
+/// Returns the place of the peer of this name.
 pub fn peer_named(config: &Config, name: &str) -> Option<Place>
     ensures found { IfSome result (IsOnlyPeerOf config.now name.now) }
     ensures none { result ≡ None → (place : ℕ) → ¬ IsPeerOf config.now name.now place }

@@ -1,4 +1,4 @@
-//! What comes of what a connection said.
+//! The answers to what connections say.
 
 ghost use Rattle.std.specs.Prelude.{◌≡◌, None};
 ghost use Rattle.am_instance.specs.Sendings.{sent_by};
@@ -9,16 +9,16 @@ use am_instance::{FrameSender, Outcome};
 use am_peers::Fault;
 use std::alloc::Global;
 
-/// What steps have for effects besides those on the instance.
+/// The effects of steps besides those on the instance.
 #[derive(Drop)]
 pub struct StepEffects {
     pub outbox: FrameSender,
-    /// A Tick was among the steps that were made.
+    /// True if a Tick was among the steps that were made.
     pub ticked: bool,
 }
 
 impl StepEffects {
-    /// No step was made. It takes no memory.
+    /// Returns the effects of no step. It takes no memory.
     pub(crate) fn none(alloc: Global) -> StepEffects
         ensures { result ≡ no_effects }
     {
@@ -28,7 +28,7 @@ impl StepEffects {
         }
     }
 
-    /// Adds the effects of one more step. Frames that there is no memory for are counted.
+    /// Adds the effects of one more step. Frames for which there is no memory are counted.
     pub(crate) fn add(&mut self, outcome: Outcome, ticks: bool)
         ensures { Adds (sent_by outcome) ticks self.old self.new }
     {
@@ -38,18 +38,18 @@ impl StepEffects {
     }
 }
 
-/// What came of what a connection said.
+/// The answer to what a connection said.
 #[derive(Drop)]
 pub struct SessionAnswer {
-    /// The reply, where a request was answered. That of a list is still to be written.
+    /// The reply, if a request was answered. That of a list is still to be written.
     pub reply: Option<PendingReply>,
     pub effects: StepEffects,
-    /// Why no more is heard of the connection.
+    /// The reason why nothing more is heard of the connection.
     pub fault: Option<Fault>,
 }
 
 impl SessionAnswer {
-    /// Nothing was answered, and no step was made. It takes no memory.
+    /// Returns an answer without a reply, of no step. It takes no memory.
     pub(crate) fn nothing(alloc: Global) -> SessionAnswer
         ensures reply { result.reply ≡ None }
         ensures effects { result.effects ≡ no_effects }

@@ -1,4 +1,4 @@
-//! What frames ask for beside what they bring, which may wait.
+//! Requests in frames, beside what the frames bring, that may wait.
 
 ghost use Rattle.std.specs.Prelude.{◌≡◌, All, filter, map};
 ghost use Rattle.std.specs.List.{list_any};
@@ -9,38 +9,38 @@ use am_gossip::Frame;
 use am_http::session::SessionOutput;
 use std::mem;
 
-/// What was said, without what its frames ask for.
+/// The output of a session without what its frames ask for.
 #[derive(Drop)]
 pub struct Spared {
     pub said: SessionOutput,
-    /// A Push asks for all that is held here.
+    /// True if a Push asks for all that is held here.
     pub asks: bool,
-    /// A Tick asks for a collection.
+    /// True if a Tick asks for a collection.
     pub ticks: bool,
 }
 
-/// Whether a frame asks for all that is held here.
+/// Returns whether a frame asks for all that is held here.
 fn is_push(frame: &Frame) -> bool
     ensures { result ≡ is_push frame.now }
 {
     matches!(frame, Frame::Push(_))
 }
 
-/// Whether a frame asks for a collection.
+/// Returns whether a frame asks for a collection.
 fn is_tick(frame: &Frame) -> bool
     ensures { result ≡ is_tick frame.now }
 {
     matches!(frame, Frame::Tick)
 }
 
-/// Whether a frame brings something.
+/// Returns whether a frame brings something.
 fn brings(frame: &Frame) -> bool
     ensures { result ≡ brings frame.now }
 {
     !is_tick(frame)
 }
 
-/// Takes what a frame asks for from it, and leaves what it brings.
+/// Removes from a frame what it asks for, and leaves what it brings.
 fn quieten(frame: &mut Frame)
     ensures same { quiet frame.new ≡ quiet frame.old }
     ensures quiet { quiet frame.new ≡ frame.new }
@@ -51,7 +51,7 @@ fn quieten(frame: &mut Frame)
     };
 }
 
-/// Takes from frames what they ask for.
+/// Removes from frames what they ask for.
 fn quieten_all(frames: &mut Vec<Frame>)
     ensures same { map quiet frames.new.items ≡ map quiet frames.old.items }
     ensures quiet { All (λ frame. quiet frame ≡ frame) frames.new.items }
@@ -61,29 +61,29 @@ fn quieten_all(frames: &mut Vec<Frame>)
     }
 }
 
-/// Drops the frames that bring nothing.
+/// Removes the frames that bring nothing.
 fn drop_ticks(frames: &mut Vec<Frame>)
     ensures { frames.new.items ≡ filter brings frames.old.items }
 {
     frames.retain(|frame| brings(frame));
 }
 
-/// Whether a Push is among frames.
+/// Returns whether a Push is among frames.
 fn any_push(frames: &[Frame]) -> bool
     ensures { result ≡ list_any is_push frames.now }
 {
     frames.iter().any(|frame| is_push(frame))
 }
 
-/// Whether a Tick is among frames.
+/// Returns whether a Tick is among frames.
 fn any_tick(frames: &[Frame]) -> bool
     ensures { result ≡ list_any is_tick frames.now }
 {
     frames.iter().any(|frame| is_tick(frame))
 }
 
-/// Parts what was said: what its frames bring is to be taken at once, and what they ask for is owed once, however often they
-/// do. It takes no memory.
+/// Splits what was said: what its frames bring is to be taken at once, and what they ask for is owed once, however often they
+/// ask. It takes no memory.
 pub fn spare(said: SessionOutput) -> Spared
     ensures said { spoken result.said ≡ spared (spoken said) }
     ensures asks { result.asks ≡ list_any is_push said.frames.items }

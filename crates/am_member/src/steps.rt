@@ -39,7 +39,7 @@ fn make_step(
 ///
 /// # Errors
 ///
-/// Why that one is refused. The steps before it stand.
+/// The reason why that one is refused. The steps before it stand.
 pub fn make_steps(
     instance: &mut Instance,
     effects: &mut StepEffects,

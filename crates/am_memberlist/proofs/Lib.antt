@@ -2,4 +2,5 @@ pub mod Again
 pub mod Maps
 pub mod Numbers
 pub mod Parts
+pub mod Searches
 pub mod Stretches

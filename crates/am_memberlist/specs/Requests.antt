@@ -11,7 +11,7 @@ number_text n =
     else if nat_lt n 4_294_967_296 then 0xce ∷ to_be_bytes w32 n
     else 0xcf ∷ to_be_bytes w64 n
 
--- the type of a push/pull; it joins no cluster, tells of no node, and so many bytes of states follow
+-- the type and the header of a push/pull that joins no cluster and names no node, with the number of bytes of states that follow
 abbrev pub header : ℕ → List ℕ
 header size = 6 ∷ 0x83 ∷ 0xa4 ∷ (codes "Join" ++ 0xc2 ∷ 0xa5 ∷ (codes "Nodes" ++ 0 ∷ 0xac ∷ (codes "UserStateLen" ++ number_text size)))
 

@@ -1,4 +1,4 @@
--- What the code returns, without where it lies in memory.
+-- The code's results, without their places in memory.
 use Rattle.std.specs.Prelude.{ℕ, List, map, Option, Some, None, Result, Ok, Err}
 use Rattle.std.specs.Prelude.{Vec}
 use Rattle.std.specs.declared.alloc.Global.{Global}
@@ -56,3 +56,11 @@ found_seen (Some row) = Some row.now
 abbrev pub row_seen : Result (Option (Bor (List ℕ))) AnswerError → Result (Option (List ℕ)) AnswerError
 row_seen (Ok row) = Ok (found_seen row)
 row_seen (Err e) = Err e
+
+abbrev pub row_owned : Option (Vec ℕ Global) → Option (List ℕ)
+row_owned None = None
+row_owned (Some row) = Some row.items
+
+abbrev pub owned_seen : Result (Option (Vec ℕ Global)) AnswerError → Result (Option (List ℕ)) AnswerError
+owned_seen (Ok row) = Ok (row_owned row)
+owned_seen (Err e) = Err e

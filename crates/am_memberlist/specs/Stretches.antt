@@ -1,4 +1,4 @@
--- Answers that are unpacked in stretches.
+-- Answers unpacked in stretches.
 use Rattle.std.specs.Prelude.{ℕ, List, drop, Result, Ok}
 use Rattle.am_lzw.specs.declared.unpacking.Stretch.{Stretch}
 use Rattle.am_lzw.specs.declared.unpacking.Stretch.TheVariants.{Whole, Part}
@@ -10,11 +10,11 @@ use Rattle.am_memberlist.specs.declared.error.AnswerError.{AnswerError}
 use Rattle.am_memberlist.specs.Answers.{◌>>=◌}
 use Rattle.am_memberlist.specs.Messages.{as_part, packed_in}
 
--- the message of a compressed answer, once one goes on from there
+-- the message of a compressed answer, unpacked on from a standing
 abbrev pub unpacked_from : List ℕ → Standing → Result (List ℕ) AnswerError
 unpacked_from answer standing = packed_in (drop 1 answer) >>= λ packed. as_part (rest packed standing)
 
--- once one goes on from what came of a stretch
+-- the message of a compressed answer, unpacked on from the result of a stretch
 abbrev pub stretch_of : List ℕ → Stretch → Result (List ℕ) AnswerError
 stretch_of answer (Whole message) = Ok message.items
 stretch_of answer (Part standing) = unpacked_from answer standing

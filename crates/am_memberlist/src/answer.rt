@@ -1,4 +1,4 @@
-//! Answers.
+//! Answers to a push/pull.
 
 ghost use Rattle.std.specs.Prelude.{◌≡◌, ◌≢◌, Err, drop, map, IfOk, IfErr};
 ghost use Rattle.am_memberlist.specs.Answers.{GivesUnlessMemory};
@@ -13,7 +13,7 @@ use crate::msgpack::{Pair, Scalar, map_at};
 use am_lzw::{Stretch, Unpacking, unpack};
 use std::alloc::Global;
 
-/// The most nodes of an answer.
+/// The maximum number of nodes in an answer.
 pub const MOST_NODES: u64 = 65_536;
 
 /// The type of a compressed message.
@@ -25,16 +25,16 @@ const PUSH_PULL: u8 = 6;
 /// The type of an error.
 const ERROR: u8 = 13;
 
-/// What a replica said.
+/// The content of a replica's answer.
 #[derive(Clone, Copy)]
 pub enum Said<'a> {
-    /// Its states.
+    /// The states of the replica.
     States(&'a [u8]),
-    /// Why it told none, in its own words.
+    /// The replica's reason, in its own words, for giving no states.
     Error(&'a [u8]),
 }
 
-/// The first pair of a key.
+/// Returns the first pair with a key.
 fn value_in<'a>(pairs: &[Pair<'a>], key: &str) -> Option<Pair<'a>>
     ensures { option_seen result ≡ value_in key.now (map pair_of pairs.now) }
 {
@@ -46,7 +46,7 @@ fn value_in<'a>(pairs: &[Pair<'a>], key: &str) -> Option<Pair<'a>>
     None
 }
 
-/// The number of a key; a missing one is 0.
+/// Returns the number at a key, or 0 if the key is missing.
 fn number_of(pair: Option<Pair<'_>>) -> Result<u64, AnswerError>
     ensures { result ≡ number_of (option_seen pair.entry) }
 {
@@ -59,7 +59,7 @@ fn number_of(pair: Option<Pair<'_>>) -> Result<u64, AnswerError>
     }
 }
 
-/// The bytes of a key.
+/// Returns the bytes at a key.
 fn raw_of(pair: Option<Pair<'_>>) -> Result<&[u8], AnswerError>
     ensures { bytes_seen result ≡ raw_of (option_seen pair.entry) }
 {
@@ -74,7 +74,7 @@ fn raw_of(pair: Option<Pair<'_>>) -> Result<&[u8], AnswerError>
     }
 }
 
-/// The bytes, where they are so many.
+/// Returns the bytes, if there are exactly `size` of them.
 fn exactly(bytes: &[u8], size: u64) -> Result<&[u8], AnswerError>
     ensures { bytes_seen result ≡ exactly size bytes.now }
 {
@@ -85,7 +85,7 @@ fn exactly(bytes: &[u8], size: u64) -> Result<&[u8], AnswerError>
     }
 }
 
-/// What is behind so many nodes.
+/// Returns the bytes after a number of nodes.
 fn behind_nodes(alloc: Global, bytes: &[u8], count: u64) -> Result<&[u8], AnswerError>
     ensures { GivesUnlessMemory (bytes_seen result) (behind_nodes count bytes.now) }
 {
@@ -97,7 +97,7 @@ fn behind_nodes(alloc: Global, bytes: &[u8], count: u64) -> Result<&[u8], Answer
     Ok(rest)
 }
 
-/// The states behind a header and its nodes.
+/// Returns the states after a header and its nodes.
 #[tactic(auto, unfolding(crate::specs::Messages::states_in))]
 fn states_in(alloc: Global, bytes: &[u8]) -> Result<&[u8], AnswerError>
     ensures { GivesUnlessMemory (bytes_seen result) (states_in bytes.now) }
@@ -112,7 +112,7 @@ fn states_in(alloc: Global, bytes: &[u8]) -> Result<&[u8], AnswerError>
     exactly(rest, size)
 }
 
-/// The words of an error.
+/// Returns the words of an error.
 #[tactic(auto, unfolding(crate::specs::Messages::words_in))]
 fn words_in(alloc: Global, bytes: &[u8]) -> Result<&[u8], AnswerError>
     ensures { GivesUnlessMemory (bytes_seen result) (words_in bytes.now) }
@@ -121,11 +121,11 @@ fn words_in(alloc: Global, bytes: &[u8]) -> Result<&[u8], AnswerError>
     raw_of(value_in(&pairs, "Error"))
 }
 
-/// Reads what a message says that isn't compressed, from its first byte to its last.
+/// Reads the content of an uncompressed message, from its first byte to its last.
 ///
 /// # Errors
 ///
-/// The first fault in the bytes, or [`AnswerError::Memory`].
+/// Returns the first fault in the bytes, or [`AnswerError::Memory`].
 #[tactic(auto, unfolding(crate::specs::Messages::message_in))]
 pub fn read_message(alloc: Global, bytes: &[u8]) -> Result<Said<'_>, AnswerError>
     // PROMISE: An answer is its header, its nodes and its states, or its first fault.
@@ -141,7 +141,7 @@ pub fn read_message(alloc: Global, bytes: &[u8]) -> Result<Said<'_>, AnswerError
     }
 }
 
-/// The bytes that a compressed message has in it, behind its type.
+/// Returns the compressed bytes of a message, after its type.
 #[tactic(auto, unfolding(crate::specs::Messages::packed_in))]
 fn packed_in(alloc: Global, bytes: &[u8]) -> Result<&[u8], AnswerError>
     ensures { GivesUnlessMemory (bytes_seen result) (packed_in bytes.now) }
@@ -156,7 +156,7 @@ fn packed_in(alloc: Global, bytes: &[u8]) -> Result<&[u8], AnswerError>
     Ok(packed)
 }
 
-/// The message in a compressed one.
+/// Unpacks the message in a compressed one.
 #[tactic(auto, unfolding(crate::specs::Messages::unpacked_in))]
 fn unpacked_in(alloc: Global, bytes: &[u8], most: usize) -> Result<Vec<u8>, AnswerError>
     ensures { GivesUnlessMemory (items_seen result) (unpacked_in most bytes.now) }
@@ -165,11 +165,11 @@ fn unpacked_in(alloc: Global, bytes: &[u8], most: usize) -> Result<Vec<u8>, Answ
     Ok(unpack(alloc, packed, most)?)
 }
 
-/// The message that an answer is, or that is compressed in it, which has at most `most` bytes.
+/// Returns the message of an answer, unpacked to at most `most` bytes if it is compressed.
 ///
 /// # Errors
 ///
-/// The first fault in what compresses it, or [`AnswerError::Memory`].
+/// Returns the first fault of the compression, or [`AnswerError::Memory`].
 #[tactic(auto, unfolding(crate::specs::Messages::plain_of))]
 pub fn unpack_answer(alloc: Global, answer: Vec<u8>, most: usize) -> Result<Vec<u8>, AnswerError>
     ensures { GivesUnlessMemory (items_seen result) (plain_of most answer.items) }
@@ -183,14 +183,14 @@ pub fn unpack_answer(alloc: Global, answer: Vec<u8>, most: usize) -> Result<Vec<
 /// An answer that is unpacked in stretches.
 #[derive(Drop)]
 pub enum Answer {
-    /// Its message.
+    /// The message of the answer.
     Message(Vec<u8>),
-    /// It is compressed, and how far it is unpacked.
+    /// The compressed answer, and the progress of its unpacking.
     Packed(Vec<u8>, Unpacking),
 }
 
 impl Answer {
-    /// An answer whose message has at most `most` bytes, if it is compressed. Nothing is unpacked yet.
+    /// Creates an answer, whose message has at most `most` bytes if it is compressed. Nothing is unpacked yet.
     #[tactic(auto, unfolding(crate::specs::Messages::plain_of))]
     pub fn new(alloc: Global, answer: Vec<u8>, most: usize) -> Answer
         ensures { message_of result ≡ plain_of most answer.items }
@@ -203,11 +203,11 @@ impl Answer {
         }
     }
 
-    /// Unpacks so many codes more, as [`Unpacking::go_on`] does.
+    /// Unpacks `count` more codes, as [`Unpacking::go_on`] does.
     ///
     /// # Errors
     ///
-    /// Those of [`unpack_answer`].
+    /// Returns the errors of [`unpack_answer`].
     pub fn go_on(self, alloc: Global, count: usize) -> Result<Answer, AnswerError>
         ensures found { IfOk result (λ answer. message_of answer ≡ message_of self) }
         ensures fault { IfErr result (λ e. e ≢ Memory → message_of self ≡ Err e) }
@@ -223,7 +223,7 @@ impl Answer {
     }
 }
 
-/// What is behind the type of a message.
+/// Returns the bytes after the type of a message.
 fn behind_type(message: &[u8]) -> &[u8]
     ensures { result.now ≡ drop 1 message.now }
 {
@@ -233,7 +233,7 @@ fn behind_type(message: &[u8]) -> &[u8]
     }
 }
 
-/// Unpacks a stretch more of a compressed answer.
+/// Unpacks one more stretch of a compressed answer.
 #[tactic(auto, using(crate::proofs::Stretches::stretched, crate::proofs::Stretches::at_fault, crate::proofs::Stretches::not_packed))]
 fn go_on_in(
     alloc: Global,

@@ -1,4 +1,4 @@
-//! Why an answer is not taken.
+//! Errors of reading an answer.
 
 ghost use Rattle.std.specs.Prelude.{◌≡◌};
 ghost use Rattle.am_memberlist.specs.Answers.{unpacking_fault, wire_fault};
@@ -9,44 +9,44 @@ use am_wire::{RowFault, WireError};
 use std::alloc::{AllocError, AllocFailed};
 use thiserror::Error;
 
-/// The first fault that stands. Nothing that stands behind it is taken.
+/// The first fault of an answer. Nothing after it is taken.
 #[derive(Clone, Copy, Debug, PartialEq, Eq, Error)]
 pub enum AnswerError {
     /// The connection was closed before a byte came.
     #[error("no answer")]
     Nothing,
-    /// The type of the message, its first byte, is none that answers a push/pull.
+    /// The type of the message, its first byte, is not one that answers a push/pull.
     #[error("message type {0}")]
     Kind(u8),
     #[error("it is cut")]
     Cut,
-    /// A value stands there that memberlist doesn't write there.
+    /// A value stands in a place where memberlist doesn't write it.
     #[error("a value of another form is wanted")]
     Form,
-    /// Another compression than LZW.
+    /// The compression is not LZW.
     #[error("compression {0}")]
     Compression(u64),
     #[error("more than 65,536 nodes")]
     Nodes,
-    /// Other bytes stand behind it than its header says.
+    /// The bytes after the header are not as many as it says.
     #[error("its length is another than it says")]
     Length,
-    /// A fault in what is compressed.
+    /// The compressed bytes are at fault.
     #[error("{0}")]
     Unpacking(LzwError),
-    /// A fault in the states.
+    /// The states are at fault.
     #[error("{0}")]
     Wire(WireError),
-    /// A state stands there twice.
+    /// A state is repeated.
     #[error("a state stands there twice")]
     Twice,
-    /// The replica told an error.
+    /// The replica reported an error.
     #[error("an error")]
     Error,
-    /// A state that is wanted isn't there.
+    /// A wanted state is missing.
     #[error("no such state")]
     NoState,
-    /// A fault in the row of a state.
+    /// The row of a state is at fault.
     #[error("{0}")]
     Row(RowFault),
     #[error("out of memory")]

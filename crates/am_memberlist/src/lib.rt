@@ -1,5 +1,5 @@
-//! Push/pull messages of hashicorp/memberlist, protocol version 2, by which running Alertmanagers tell one another all they
-//! hold: requests, which are written, and answers, which are read; and messages that tell of a state.
+//! Push/pull messages of hashicorp/memberlist, protocol version 2, by which running Alertmanagers tell one another all that they
+//! hold: writing requests, reading answers, and writing messages that tell of one state.
 #![tactic(auto)]
 
 mod answer;
@@ -9,8 +9,10 @@ mod msgpack;
 mod number;
 mod request;
 mod rows;
+mod searching;
 
 pub use answer::{Answer, MOST_NODES, Said, read_message, unpack_answer};
 pub use error::AnswerError;
 pub use request::{request_text, told_text};
 pub use rows::{part_text, row_in, states_text};
+pub use searching::{RowSearch, SearchStretch};

@@ -1,4 +1,4 @@
-//! The part of MessagePack that memberlist writes: maps of scalars, whose keys are texts. None stands in another.
+//! The part of MessagePack that memberlist writes: maps of scalars with texts as keys. Maps aren't nested.
 
 ghost use Rattle.std.specs.Prelude.{◌≡◌, ◌≤◌};
 ghost use Rattle.am_memberlist.specs.Msgpack.{bytes_of, number_width, text_width, blob_width, is_word, long_lead, lead_of, cut_at, number_in, text_in, scalar_at, pair_at, count_at, map_at};
@@ -9,13 +9,13 @@ use crate::error::AnswerError;
 use crate::number::big_endian;
 use std::alloc::Global;
 
-/// A value that stands in a map.
+/// A value in a map.
 #[derive(Clone, Copy)]
 pub enum Scalar<'a> {
     Number(u64),
     /// A text, or bytes.
     Raw(&'a [u8]),
-    /// Nothing, false or true.
+    /// Nil, false or true.
     Word,
 }
 
@@ -26,7 +26,7 @@ pub struct Pair<'a> {
     pub value: Scalar<'a>,
 }
 
-/// Of how many bytes a number is.
+/// The number of bytes of a number.
 #[derive(Clone, Copy, PartialEq, Eq)]
 pub enum Width {
     One,
@@ -36,7 +36,7 @@ pub enum Width {
 }
 
 impl Width {
-    /// So many bytes.
+    /// Returns the number of bytes.
     fn bytes(self) -> usize
         ensures value { result ≡ bytes_of self }
         ensures few { result ≤ 8 }
@@ -50,24 +50,24 @@ impl Width {
     }
 }
 
-/// What the first byte of a scalar says.
+/// The meaning of the first byte of a scalar.
 #[derive(Clone, Copy, PartialEq, Eq)]
 pub enum Lead {
-    /// It is this number.
+    /// The scalar is this number.
     Number(u8),
-    /// It is a word.
+    /// The scalar is a word.
     Word,
-    /// So many bytes follow.
+    /// This many bytes follow.
     Raw(u8),
-    /// A number of so many bytes follows.
+    /// A number of this width follows.
     NumberOf(Width),
-    /// A number of so many bytes follows, and then so many bytes.
+    /// A length of this width follows, and then as many bytes.
     RawOf(Width),
-    /// It is none that is written here.
+    /// The scalar is not one that memberlist writes here.
     Other,
 }
 
-/// Of how many bytes the number is that follows the first byte of a scalar, where it is one.
+/// Returns the width of the number after the first byte of a scalar, if the scalar is a number.
 fn number_width(byte: u8) -> Option<Width>
     ensures { result ≡ number_width byte }
 {
@@ -86,7 +86,7 @@ fn number_width(byte: u8) -> Option<Width>
     None
 }
 
-/// Of how many bytes the length is that follows the first byte of a scalar: of a text, where it is one.
+/// Returns the width of the length after the first byte of a scalar, if the scalar is a text.
 fn text_width(byte: u8) -> Option<Width>
     ensures { result ≡ text_width byte }
 {
@@ -102,7 +102,7 @@ fn text_width(byte: u8) -> Option<Width>
     None
 }
 
-/// The same of bytes that are no text.
+/// Returns the width of the length after the first byte of a scalar, if the scalar is bytes and no text.
 fn blob_width(byte: u8) -> Option<Width>
     ensures { result ≡ blob_width byte }
 {
@@ -118,14 +118,14 @@ fn blob_width(byte: u8) -> Option<Width>
     None
 }
 
-/// Whether the byte is nothing, false or true.
+/// Returns whether the byte is nil, false or true.
 fn is_word(byte: u8) -> bool
     ensures { result ≡ is_word byte }
 {
     byte == 192 || byte == 194 || byte == 195
 }
 
-/// What the first byte of a scalar says that is neither a word nor has its number in itself.
+/// Returns the meaning of a first byte that is no word and doesn't contain its number.
 fn long_lead(byte: u8) -> Lead
     ensures { result ≡ long_lead (number_width byte) (text_width byte) (blob_width byte) }
 {
@@ -141,7 +141,7 @@ fn long_lead(byte: u8) -> Lead
     }
 }
 
-/// What the first byte of a scalar says.
+/// Returns the meaning of the first byte of a scalar.
 fn lead_of(byte: u8) -> Lead
     ensures { result ≡ lead_of byte }
 {
@@ -160,7 +160,7 @@ fn lead_of(byte: u8) -> Lead
     long_lead(byte)
 }
 
-/// The first bytes, and those behind them.
+/// Returns the first `count` bytes, and those after them.
 fn cut_at(bytes: &[u8], count: usize) -> Result<(&[u8], &[u8]), AnswerError>
     ensures { cut_seen result ≡ cut_at count bytes.now }
 {
@@ -170,7 +170,7 @@ fn cut_at(bytes: &[u8], count: usize) -> Result<(&[u8], &[u8]), AnswerError>
     Ok(bytes.split_at(count))
 }
 
-/// The number in the first bytes, and what is behind them.
+/// Returns the number in the first bytes, and the bytes after it.
 fn number_in(bytes: &[u8], width: Width) -> Result<(u64, &[u8]), AnswerError>
     ensures { number_seen result ≡ number_in width bytes.now }
 {
@@ -178,7 +178,7 @@ fn number_in(bytes: &[u8], width: Width) -> Result<(u64, &[u8]), AnswerError>
     Ok((big_endian(digits), rest))
 }
 
-/// The bytes behind their length, and what is behind them.
+/// Returns the bytes after their length, and the bytes after them.
 fn text_in(bytes: &[u8], width: Width) -> Result<(&[u8], &[u8]), AnswerError>
     ensures { cut_seen result ≡ text_in width bytes.now }
 {
@@ -186,7 +186,7 @@ fn text_in(bytes: &[u8], width: Width) -> Result<(&[u8], &[u8]), AnswerError>
     cut_at(rest, size as usize)
 }
 
-/// The scalar at the front of the bytes, and what is behind it.
+/// Returns the scalar at the front of the bytes, and the bytes after it.
 #[tactic(auto, unfolding(crate::specs::Msgpack::scalar_at))]
 fn scalar_at(bytes: &[u8]) -> Result<(Scalar<'_>, &[u8]), AnswerError>
     ensures { scalar_seen result ≡ scalar_at bytes.now }
@@ -213,7 +213,7 @@ fn scalar_at(bytes: &[u8]) -> Result<(Scalar<'_>, &[u8]), AnswerError>
     }
 }
 
-/// The key and the value at the front of the bytes, and what is behind them.
+/// Returns the key and the value at the front of the bytes, and the bytes after them.
 #[tactic(auto, unfolding(crate::specs::Msgpack::pair_at))]
 fn pair_at(bytes: &[u8]) -> Result<(Pair<'_>, &[u8]), AnswerError>
     ensures { pair_seen result ≡ pair_at bytes.now }
@@ -226,7 +226,7 @@ fn pair_at(bytes: &[u8]) -> Result<(Pair<'_>, &[u8]), AnswerError>
     Ok((Pair { key, value }, rest))
 }
 
-/// How many pairs the map at the front of the bytes has, and what is behind its first byte.
+/// Returns the number of pairs in the map at the front of the bytes, and the bytes after its first one.
 fn count_at(bytes: &[u8]) -> Result<(u8, &[u8]), AnswerError>
     ensures { number_seen result ≡ count_at bytes.now }
 {
@@ -242,7 +242,7 @@ fn count_at(bytes: &[u8]) -> Result<(u8, &[u8]), AnswerError>
     Err(AnswerError::Form)
 }
 
-/// The pairs of the map at the front of the bytes, and what is behind it.
+/// Returns the pairs of the map at the front of the bytes, and the bytes after it.
 pub fn map_at(alloc: Global, bytes: &[u8]) -> Result<(Vec<Pair<'_>>, &[u8]), AnswerError>
     ensures { GivesUnlessMemory (map_seen result) (map_at bytes.now) }
 {

@@ -1,9 +1,9 @@
-//! Numbers of so many bytes, the highest first.
+//! Big-endian numbers.
 
 ghost use Rattle.std.specs.Prelude.{◌≡◌, ◌≤◌, length};
 ghost use Rattle.std.specs.Slice.Scan.{big_endian};
 
-/// The number that bytes spell, the highest first.
+/// Returns the number that bytes spell, the highest first.
 pub fn big_endian(bytes: &[u8]) -> u64
     requires { length bytes.now ≤ 8 }
     ensures { result ≡ big_endian 0 bytes.now }

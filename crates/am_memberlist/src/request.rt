@@ -1,14 +1,14 @@
-//! Requests.
+//! Requests of a push/pull.
 
 ghost use Rattle.std.specs.Prelude.{◌≡◌, ◌++◌, length, IfOk, OnOk};
 ghost use Rattle.am_memberlist.specs.Requests.{number_text, request_text, told_text};
 
 use std::alloc::{AllocError, Global};
 
-/// What a request begins with: its type, and all of its header but the last number. It joins no cluster, and tells of no node.
+/// The beginning of a request: its type, and all of its header but the last number. It joins no cluster, and names no node.
 const HEAD: [u8; 28] = *b"\x06\x83\xa4Join\xc2\xa5Nodes\x00\xacUserStateLen";
 
-/// What a message begins with that tells of a state: its type, and all of its header but the number.
+/// The beginning of a message that tells of a state: its type, and all of its header but the number.
 const TOLD_HEAD: [u8; 13] = *b"\x08\x81\xaaUserMsgLen";
 
 /// Adds a number in its shortest form.
@@ -34,12 +34,12 @@ fn add_number(out: &mut Vec<u8>, number: u64) -> Result<(), AllocError>
     out.extend_from_slice(&number.to_be_bytes())
 }
 
-/// A push/pull: it asks for all states, and gives these, which may be none. Its header claims exactly the bytes that follow, and
-/// no nodes, and nothing is compressed.
+/// Returns a push/pull that asks for all states, and gives these, which may be none. Its header claims exactly the bytes that
+/// follow, and no nodes, and nothing is compressed.
 ///
 /// # Errors
 ///
-/// [`AllocError`] where memory runs out.
+/// Returns [`AllocError`] if memory runs out.
 pub fn request_text(alloc: Global, states: &[u8]) -> Result<Vec<u8>, AllocError>
     // PROMISE: A request claims exactly the bytes that follow, no nodes, and nothing compressed.
     ensures { IfOk result (λ text. text.items ≡ request_text states.now) }
@@ -51,12 +51,12 @@ pub fn request_text(alloc: Global, states: &[u8]) -> Result<Vec<u8>, AllocError>
     Ok(text)
 }
 
-/// A message that gives a part of a state, and asks nothing: nothing comes back. Its header claims exactly the bytes that follow,
-/// and nothing is compressed.
+/// Returns a message that gives a part of a state and asks for nothing: no reply comes. Its header claims exactly the bytes that
+/// follow, and nothing is compressed.
 ///
 /// # Errors
 ///
-/// [`AllocError`] where memory runs out.
+/// Returns [`AllocError`] if memory runs out.
 pub fn told_text(alloc: Global, part: &[u8]) -> Result<Vec<u8>, AllocError>
     // PROMISE: What a replica is told claims exactly the bytes that follow, and nothing compressed.
     ensures { IfOk result (λ text. text.items ≡ told_text part.now) }

@@ -1,4 +1,4 @@
-//! The rows of the states that a replica told, and is told: a full state, in which each stands as a part under its key.
+//! The rows of the states that replicas tell one another: a full state, in which each state is a part with its key.
 
 ghost use Rattle.std.specs.Prelude.{◌≡◌, ◌+◌, ◌<◌, ◌^◌, bytes_eq, length, IfOk};
 ghost use Rattle.am_wire.specs.Fields.{field_of};
@@ -15,7 +15,7 @@ use am_wire::writing::{write_delimited, write_text};
 use am_wire::{Field, Value, WireError, WireType};
 use std::alloc::{AllocError, Global};
 
-/// A part as it is read: its key, and the row behind it.
+/// A part while it is read: its key, and its row.
 #[derive(Clone, Copy)]
 pub struct PartDraft<'a> {
     key: LastText<'a>,
@@ -70,7 +70,7 @@ impl<'a> MessageReader<'a> for PartDraft<'a> {
     }
 }
 
-/// Which wire types the fields of a full state may have.
+/// The wire types that the fields of a full state may have.
 pub struct PartFields;
 
 impl Schema for PartFields {
@@ -81,15 +81,15 @@ impl Schema for PartFields {
     }
 }
 
-/// Whether a text is the key of this state.
+/// Returns whether a text is the key of this state.
 fn is_key(text: &str, key: StateKey) -> bool
     ensures { result ≡ bytes_eq text.now (key_text key) }
 {
     text == key.as_str()
 }
 
-/// The row of a part, where it is of this state; the part begins at the offset `at`.
-fn part_row<'a>(
+/// Returns the row of a part, if the part belongs to this state; the part begins at the offset `at`.
+pub fn part_row<'a>(
     alloc: Global,
     bytes: &'a [u8],
     at: usize,
@@ -107,7 +107,7 @@ fn part_row<'a>(
     }
 }
 
-/// The row that was found, or else that of the part that a field is.
+/// Returns the row found before, or else that of the part in a field.
 fn with_part<'a>(
     alloc: Global,
     found: Option<&'a [u8]>,
@@ -126,12 +126,12 @@ fn with_part<'a>(
     }
 }
 
-/// The row of a state in what a replica told, as it stands there; none where the replica has no such state. Parts of other
-/// states are passed over.
+/// Returns the row of a state in a replica's full state, as it stands there, or `None` if the replica has no such state. Parts of
+/// other states are skipped.
 ///
 /// # Errors
 ///
-/// [`AnswerError::Wire`] or [`AnswerError::Twice`], the first fault in the bytes; or [`AnswerError::Memory`].
+/// Returns [`AnswerError::Wire`] or [`AnswerError::Twice`], the first fault in the bytes; or [`AnswerError::Memory`].
 pub fn row_in<'a>(
     alloc: Global,
     states: &'a [u8],
@@ -146,11 +146,11 @@ pub fn row_in<'a>(
     Ok(found)
 }
 
-/// The part of a state, by its row.
+/// Returns the part of a state with this row.
 ///
 /// # Errors
 ///
-/// [`AllocError`] where memory runs out.
+/// Returns [`AllocError`] if memory runs out.
 #[tactic(auto, unfolding(crate::specs::Rows::part_text))]
 pub fn part_text(alloc: Global, key: StateKey, row: &[u8]) -> Result<Vec<u8>, AllocError>
     ensures { IfOk result (λ text. text.items ≡ part_text key row.now) }
@@ -163,11 +163,11 @@ pub fn part_text(alloc: Global, key: StateKey, row: &[u8]) -> Result<Vec<u8>, Al
     Ok(part)
 }
 
-/// The states of which one alone is told, by its row.
+/// Returns the full state with one state alone, by its row.
 ///
 /// # Errors
 ///
-/// [`AllocError`] where memory runs out.
+/// Returns [`AllocError`] if memory runs out.
 #[tactic(auto, unfolding(crate::specs::Rows::states_text))]
 pub fn states_text(alloc: Global, key: StateKey, row: &[u8]) -> Result<Vec<u8>, AllocError>
     ensures { IfOk result (λ text. text.items ≡ states_text key row.now) }

@@ -12,14 +12,14 @@ use std::alloc::{AllocError, Global};
 /// A version that may be handed to an Alertmanager if it has no hazard: an Alertmanager takes whatever comes by gossip, and
 /// doesn't validate it.
 pub trait Handed: Version {
-    /// The version has this hazard, or none.
+    /// The relation between a version and its hazard, or none.
     ghost is_hazard: { Self → Option Hazard → Type 0 };
 
     /// Returns the hazard of the version, if it has one.
     ///
     /// # Errors
     ///
-    /// [`AllocError`] where memory runs out.
+    /// [`AllocError`] if memory runs out.
     fn hazard(&self, alloc: Global) -> Result<Option<Hazard>, AllocError>
         ensures { IfOk result (is_hazard self.now) };
 }
@@ -39,7 +39,7 @@ impl Handed for MeshEntry {
 
     ghost is_hazard = { λ _ found. found ≡ None };
 
-    /// Returns none: nothing of an entry is compiled or matched.
+    /// Returns no hazard: nothing in an entry is compiled or matched.
     fn hazard(&self, _alloc: Global) -> Result<Option<Hazard>, AllocError> {
         Ok(None)
     }

@@ -1,5 +1,5 @@
-//! Mending a live replica: which versions it lacks, which it is given, which can be handed to it at all, and why it doesn't hold one
-//! that was sent.
+//! The mending of a live replica: the versions that it lacks, those that it is given, those that can be handed to it at all, and
+//! why it doesn't hold one that was sent.
 #![tactic(auto)]
 
 mod given;

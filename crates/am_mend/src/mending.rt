@@ -1,4 +1,4 @@
-//! What a replica lacks.
+//! The versions that a replica lacks.
 
 ghost use Rattle.std.specs.Prelude.{◌≡◌, map, IfOk};
 ghost use Rattle.am_merge.specs.Maps.{replaces};
@@ -8,7 +8,7 @@ use am_merge::Held;
 use am_version_order::Version;
 use std::alloc::{AllocError, Global};
 
-/// Whether a version is greater than what a map has at its key, or the first there. It takes no memory.
+/// Returns whether a version is greater than what a map has at its key, or the first there. It takes no memory.
 #[tactic(auto, unfolding(am_version_order::specs::Versions::is_below))]
 pub fn is_lacked<V: Version>(held: &Held<V>, version: &V) -> bool
     ensures { result ≡ replaces V.seen V.Key.cmp held.now version.now }
@@ -19,12 +19,12 @@ pub fn is_lacked<V: Version>(held: &Held<V>, version: &V) -> bool
     }
 }
 
-/// The versions of a map that another one lacks: those greater than what it has at their key, or the first there. They stand in
-/// the order of their keys, so none comes twice.
+/// Returns the versions of a map that another one lacks: those greater than what it has at their key, or the first there. They
+/// are in the order of their keys, with no key twice.
 ///
 /// # Errors
 ///
-/// [`AllocError`] where memory runs out.
+/// [`AllocError`] if memory runs out.
 pub fn lacked<'a, V: Version>(
     alloc: Global,
     held: &Held<V>,

@@ -1,4 +1,4 @@
-//! Why a version isn't held that was sent.
+//! The reasons why a version that was sent isn't held.
 
 ghost use Rattle.std.specs.Prelude.{◌≡◌};
 ghost use Rattle.std.specs.Option.{option_copied};
@@ -6,18 +6,18 @@ ghost use Rattle.am_mend.specs.Mending.{why_refused};
 
 use am_version_order::{Moment, Version};
 
-/// Why an Alertmanager doesn't hold a version that it was sent.
+/// The reason why an Alertmanager doesn't hold a version that it was sent.
 #[derive(Clone, Copy, PartialEq, Eq)]
 pub enum Refused {
-    /// Its expiry is past, and so it is dropped.
+    /// The version's expiry is past, so it was dropped.
     Expired,
-    /// What is held was updated at the same moment, and the first of both stays.
+    /// The held version was updated at the same moment, and the first of the two stays.
     Tie,
-    /// Neither; another version came meanwhile, or it was not taken.
+    /// Neither applies: another version came meanwhile, or this one wasn't taken.
     Other,
 }
 
-/// Why a version that was sent isn't held, where `held` is what stands at its key.
+/// Returns why a version that was sent isn't held, where `held` is what is at its key.
 pub fn why_refused<V: Version>(held: Option<&V>, version: &V, now: Moment) -> Refused
     ensures { result ≡ why_refused V.seen now (option_copied held.entry) version.now }
 {

@@ -4,19 +4,19 @@ use Rattle.am_merge.specs.declared.blocks.cursor.Cursor.{Cursor}
 use Rattle.am_merge.specs.Rows.{Rows, joined}
 
 module _ {T : Type 0} where
-  -- the block of a cursor, or no items behind the last block
+  -- the items of a cursor's block, which are none behind the last block
   abbrev pub block_at : List (List T) → Cursor → List T
   block_at blocks cursor = slice_index_or blocks cursor.block []
 
-  -- how many items of these blocks stand before a cursor
+  -- the number of items of these blocks before a cursor
   abbrev pub place_in : List (List T) → Cursor → ℕ
   place_in blocks cursor = length (joined (take cursor.block blocks)) + cursor.offset
 
-  -- how many items stand before a cursor
+  -- the number of a list's items before a cursor
   abbrev pub place : Rows T → Cursor → ℕ
   place rows cursor = place_in rows.blocks cursor
 
-  -- the cursor is that of an item
+  -- the cursor is at an item
   pub record IsItem (rows : Rows T) (cursor : Cursor) : Type 0 where
     pub offset : cursor.offset < length (block_at rows.blocks cursor)
 

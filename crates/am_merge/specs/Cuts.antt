@@ -1,7 +1,7 @@
 -- A block cut in two.
 use Rattle.std.specs.Prelude.{ℕ, List, [], ◌∷◌, ◌++◌, take, drop, suc, slice_index_or}
 
--- the blocks once the one of this number is cut before this offset
+-- the blocks after the one with this number is cut before this offset
 abbrev pub cut_at : {T : Type 0} → List (List T) → ℕ → ℕ → List (List T)
 cut_at blocks block offset =
     take block blocks

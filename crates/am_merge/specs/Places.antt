@@ -1,5 +1,5 @@
--- Where in a map a key is, or would go.
--- X is the type of versions, and `seen` is what the merge sees of one.
+-- The place of a key in a map, or the place at which it would be inserted.
+-- X is the type of the versions, and `seen` gives what the merge sees of one.
 use Rattle.std.specs.Prelude.{◌≡◌, ℕ, ◌<◌, ◌≤◌, List, All, length, take, drop}
 use Rattle.std.specs.List.{HoldsAt}
 use Rattle.std.specs.declared.cmp.Ordering.{Ordering}
@@ -12,7 +12,7 @@ module _ {K X : Type 0} (seen : X → Version K) (cmp : K → K → Ordering) wh
     pub in_range : i < length map
     pub here : HoldsAt (λ v. (seen v).key ≡ key) map i
 
-  -- no version has the key, and one that has it would go to place i
+  -- no version has the key, and one that has it would be inserted at place i
   pub record IsGapFor (map : List X) (key : K) (i : ℕ) : Type 0 where
     pub in_range : i ≤ length map
     pub below : All (λ v. cmp (seen v).key key ≡ Less) (take i map)

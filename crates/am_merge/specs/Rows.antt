@@ -1,15 +1,15 @@
--- Lists of items, cut into blocks.
+-- Lists of items, divided into blocks.
 use Rattle.std.specs.Prelude.{◌≡◌, ℕ, ◌+◌, ◌<◌, ◌≤◌, List, [], length, refl}
 use Rattle.std.specs.List.{All, flat_map}
 use Rattle.std.specs.Coded.{Coded, code_by, coded×, coded_ℕ, coded_list}
 
--- the items block by block, how many empty blocks wait, and how many blocks there is room to list
+-- the items block by block, the number of empty blocks in reserve, and the number of blocks that can be listed
 pub record Rows (T : Type 0) : Type 0 where
   pub blocks : List (List T)
   pub spare : ℕ
   pub capacity : ℕ
 
--- rows are stored as the tuple of their fields
+-- the code of rows, which are stored as the tuple of their fields
 abbrev pub rows_code : {T : Type 0} → Coded T → Coded (Rows T)
 rows_code {T} code =
     code_by
@@ -36,7 +36,7 @@ module _ {T : Type 0} where
   abbrev pub AreEmpty : List (List T) → Type 0
   AreEmpty blocks = All (λ block. block ≡ []) blocks
 
-  -- so many insertions take no memory
+  -- n insertions need no memory
   pub record HasRoom (rows : Rows T) (n : ℕ) : Type 0 where
     pub spares : n ≤ rows.spare
     pub places : length rows.blocks + n ≤ rows.capacity

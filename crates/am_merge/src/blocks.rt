@@ -1,4 +1,4 @@
-//! Lists of small items in order, kept in blocks, so that an insertion moves few of them.
+//! Ordered lists of small items, kept in blocks so that an insertion moves few of them.
 
 ghost use Rattle.std.specs.Prelude.{◌≡◌, ℕ, ◌+◌, [], length, drop, slice_get, Some, IsOk, IfOk, IfErr, IfSome, OnOk};
 ghost use Rattle.std.specs.List.{HoldsAt, insert, remove};
@@ -21,15 +21,15 @@ use std::cmp::Ordering;
 use std::marker::Model;
 pub use walk::Walk;
 
-/// A list of small items in order, in blocks of fewer than 128.
+/// An ordered list of small items, in blocks of fewer than 128.
 ///
-/// An insertion or a removal moves fewer than 128 items, and blocks where one is cut or goes.
+/// An insertion or a removal moves fewer than 128 items. It moves blocks only if one is cut or removed.
 ///
-/// Contracts see it as `Rows`: the items, block by block, and what room there is.
+/// Contracts see it as `Rows`: the items, block by block, and the room there is.
 #[derive(Drop)]
 pub struct Blocks<T: Copy> {
     blocks: Vec<Block<T>>,
-    // Empty blocks that wait for items.
+    // Empty blocks in reserve.
     spares: Vec<Block<T>>,
     alloc: Global,
 }
@@ -56,7 +56,7 @@ impl<T: Copy> Blocks<T> {
     ghost use Rattle.am_merge.specs.Cursors.{IsWithin, IsItem, place};
     ghost use Rattle.am_merge.specs.Searches.{IsRising, IsFound, IsMissing};
 
-    /// The empty list. It takes no memory.
+    /// Returns an empty list, without allocating.
     pub fn new(alloc: Global) -> Self
         ensures { result.blocks ≡ [] }
     {
@@ -67,11 +67,11 @@ impl<T: Copy> Blocks<T> {
         }
     }
 
-    /// A list of these items.
+    /// Returns a list of these items.
     ///
     /// # Errors
     ///
-    /// [`AllocError`] where memory runs out.
+    /// [`AllocError`] if memory runs out.
     pub fn from_slice(alloc: Global, items: &[T]) -> Result<Self, AllocError>
         ensures { IfOk result (λ list. entries list ≡ items.now) }
     {
@@ -86,18 +86,18 @@ impl<T: Copy> Blocks<T> {
         })
     }
 
-    /// Makes room, so that as many insertions can't fail.
+    /// Makes room for `additional` insertions, which can't fail then.
     ///
-    /// So many empty blocks wait then, since each insertion may need one: reserve for few at a time.
+    /// This keeps as many empty blocks in reserve, since each insertion may need one: reserve for few at a time.
     ///
     /// # Errors
     ///
-    /// Out of memory: the items stay as they are.
+    /// [`AllocError`] if memory runs out. The items are unchanged then.
     pub fn reserve(&mut self, additional: usize) -> Result<(), AllocError>
         ensures room { OnOk result (HasRoom self.new additional) }
         ensures items { self.new.blocks ≡ self.old.blocks }
         ensures kept { (n : ℕ) → HasRoom self.old n → HasRoom self.new n }
-        // Where there was room already, nothing is asked for.
+        // If there is room already, nothing is allocated.
         ensures succeeds { HasRoom self.old additional → IsOk result }
         ensures had_room { HasRoom self.old additional → self.new ≡ self.old }
     {
@@ -107,7 +107,7 @@ impl<T: Copy> Blocks<T> {
         fill(&mut self.spares, additional, self.alloc)
     }
 
-    /// Where an item is that is looked for, or else where it would go. It bisects.
+    /// Searches for an item by bisection, and returns its place, or the place at which it would be inserted.
     pub fn search<P: Probe<T>>(&self, probe: &P) -> Result<Cursor, Cursor>
         requires { IsRising (P.order probe.now) (entries self.now) }
         ensures found { IfOk result (IsFound (P.order probe.now) self.now) }
@@ -127,8 +127,8 @@ impl<T: Copy> Blocks<T> {
         }
     }
 
-    /// Where an item is, or else where it would go, as `search` has it. Where that is at the guess or next to
-    /// it, two comparisons tell; else it bisects.
+    /// Searches for an item as `search` does. If its place is at the guess or next to it, two comparisons are enough; otherwise
+    /// this bisects.
     pub fn search_near<P: Probe<T>>(&self, guess: Cursor, probe: &P) -> Result<Cursor, Cursor>
         requires { IsRising (P.order probe.now) (entries self.now) }
         ensures found { IfOk result (IsFound (P.order probe.now) self.now) }
@@ -140,8 +140,8 @@ impl<T: Copy> Blocks<T> {
         }
     }
 
-    /// Where an item is, or else where it would go, as `search` has it. A hint is a cheaper probe, of which
-    /// nothing is asked: where it goes by the same order, two comparisons of the other probe do.
+    /// Searches for an item as `search` does, with the help of a cheaper probe, which need not be right: if it follows the same
+    /// order, two comparisons by the other probe are enough.
     pub fn search_by<H: Probe<T>, P: Probe<T>>(&self, hint: &H, probe: &P) -> Result<Cursor, Cursor>
         requires { IsRising (P.order probe.now) (entries self.now) }
         ensures found { IfOk result (IsFound (P.order probe.now) self.now) }
@@ -155,7 +155,7 @@ impl<T: Copy> Blocks<T> {
         self.search_near(Cursor { block, offset }, probe)
     }
 
-    /// Where an item is, or else where it would go, where that is at the guess or next to it.
+    /// Returns the place of an item, or the place at which it would be inserted, if that is at the guess or next to it.
     fn near<P: Probe<T>>(&self, guess: Cursor, probe: &P) -> Option<Result<Cursor, Cursor>>
         requires { IsRising (P.order probe.now) (entries self.now) }
         ensures found { IfSome result (λ place. IfOk place (IsFound (P.order probe.now) self.now)) }
@@ -172,7 +172,7 @@ impl<T: Copy> Blocks<T> {
         }
     }
 
-    /// The place behind an item that is before what is looked for, where it goes there.
+    /// Returns the place behind the item at the cursor, which precedes what is searched for, if that would be inserted there.
     fn gap_behind<P: Probe<T>>(&self, cursor: Cursor, probe: &P) -> Option<Cursor>
         requires rising { IsRising (P.order probe.now) (entries self.now) }
         requires item { IsItem self.now cursor }
@@ -192,8 +192,8 @@ impl<T: Copy> Blocks<T> {
         if is_gap { Some(next) } else { None }
     }
 
-    /// The place of an item that is behind what is looked for, where it goes there. What stands in the block
-    /// before isn't looked at.
+    /// Returns the place of the item at the cursor, which follows what is searched for, if that would be inserted there. The
+    /// block before isn't examined.
     fn gap_before<P: Probe<T>>(&self, cursor: Cursor, probe: &P) -> Option<Cursor>
         requires rising { IsRising (P.order probe.now) (entries self.now) }
         requires item { IsItem self.now cursor }
@@ -213,7 +213,7 @@ impl<T: Copy> Blocks<T> {
         if is_gap { Some(cursor) } else { None }
     }
 
-    /// The item at a cursor.
+    /// Returns the item at a cursor.
     pub fn get(&self, cursor: Cursor) -> T
         requires { IsItem self.now cursor }
         ensures { slice_get (entries self.now) (place self.now cursor) ≡ Some result }
@@ -221,7 +221,7 @@ impl<T: Copy> Blocks<T> {
         self.blocks[cursor.block].as_slice()[cursor.offset]
     }
 
-    /// The first item, or `None` where there is none.
+    /// Returns the first item, or `None` if there is none.
     pub fn first(&self) -> Option<T>
         ensures { result ≡ slice_get (entries self.now) 0 }
     {
@@ -229,7 +229,7 @@ impl<T: Copy> Blocks<T> {
         block.as_slice().first().copied()
     }
 
-    /// The place behind the last item.
+    /// Returns the place behind the last item.
     pub fn end(&self) -> Cursor
         ensures within { IsWithin self.now result }
         ensures end { place self.now result ≡ length (entries self.now) }
@@ -246,7 +246,7 @@ impl<T: Copy> Blocks<T> {
         }
     }
 
-    /// All items in order.
+    /// Returns an iterator over all items in order.
     pub fn walk(&self) -> Walk<'_, T>
         ensures { result ≡ entries self.now }
     {
@@ -256,7 +256,7 @@ impl<T: Copy> Blocks<T> {
         }
     }
 
-    /// The items from a place on, in order.
+    /// Returns an iterator over the items from a place on, in order.
     pub fn walk_from(&self, cursor: Cursor) -> Walk<'_, T>
         requires { IsWithin self.now cursor }
         ensures { result ≡ drop (place self.now cursor) (entries self.now) }
@@ -270,7 +270,7 @@ impl<T: Copy> Blocks<T> {
         }
     }
 
-    /// Puts an item at a place. It takes no memory.
+    /// Inserts an item at a place, without allocating.
     pub fn insert(&mut self, cursor: Cursor, item: T)
         requires room { HasRoom self.old 1 }
         requires within { IsWithin self.old cursor }
@@ -280,7 +280,7 @@ impl<T: Copy> Blocks<T> {
         put(&mut self.blocks, &mut self.spares, cursor, item);
     }
 
-    /// Takes the item at a cursor out. It takes no memory.
+    /// Removes the item at a cursor, without allocating.
     pub fn remove(&mut self, cursor: Cursor)
         requires { IsItem self.old cursor }
         ensures items { entries self.new ≡ remove (entries self.old) (place self.old cursor) }

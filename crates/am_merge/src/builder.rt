@@ -1,4 +1,4 @@
-//! Maps that are built of many versions at once.
+//! A builder of maps from many versions at once.
 
 ghost use Rattle.std.specs.Prelude.{◌≡◌, ◌++◌, ◌∷◌, [], length, IfOk, OnOk, OnErr};
 ghost use Rattle.am_merge.specs.Views.{HoldsBest};
@@ -11,7 +11,7 @@ use std::alloc::{AllocError, Global};
 use std::marker::Model;
 use std::mem;
 
-/// What a map is built of: versions in any order, of which a key may have several.
+/// A builder of a map from versions in any order, of which a key may have several.
 ///
 /// Contracts see it as the list of its versions.
 #[derive(Drop)]
@@ -33,11 +33,11 @@ impl<V: Version> Model for HeldBuilder<V> {
 }
 
 impl<V: Version> HeldBuilder<V> {
-    /// The versions of a map, which has none then, with room for the entries of so many more.
+    /// Takes all versions out of a map, and makes room for `more` entries.
     ///
     /// # Errors
     ///
-    /// [`AllocError`] where memory runs out. The versions are gone then.
+    /// [`AllocError`] if memory runs out. The versions are lost then.
     pub fn of(held: &mut Held<V>, more: usize) -> Result<HeldBuilder<V>, AllocError>
         ensures same { IfOk result (λ builder. builder ≡ held.old) }
         ensures left { held.new ≡ [] }
@@ -50,7 +50,7 @@ impl<V: Version> HeldBuilder<V> {
         })
     }
 
-    /// How many versions there are.
+    /// Returns the number of versions.
     pub fn len(&self) -> usize
         ensures { result ≡ length self.now }
     {
@@ -61,7 +61,7 @@ impl<V: Version> HeldBuilder<V> {
     ///
     /// # Errors
     ///
-    /// [`AllocError`] where memory runs out. Nothing has changed then.
+    /// [`AllocError`] if memory runs out. Nothing has changed then.
     pub fn push(&mut self, version: V) -> Result<(), AllocError>
         ensures added { OnOk result (self.new ≡ self.old ++ version ∷ []) }
         ensures err { OnErr result (self.new ≡ self.old) }
@@ -70,11 +70,11 @@ impl<V: Version> HeldBuilder<V> {
         lay(&mut self.listing, version)
     }
 
-    /// The map of the greatest version of each key.
+    /// Builds the map of the greatest version of each key.
     ///
     /// # Errors
     ///
-    /// [`AllocError`] where memory runs out.
+    /// [`AllocError`] if memory runs out.
     pub fn build(self) -> Result<Held<V>, AllocError>
         // PROMISE: Of versions that are taken at once the greatest of each key is held, as if one came after the other.
         ensures { IfOk result (HoldsBest V.seen self) }

@@ -1,4 +1,4 @@
-//! Many versions at once: all go into a table, and each index is made anew.
+//! The filing of many versions at once: all go into a table, and each index is built anew.
 
 ghost use Rattle.std.specs.Prelude.{◌≡◌, ◌≢◌, ◌+◌, ◌++◌, ◌∷◌, [], ℕ, All, None, IsPermutation, IfOk, OnOk, OnErr, filter_map, length, map};
 ghost use Rattle.slab.specs.Slab.{get, slab_len, entries as slots};
@@ -26,7 +26,7 @@ pub struct Listing<V> {
     pub entries: Vec<BucketEntry>,
 }
 
-/// What a store has, with room in the list for more.
+/// Returns the versions of a store as a listing, with room for `more` entries.
 pub fn listing_of<V: Version>(
     store: Store<V>,
     more: usize,
@@ -50,7 +50,7 @@ pub fn listing_of<V: Version>(
     })
 }
 
-/// The entries of what a table has in the slots of keys, in the order of these, with room for so many.
+/// Returns the entries of a table's versions in the order of these keys, in a list with room for `size` entries.
 fn entries_of<V: Version>(
     table: &Slab<V>,
     keys: &Blocks<KeyEntry>,
@@ -68,11 +68,11 @@ fn entries_of<V: Version>(
     Ok(list)
 }
 
-/// Puts a version into the table, and its entry behind the others.
+/// Puts a version into the table, and appends its entry.
 ///
 /// # Errors
 ///
-/// [`AllocError`] where memory runs out. The versions stay as they are.
+/// [`AllocError`] if memory runs out. The versions are unchanged then.
 pub fn lay<V: Version>(listing: &mut Listing<V>, version: V) -> Result<(), AllocError>
     requires { IsListing V.seen V.head_of V.bucket_of listing.old }
     ensures listing { IsListing V.seen V.head_of V.bucket_of listing.new }
@@ -86,7 +86,7 @@ pub fn lay<V: Version>(listing: &mut Listing<V>, version: V) -> Result<(), Alloc
     Ok(())
 }
 
-/// The store of the greatest version of each key.
+/// Returns the store of the greatest version of each key.
 pub fn file<V: Version>(listing: Listing<V>, alloc: Global) -> Result<Store<V>, AllocError>
     requires { IsListing V.seen V.head_of V.bucket_of listing }
     ensures store { IfOk result (IsStore V.seen V.head_of V.Key.cmp V.bucket_of) }
@@ -107,7 +107,7 @@ pub fn file<V: Version>(listing: Listing<V>, alloc: Global) -> Result<Store<V>, 
     })
 }
 
-/// The greatest version of each key in the order of the keys, and the others.
+/// Returns the entries of the greatest version of each key in the order of the keys, and the other entries.
 fn best_first<V: Version>(
     table: &Slab<V>,
     mut entries: Vec<BucketEntry>,
@@ -118,7 +118,7 @@ fn best_first<V: Version>(
     ensures order { IfOk result (λ parted. IsMap V.seen V.Key.cmp (filed bucket_slot (get table.now) parted.firsts.items)) }
     ensures beaten { IfOk result (λ parted. All (IsBeatenBy V.seen (get table.now) parted.firsts.items) parted.ties.items) }
 {
-    // (numbers alone are sooner compared; behind that just those that tie by them are out of order)
+    // Comparing numbers alone is faster. After that only entries with equal numbers are out of order.
     sort(&mut entries, &ByHead)?;
     sort(
         &mut entries,
@@ -129,7 +129,7 @@ fn best_first<V: Version>(
     part(entries, &ByKey { table }, alloc)
 }
 
-/// Takes what is in the slots of entries out of a table.
+/// Removes the versions in the slots of these entries from a table.
 fn remove_all<V: Version>(table: &mut Slab<V>, gone: Vec<BucketEntry>)
     requires there { All (λ e. HasSlot table.old e.key.slot) gone.items }
     requires apart { AreApart bucket_slot gone.items }
@@ -142,7 +142,7 @@ fn remove_all<V: Version>(table: &mut Slab<V>, gone: Vec<BucketEntry>)
     }
 }
 
-/// The index by key that entries have in their order.
+/// Returns the index by key of entries that are in its order.
 fn file_keys(list: &[BucketEntry], alloc: Global) -> Result<Blocks<KeyEntry>, AllocError>
     ensures { IfOk result (λ keys. entries keys ≡ map (λ e. e.key) list.now) }
 {
@@ -153,7 +153,7 @@ fn file_keys(list: &[BucketEntry], alloc: Global) -> Result<Blocks<KeyEntry>, Al
     Blocks::from_slice(alloc, keys.as_slice())
 }
 
-/// The index by expiry of a table.
+/// Returns the index by expiry of a table.
 fn file_expiries<V: Version>(
     table: &Slab<V>,
     alloc: Global,
@@ -165,7 +165,7 @@ fn file_expiries<V: Version>(
     Blocks::from_slice(alloc, list.as_slice())
 }
 
-/// The entries by expiry of a table, in the order of the slots.
+/// Returns a table's entries by expiry, in the order of the slots.
 fn expiries_of<V: Version>(table: &Slab<V>, alloc: Global) -> Result<Vec<ExpiryEntry>, AllocError>
     ensures { IfOk result (λ list. list.items ≡ map (λ there. expiry_entry V.seen there.0 there) (slots table.now)) }
 {
@@ -177,7 +177,7 @@ fn expiries_of<V: Version>(table: &Slab<V>, alloc: Global) -> Result<Vec<ExpiryE
     Ok(list)
 }
 
-/// The index by bucket of a table, of its entries in the order of the keys.
+/// Returns the index by bucket of a table, from its entries in the order of the keys.
 fn file_buckets<V: Version>(
     table: &Slab<V>,
     mut list: Vec<BucketEntry>,
@@ -187,7 +187,7 @@ fn file_buckets<V: Version>(
     requires keys { IsKeyIndex V.seen V.head_of V.Key.cmp (get table.now) (map (λ e. e.key) list.items) }
     ensures { IfOk result (λ buckets. IsBucketIndex V.seen V.head_of V.Key.cmp V.bucket_of (get table.now) (entries buckets)) }
 {
-    // (those of one number stay in the order of the keys: where no two buckets have one, all are in order then)
+    // Entries with equal numbers stay in the order of the keys, so if no two buckets have the same number, all are in order then.
     sort(&mut list, &ByNumber)?;
     sort(
         &mut list,

@@ -1,4 +1,4 @@
-//! What taking, merging and sweeping do to a store.
+//! The effects of taking, merging and sweeping on a store.
 
 ghost use Rattle.std.specs.Prelude.{◌≡◌, ℕ, List, ◌+◌, ◌<◌, ◌≤◌, ◌++◌, [], ◌∷◌, length, take, count_by, IfErr, IfOk};
 ghost use Rattle.std.specs.Prelude.{IfSome, IfNone, IsOk, OnOk, OnErr, IsTrue, IsPermutation, true, false, ◌↔◌, insert};
@@ -17,7 +17,7 @@ use crate::store::{
 use am_version_order::{Moment, Version};
 use std::alloc::{AllocError, Global};
 
-/// Whether a version is greater than the one at the cursor, which has its key.
+/// Returns whether a version is greater than the one at the cursor, which has the same key.
 fn is_greater<V: Version>(store: &Store<V>, cursor: Cursor, version: &V) -> bool
     requires store { IsStore V.seen V.head_of V.Key.cmp V.bucket_of store.now }
     requires cursor { IsKeyCursor V.seen V.Key.cmp store.now (V.seen version.now).key cursor }
@@ -30,7 +30,7 @@ fn is_greater<V: Version>(store: &Store<V>, cursor: Cursor, version: &V) -> bool
     version_at(store, cursor).compare(version).is_lt()
 }
 
-/// Puts a version over the lesser one of its key. All growth comes before any change.
+/// Replaces the lesser version of a version's key. All allocation precedes all changes.
 fn put_over<V: Version>(store: &mut Store<V>, cursor: Cursor, version: V) -> Result<(), AllocError>
     requires store { IsStore V.seen V.head_of V.Key.cmp V.bucket_of store.old }
     requires cursor { IsKeyCursor V.seen V.Key.cmp store.old (V.seen version).key cursor }
@@ -47,7 +47,7 @@ fn put_over<V: Version>(store: &mut Store<V>, cursor: Cursor, version: V) -> Res
     Ok(())
 }
 
-/// Puts the first version of its key in. All growth comes before any change.
+/// Inserts the first version of a key. All allocation precedes all changes.
 pub fn put_new<V: Version>(
     store: &mut Store<V>,
     cursor: Cursor,
@@ -69,7 +69,7 @@ pub fn put_new<V: Version>(
     Ok(())
 }
 
-/// How many keys come with a version, and how many versions.
+/// Returns the number of keys and the number of versions that a version adds.
 pub fn needs<V: Version>(store: &Store<V>, version: &V) -> (usize, usize)
     requires { IsStore V.seen V.head_of V.Key.cmp V.bucket_of store.now }
     ensures keys { result.0 ≡ new_keys V.seen V.Key.cmp (versions store.now) version.now }
@@ -81,7 +81,7 @@ pub fn needs<V: Version>(store: &Store<V>, version: &V) -> (usize, usize)
     }
 }
 
-/// How many keys come with a version once another one was taken, and how many versions.
+/// Returns the number of keys and the number of versions that a version adds once another one is taken.
 pub fn needs_after<V: Version>(store: &Store<V>, before: &V, version: &V) -> (usize, usize)
     requires { IsStore V.seen V.head_of V.Key.cmp V.bucket_of store.now }
     ensures keys { (map : List V) → IsPut V.seen V.Key.cmp (versions store.now) before.now map →
@@ -102,8 +102,7 @@ pub fn needs_after<V: Version>(store: &Store<V>, before: &V, version: &V) -> (us
     (0, usize::from(before.compare(version).is_lt()))
 }
 
-/// Puts a version in where it is greater than the one that its key has, and says whether it did. Where
-/// it stays out nothing is asked for.
+/// Puts a version in if it is greater than the one of its key, and returns whether it is. If not, nothing is allocated.
 pub fn put<V: Version>(store: &mut Store<V>, version: V) -> Result<bool, AllocError>
     requires { IsStore V.seen V.head_of V.Key.cmp V.bucket_of store.old }
     ensures store { IsStore V.seen V.head_of V.Key.cmp V.bucket_of store.new }
@@ -133,8 +132,7 @@ pub fn put<V: Version>(store: &mut Store<V>, version: V) -> Result<bool, AllocEr
     }
 }
 
-/// Puts a copy in where the version is greater than the one that its key has, and says whether it did.
-/// Where it stays out it isn't copied.
+/// Puts a copy of a version in if it is greater than the one of its key, and returns whether it is. If not, it isn't copied.
 pub fn put_copy<V: Version>(
     store: &mut Store<V>,
     version: &V,
@@ -163,7 +161,7 @@ pub fn put_copy<V: Version>(
     }
 }
 
-/// Puts a version behind all others.
+/// Appends a version whose key is behind all others.
 pub fn append<V: Version>(store: &mut Store<V>, version: V) -> Result<(), AllocError>
     requires store { IsStore V.seen V.head_of V.Key.cmp V.bucket_of store.old }
     requires last { IsMap V.seen V.Key.cmp (versions store.old ++ version ∷ []) }
@@ -174,7 +172,7 @@ pub fn append<V: Version>(store: &mut Store<V>, version: V) -> Result<(), AllocE
     put_new(store, end, version)
 }
 
-/// Puts versions in the order of their keys, and says whether each has a key of its own.
+/// Sorts versions by their keys, and returns whether no two have the same key.
 pub fn order_by_key<V: Version>(versions: &mut Vec<V>) -> bool
     ensures same { IsPermutation versions.old.items versions.new.items }
     ensures map { IsTrue result → IsMap V.seen V.Key.cmp versions.new.items }
@@ -184,7 +182,7 @@ pub fn order_by_key<V: Version>(versions: &mut Vec<V>) -> bool
     versions.is_sorted_by(|one, next| one.key().cmp(next.key()).is_lt())
 }
 
-/// The store of versions that are in the order of their keys.
+/// Returns a store of versions that are in the order of their keys.
 pub fn from_sorted<V: Version>(alloc: Global, sorted: Vec<V>) -> Result<Store<V>, AllocError>
     requires { IsMap V.seen V.Key.cmp sorted.items }
     ensures store { IfOk result (IsStore V.seen V.head_of V.Key.cmp V.bucket_of) }
@@ -197,7 +195,7 @@ pub fn from_sorted<V: Version>(alloc: Global, sorted: Vec<V>) -> Result<Store<V>
     Ok(store)
 }
 
-/// A store with a copy of each version.
+/// Returns a store with a copy of each version.
 pub fn copy_store<V: Version>(held: &Store<V>, alloc: Global) -> Result<Store<V>, AllocError>
     requires { IsStore V.seen V.head_of V.Key.cmp V.bucket_of held.now }
     ensures store { IfOk result (IsStore V.seen V.head_of V.Key.cmp V.bucket_of) }
@@ -210,7 +208,7 @@ pub fn copy_store<V: Version>(held: &Store<V>, alloc: Global) -> Result<Store<V>
     Ok(store)
 }
 
-/// Takes copies of another store's versions in the order of their keys, and says how many came to be held.
+/// Takes copies of another store's versions in the order of their keys, and returns how many are held as a result.
 pub fn merge_in<V: Version>(
     store: &mut Store<V>,
     other: &Store<V>,
@@ -227,7 +225,7 @@ pub fn merge_in<V: Version>(
     ensures stopped { IfErr result (λ e.
         IsJoin V.seen V.Key.cmp (versions store.old) (take e.taken (versions other.now)) (versions store.new)) }
 {
-    // Neither count below goes past this one, so no sum is too large.
+    // Neither count below exceeds this one, so no sum overflows.
     let _size = other.table.len();
     let mut changed = 0;
     let mut taken = 0;
@@ -241,7 +239,7 @@ pub fn merge_in<V: Version>(
     Ok(changed)
 }
 
-/// The slot of the version that expires first, where it isn't live.
+/// Returns the slot of the version that expires first, if it isn't live.
 fn expired<V: Version>(store: &Store<V>, now: Moment) -> Option<usize>
     requires { IsStore V.seen V.head_of V.Key.cmp V.bucket_of store.now }
     ensures first { IfSome result (IsExpiredAt V.seen now store.now.table) }
@@ -255,7 +253,7 @@ fn expired<V: Version>(store: &Store<V>, now: Moment) -> Option<usize>
     }
 }
 
-/// Drops each version that isn't live, and says how many went. It takes no memory.
+/// Drops each version that isn't live, and returns how many were dropped. Nothing is allocated.
 pub fn drop_expired<V: Version>(store: &mut Store<V>, now: Moment) -> usize
     requires { IsStore V.seen V.head_of V.Key.cmp V.bucket_of store.old }
     ensures store { IsStore V.seen V.head_of V.Key.cmp V.bucket_of store.new }
@@ -269,7 +267,7 @@ pub fn drop_expired<V: Version>(store: &mut Store<V>, now: Moment) -> usize
     before - store.table.len()
 }
 
-/// What taking a version did, by whether it is live and whether it came to be held.
+/// Returns the result of taking a version, from whether it is live and whether it is held now.
 pub fn taken_as(is_live: bool, changed: bool) -> Taken
     ensures { result ≡ taken_by is_live changed }
 {

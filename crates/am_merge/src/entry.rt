@@ -1,4 +1,4 @@
-//! The small entries of a map's indexes, and what is looked for among them.
+//! The small entries of a map's indexes, and the probes that search among them.
 
 ghost use Rattle.std.specs.Prelude.{◌≡◌};
 ghost use Rattle.std.specs.Ordering.{nat_cmp, ordering_then};
@@ -12,21 +12,21 @@ use am_version_order::{Moment, Version};
 use slab::Slab;
 use std::cmp::Ordering;
 
-/// A version in the order of the keys: its key's number, and its slot.
+/// A version's entry in the index by key: the number of its key, and its slot.
 #[derive(Clone, Copy)]
 pub struct KeyEntry {
     pub head: u64,
     pub slot: usize,
 }
 
-/// A version in the order of the expiries: its expiry, and its slot.
+/// A version's entry in the index by expiry: its expiry, and its slot.
 #[derive(Clone, Copy)]
 pub struct ExpiryEntry {
     pub expires: Moment,
     pub slot: usize,
 }
 
-/// A key that is looked for, and its number.
+/// A probe for a key, with the key's number.
 #[derive(Drop)]
 pub struct KeyProbe<'a, V: Version> {
     pub table: &'a Slab<V>,
@@ -45,7 +45,7 @@ impl<'a, V: Version> Probe<KeyEntry> for KeyProbe<'a, V> {
     }
 }
 
-/// How the key of what is in a slot compares to another; an empty slot is before all keys.
+/// Compares the key of the version in a slot to another; an empty slot is before all keys.
 fn compare_key<V: Version>(table: &Slab<V>, slot: usize, key: &V::Key) -> Ordering
     ensures { result ≡ tie_of V.seen V.Key.cmp (get table.now slot) key.now }
 {
@@ -55,7 +55,7 @@ fn compare_key<V: Version>(table: &Slab<V>, slot: usize, key: &V::Key) -> Orderi
     }
 }
 
-/// An expiry and a slot that are looked for.
+/// A probe for an expiry and a slot.
 #[derive(Drop)]
 pub struct ExpiryProbe {
     pub expires: Moment,
@@ -73,14 +73,14 @@ impl Probe<ExpiryEntry> for ExpiryProbe {
     }
 }
 
-/// A version in the order of the buckets: its bucket's number, and its entry in the order of the keys.
+/// A version's entry in the index by bucket: the number of its bucket, and its entry in the index by key.
 #[derive(Clone, Copy)]
 pub struct BucketEntry {
     pub number: u64,
     pub key: KeyEntry,
 }
 
-/// A bucket that is looked for, and its number. No entry is it: what is found is where its entries begin.
+/// A probe for the beginning of a bucket's entries, with the bucket's number. No entry compares as equal.
 #[derive(Drop)]
 pub struct FrontProbe<'a, V: Version> {
     pub table: &'a Slab<V>,
@@ -99,7 +99,7 @@ impl<'a, V: Version> Probe<BucketEntry> for FrontProbe<'a, V> {
     }
 }
 
-/// The front of a bucket, as if no two buckets had one number: so no bytes of a bucket are looked at.
+/// A hint for the beginning of a bucket's entries, which treats the numbers of buckets as unique and reads no bytes.
 #[derive(Drop)]
 pub struct FrontHint {
     pub number: u64,
@@ -116,7 +116,7 @@ impl Probe<BucketEntry> for FrontHint {
     }
 }
 
-/// A key in a bucket that is looked for.
+/// A probe for a key in a bucket.
 #[derive(Drop)]
 pub struct BucketProbe<'a, V: Version> {
     pub front: FrontProbe<'a, V>,
@@ -136,7 +136,7 @@ impl<'a, V: Version> Probe<BucketEntry> for BucketProbe<'a, V> {
     }
 }
 
-/// What is looked for, as if no two buckets had one number: so no bytes of a bucket are looked at.
+/// A hint for a key in a bucket, which treats the numbers of buckets as unique and reads none of their bytes.
 #[derive(Drop)]
 pub struct NumberHint<'a, 'b, V: Version> {
     pub probe: &'b BucketProbe<'a, V>,
@@ -155,8 +155,8 @@ impl<'a, 'b, V: Version> Probe<BucketEntry> for NumberHint<'a, 'b, V> {
     }
 }
 
-/// Where an entry stands to a bucket. The bytes are looked at where the numbers are one, and not that of
-/// the empty bucket.
+/// Compares the bucket of an entry to another. The bytes are compared only if the numbers are equal, and aren't the empty
+/// bucket's.
 fn compare_bucket<V: Version>(front: &FrontProbe<'_, V>, item: &BucketEntry) -> Ordering
     ensures { result ≡ bytes_order V.bucket_of (get front.now.table.now) front.now.number front.now.bucket.now item.now }
 {
@@ -169,7 +169,7 @@ fn compare_bucket<V: Version>(front: &FrontProbe<'_, V>, item: &BucketEntry) -> 
     }
 }
 
-/// A number of a bucket's bytes. That of the empty bucket is 0, and no other's is.
+/// Returns a number that is computed from a bucket's bytes, which is 0 for the empty bucket alone.
 pub fn bucket_number(bucket: &[u8]) -> u64
     ensures { result ≡ number_of bucket.now }
 {

@@ -15,29 +15,29 @@ use am_version_order::{Moment, Version, versions_are_values};
 use std::alloc::{AllocError, Global};
 use std::marker::Model;
 
-/// What taking a version did.
+/// The result of taking a version.
 #[derive(Clone, Copy, Debug, PartialEq, Eq)]
 pub enum Taken {
-    /// It is live and came to be held.
+    /// The version is live, and is held now.
     Changed,
-    /// It is live, and one at least as great stays held.
+    /// The version is live, and one at least as great stays held.
     Kept,
-    /// It isn't live. Where it is greater than what was held, it is held all the same.
+    /// The version isn't live. If it is greater than the one that was held, it is held all the same.
     Expired,
 }
 
-/// Memory ran out in a merge, after this many versions of the other map were taken.
+/// The error that memory ran out in a merge, after this many versions of the other map were taken.
 #[derive(Clone, Copy, PartialEq, Eq)]
 pub struct MergeError {
     pub taken: usize,
 }
 
-/// Why versions don't make a map.
+/// The reason why versions don't make a map.
 #[derive(Clone, Copy, Debug, PartialEq, Eq)]
 pub enum FromVersionsError {
-    /// Two of them have one key.
+    /// Two of the versions have the same key.
     DuplicateKey,
-    /// There was no room.
+    /// Memory ran out.
     Memory,
 }
 
@@ -49,7 +49,7 @@ pub struct Held<V: Version> {
     pub(crate) alloc: Global,
 }
 
-// (so that crates above cite one drop, and don't prove those of all that is inside)
+// With this the crates above cite one drop, and don't prove those of everything inside.
 impl<V: Version> Drop for Held<V> {
     fn drop(self) {
         let Held { store: _, alloc: _ } = self;
@@ -72,7 +72,7 @@ impl<V: Version> Held<V> {
     ghost use Rattle.std.specs.declared.alloc.Global.{Global};
     ghost use Rattle.am_merge.specs.Takings.{IsPut, IsTaking, AreTakings};
 
-    /// The empty map. It takes no memory.
+    /// Returns an empty map, without allocating.
     pub fn new(alloc: Global) -> Self
         ensures { result ≡ [] }
     {
@@ -82,11 +82,11 @@ impl<V: Version> Held<V> {
         }
     }
 
-    /// The map of these versions, of which no two have one key.
+    /// Returns the map of these versions, no two of which have the same key.
     ///
     /// # Errors
     ///
-    /// [`FromVersionsError::DuplicateKey`] where two have one, and [`FromVersionsError::Memory`] where memory runs out.
+    /// [`FromVersionsError::DuplicateKey`] if two have the same key, and [`FromVersionsError::Memory`] if memory runs out.
     pub fn from_versions(alloc: Global, mut versions: Vec<V>) -> Result<Self, FromVersionsError>
         ensures order { IfOk result (IsMap V.seen V.Key.cmp) }
         ensures members { IfOk result (IsPermutation versions.items) }
@@ -103,11 +103,11 @@ impl<V: Version> Held<V> {
         }
     }
 
-    /// A copy.
+    /// Returns a copy.
     ///
     /// # Errors
     ///
-    /// [`AllocError`] where memory runs out.
+    /// [`AllocError`] if memory runs out.
     pub fn try_clone(&self) -> Result<Self, AllocError>
         ensures { IfOk result (λ copy. copy ≡ self.now) }
     {
@@ -116,29 +116,29 @@ impl<V: Version> Held<V> {
         Ok(Held { store, alloc })
     }
 
-    /// The allocator that the map was made with. It takes no memory.
+    /// Returns the allocator that the map was made with. Nothing is allocated.
     pub fn allocator(&self) -> Global
-        // There is but one, so it is the one that the map was made with.
+        // There is only one allocator, so it is the one that the map was made with.
         ensures { (alloc : Global) → result ≡ alloc }
     {
         self.alloc
     }
 
-    /// How many keys the map has.
+    /// Returns the number of keys.
     pub fn len(&self) -> usize
         ensures { result ≡ length self.now }
     {
         self.store.table.len()
     }
 
-    /// Whether the map has no key.
+    /// Returns whether the map has no keys.
     pub fn is_empty(&self) -> bool
         ensures { result ≡ (length self.now == 0) }
     {
         self.store.table.is_empty()
     }
 
-    /// The version of a key, live or not.
+    /// Returns the version of a key, live or not.
     pub fn get(&self, key: &V::Key) -> Option<&V>
         ensures { option_copied result ≡ at V.seen V.Key.cmp self.now key.now }
     {
@@ -148,8 +148,8 @@ impl<V: Version> Held<V> {
         }
     }
 
-    /// Says that the versions are values of their type, and stand in the order of their keys, none of which comes
-    /// twice. It does nothing.
+    /// States that the versions are values of their type, in the order of their keys, none of which occurs twice. Calling it
+    /// has no effect.
     pub fn has_values(&self)
         ensures values { All V.is_value self.now }
         ensures order { IsMap V.seen V.Key.cmp self.now }
@@ -157,7 +157,7 @@ impl<V: Version> Held<V> {
         let _ = &self.store;
     }
 
-    /// The versions in the order of their keys.
+    /// Returns an iterator over the versions in the order of their keys.
     pub fn iter(&self) -> Iter<'_, V>
         ensures items { result ≡ self.now }
         ensures order { IsMap V.seen V.Key.cmp self.now }
@@ -165,8 +165,7 @@ impl<V: Version> Held<V> {
         walk_store(&self.store)
     }
 
-    /// The versions from a key on, in the order of their keys: those of the key and of all above it. It takes no
-    /// memory.
+    /// Returns an iterator over the versions of a key and of all keys above it, in the order of the keys. Nothing is allocated.
     pub fn iter_from(&self, key: &V::Key) -> Iter<'_, V>
         ensures items { result ≡ from_key V.seen V.Key.cmp self.now key.now }
         ensures order { IsMap V.seen V.Key.cmp self.now }
@@ -174,7 +173,7 @@ impl<V: Version> Held<V> {
         walk_store_from(&self.store, key)
     }
 
-    /// The versions of a bucket, in the order of their keys. It takes no memory.
+    /// Returns an iterator over the versions of a bucket, in the order of their keys. Nothing is allocated.
     pub fn in_bucket<'a>(&'a self, bucket: &'a [u8]) -> InBucket<'a, V>
         ensures items { result ≡ in_bucket V.bucket_of bucket.now self.now }
         ensures order { IsMap V.seen V.Key.cmp self.now }
@@ -182,7 +181,7 @@ impl<V: Version> Held<V> {
         walk_bucket(&self.store, bucket)
     }
 
-    /// The least expiry of the versions, or `None` where there is none. It takes no memory.
+    /// Returns the least expiry of the versions, or `None` if there are none. Nothing is allocated.
     pub fn next_expiry(&self) -> Option<Moment>
         ensures { MatchOption result (self.now ≡ []) (IsLeastExpiry V.seen self.now) }
     {
@@ -192,11 +191,11 @@ impl<V: Version> Held<V> {
         }
     }
 
-    /// Takes a version: it is held where it is greater than the one that its key has, live or not.
+    /// Takes a version. It is held, live or not, if it is greater than the one of its key.
     ///
     /// # Errors
     ///
-    /// [`AllocError`] where memory runs out. Nothing has changed then.
+    /// [`AllocError`] if memory runs out. Nothing has changed then.
     pub fn take(&mut self, version: V, now: Moment) -> Result<Taken, AllocError>
         // PROMISE: A version that is taken is joined, live or not, and the answer says whether that changed the map.
         ensures taken { IfOk result (IsTaking V.seen V.Key.cmp now self.old version self.new) }
@@ -208,12 +207,11 @@ impl<V: Version> Held<V> {
         Ok(taken_as(is_live, changed))
     }
 
-    /// Takes the first version of its key, and says whether it is that. Where the key has one already
-    /// nothing changes.
+    /// Takes a version if it is the first one of its key, and returns whether it is. Nothing changes if the key has one already.
     ///
     /// # Errors
     ///
-    /// [`AllocError`] where memory runs out. Nothing has changed then.
+    /// [`AllocError`] if memory runs out. Nothing has changed then.
     pub fn insert_new(&mut self, version: V) -> Result<bool, AllocError>
         ensures answer { IfOk result (λ new.
             new ≡ is_none (at V.seen V.Key.cmp self.old (V.seen version).key)) }
@@ -235,7 +233,7 @@ impl<V: Version> Held<V> {
     ///
     /// # Errors
     ///
-    /// [`AllocError`] where memory runs out. Nothing has changed then.
+    /// [`AllocError`] if memory runs out. Nothing has changed then.
     pub fn take_pair(
         &mut self,
         first: V,
@@ -264,12 +262,12 @@ impl<V: Version> Held<V> {
         ))
     }
 
-    /// Takes each version of another map in the order of the keys, whether it is live or not, and
-    /// says how many keys have another version then. The moment makes no difference.
+    /// Takes each version of another map, live or not, in the order of the keys, and returns the number of keys whose version
+    /// has changed. The moment makes no difference.
     ///
     /// # Errors
     ///
-    /// Where memory runs out, the versions before that one were taken.
+    /// [`MergeError`] if memory runs out. The versions before the one that failed have been taken then.
     pub fn merge(&mut self, other: &Held<V>, _now: Moment) -> Result<usize, MergeError>
         ensures order { IsMap V.seen V.Key.cmp self.new }
         // PROMISE: A merge is the join of both maps.
@@ -283,7 +281,7 @@ impl<V: Version> Held<V> {
         merge_in(&mut self.store, &other.store, self.alloc)
     }
 
-    /// Drops each version that isn't live, and says how many went. It takes no memory.
+    /// Drops each version that isn't live, and returns how many were dropped. Nothing is allocated.
     pub fn sweep(&mut self, now: Moment) -> usize
         // PROMISE: A sweep drops exactly the versions that aren't live.
         ensures swept { self.new ≡ swept V.seen now self.old }

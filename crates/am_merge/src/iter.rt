@@ -1,4 +1,4 @@
-//! Walks over the versions of a map.
+//! Iterators over the versions of a map.
 
 ghost use Rattle.std.specs.Prelude.{◌≡◌};
 ghost use Rattle.std.specs.Iterator.{YieldsFirstRef, item_count};
@@ -12,9 +12,9 @@ use am_version_order::Version;
 use slab::Slab;
 use std::marker::Model;
 
-/// The versions of a map that are left of a walk, in the order of their keys.
+/// An iterator over the versions of a map, in the order of their keys.
 ///
-/// Contracts see it as the list of those versions.
+/// Contracts see it as the list of the versions to come.
 #[derive(Drop)]
 pub struct Iter<'a, V> {
     table: &'a Slab<V>,
@@ -46,7 +46,7 @@ impl<'a, V> Iterator for Iter<'a, V> {
     }
 }
 
-/// All versions of a store, in the order of their keys.
+/// Returns an iterator over all versions of a store, in the order of their keys.
 pub fn walk_store<V: Version>(store: &Store<V>) -> Iter<'_, V>
     requires { IsStore V.seen V.head_of V.Key.cmp V.bucket_of store.now }
     ensures { result ≡ versions store.now }
@@ -57,7 +57,7 @@ pub fn walk_store<V: Version>(store: &Store<V>) -> Iter<'_, V>
     }
 }
 
-/// The versions of a store from a key on, in the order of their keys.
+/// Returns an iterator over the versions of a store from a key on, in the order of their keys.
 pub fn walk_store_from<'a, V: Version>(store: &'a Store<V>, key: &V::Key) -> Iter<'a, V>
     requires { IsStore V.seen V.head_of V.Key.cmp V.bucket_of store.now }
     ensures { result ≡ from_key V.seen V.Key.cmp (versions store.now) key.now }
@@ -69,13 +69,13 @@ pub fn walk_store_from<'a, V: Version>(store: &'a Store<V>, key: &V::Key) -> Ite
     }
 }
 
-/// The versions of a bucket that are left of a walk, in the order of their keys.
+/// An iterator over the versions of a bucket, in the order of their keys.
 ///
-/// Contracts see it as the list of those versions.
+/// Contracts see it as the list of the versions to come.
 #[derive(Drop)]
 pub struct InBucket<'a, V: Version> {
     table: &'a Slab<V>,
-    // It goes on past the bucket.
+    // This goes on past the bucket.
     walk: Walk<'a, BucketEntry>,
     bucket: &'a [u8],
 }
@@ -112,7 +112,7 @@ impl<'a, V: Version> Iterator for InBucket<'a, V> {
     }
 }
 
-/// The versions of a store whose bucket is this one, in the order of their keys.
+/// Returns an iterator over the versions of a store that have this bucket, in the order of their keys.
 pub fn walk_bucket<'a, V: Version>(store: &'a Store<V>, bucket: &'a [u8]) -> InBucket<'a, V>
     requires { IsStore V.seen V.head_of V.Key.cmp V.bucket_of store.now }
     ensures { result ≡ in_bucket V.bucket_of bucket.now (versions store.now) }

@@ -1,31 +1,31 @@
-//! What holds of joining and sweeping maps.
+//! Laws of joining and sweeping maps.
 
 ghost use Rattle.std.specs.Prelude.{◌≡◌, ◌↔◌, ℕ, List, ◌∷◌, ◌++◌, All, IsPermutation};
 ghost use Rattle.am_merge.specs.Maps.{IsMap, IsJoin, HidesNone, from_key, swept};
 
 use am_version_order::Version;
 
-/// Two maps have a join.
+/// States that any two maps have a join.
 pub fn join_exists<V: Version>()
     ensures { (a b : List V) → IsMap V.seen V.Key.cmp a → IsMap V.seen V.Key.cmp b →
         (joined : List V) × IsMap V.seen V.Key.cmp joined × IsJoin V.seen V.Key.cmp a b joined }
 {}
 
-/// Two maps have no two joins.
+/// States that two maps have only one join.
 pub fn join_is_unique<V: Version>()
     ensures { (a b joined other : List V) →
         IsMap V.seen V.Key.cmp joined → IsMap V.seen V.Key.cmp other →
         IsJoin V.seen V.Key.cmp a b joined → IsJoin V.seen V.Key.cmp a b other → joined ≡ other }
 {}
 
-/// Which of two maps is joined to the other makes no difference.
+/// States that two maps have the same join in either order.
 pub fn join_is_commutative<V: Version>()
     // PROMISE: Joining maps in either order gives the same map.
     ensures { (a b joined : List V) → All V.is_value a → All V.is_value b →
         IsJoin V.seen V.Key.cmp a b joined → IsJoin V.seen V.Key.cmp b a joined }
 {}
 
-/// Which two of three maps are joined first makes no difference.
+/// States that three maps have the same join in either grouping.
 pub fn join_is_associative<V: Version>()
     // PROMISE: Joining three maps in any grouping gives the same map.
     ensures { (a b c ab bc joined : List V) →
@@ -33,14 +33,14 @@ pub fn join_is_associative<V: Version>()
         (IsJoin V.seen V.Key.cmp ab c joined ↔ IsJoin V.seen V.Key.cmp a bc joined) }
 {}
 
-/// A map joined to itself is itself.
+/// States that the join of a map with itself is the map.
 pub fn join_is_idempotent<V: Version>()
     // PROMISE: Joining a map with itself changes nothing.
     ensures { (map : List V) → IsJoin V.seen V.Key.cmp map map map }
 {}
 
-/// Dropping what isn't live after joining is dropping it before exactly where no key has a greater
-/// version that isn't live in one map and a lesser live one in the other.
+/// States that sweeping a join is the same as joining swept maps if and only if no key has a live version in one map, and a
+/// greater one that isn't live in the other.
 pub fn sweep_and_join_commute<V: Version>()
     ensures { (a b joined : List V) (now : ℕ) →
         IsMap V.seen V.Key.cmp a → IsMap V.seen V.Key.cmp b → IsMap V.seen V.Key.cmp joined →
@@ -49,8 +49,8 @@ pub fn sweep_and_join_commute<V: Version>()
         ↔ (HidesNone V.seen V.Key.cmp now a b × HidesNone V.seen V.Key.cmp now b a)) }
 {}
 
-/// Where all versions are values, those of a map made of them are, and those of a join and of what a
-/// sweep leaves. A map changes by these alone.
+/// States that if all versions are values of their type, so are those of a map made of them, of a join, and of a swept map.
+/// A map changes in no other way.
 pub fn values_stay_values<V: Version>()
     ensures made { (versions map : List V) → IsPermutation versions map →
         All V.is_value versions → All V.is_value map }
@@ -61,7 +61,7 @@ pub fn values_stay_values<V: Version>()
         All V.is_value map → All V.is_value (swept V.seen now map) }
 {}
 
-/// From the key of a version on, a map has that version and what stands behind it.
+/// States that from the key of one of its versions on, a map has that version and those behind it.
 pub fn a_map_goes_on_from_a_key<V: Version>()
     ensures { (front rest : List V) (v : V) → IsMap V.seen V.Key.cmp (front ++ v ∷ rest) →
         from_key V.seen V.Key.cmp (front ++ v ∷ rest) (V.seen v).key ≡ v ∷ rest }

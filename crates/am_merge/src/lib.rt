@@ -1,4 +1,4 @@
-//! The greatest version of each key; and lists in blocks, on which its indexes stand.
+//! A map of the greatest version of each key, and the lists in blocks on which its indexes are built.
 #![tactic(auto)]
 
 pub mod blocks;

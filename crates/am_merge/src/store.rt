@@ -1,4 +1,4 @@
-//! Versions under slots that stay theirs, and the indexes by which they are found.
+//! Versions in slots that don't change, and the indexes by which they are found.
 
 ghost use Rattle.std.specs.Prelude.{◌≡◌, ℕ, ◌+◌, [], IfOk, IfErr, IsOk, OnOk, Some, None, slice_index_or, slice_set, insert, drop};
 ghost use Rattle.std.specs.List.{HoldsAt};
@@ -30,11 +30,11 @@ pub struct Store<V> {
     pub keys: Blocks<KeyEntry>,
     pub expiries: Blocks<ExpiryEntry>,
     pub buckets: Blocks<BucketEntry>,
-    /// Where in the index by key a version came last: the next one is looked for near it.
+    /// The place in the index by key where the last version was put: the next one is searched for near it.
     pub last: Cursor,
 }
 
-/// An empty store. It takes no memory.
+/// Returns an empty store, without allocating.
 pub fn empty_store<V: Version>(alloc: Global) -> Store<V>
     ensures store { IsStore V.seen V.head_of V.Key.cmp V.bucket_of result }
     ensures empty { versions result ≡ [] }
@@ -51,7 +51,7 @@ pub fn empty_store<V: Version>(alloc: Global) -> Store<V>
     }
 }
 
-/// Where a key's entry is, or where it would go.
+/// Returns the place of a key's entry, or the place at which it would be inserted.
 pub fn find<V: Version>(store: &Store<V>, key: &V::Key) -> Result<Cursor, Cursor>
     requires { IsStore V.seen V.head_of V.Key.cmp V.bucket_of store.now }
     ensures found { IfOk result (IsKeyCursor V.seen V.Key.cmp store.now key.now) }
@@ -65,7 +65,7 @@ pub fn find<V: Version>(store: &Store<V>, key: &V::Key) -> Result<Cursor, Cursor
     store.keys.search_near(store.last, &probe)
 }
 
-/// Where the entries of a key and of those above it begin.
+/// Returns the place at which the entries of a key and of those above it begin.
 pub fn key_front<V: Version>(store: &Store<V>, key: &V::Key) -> Cursor
     requires { IsStore V.seen V.head_of V.Key.cmp V.bucket_of store.now }
     ensures within { IsWithin store.now.keys result }
@@ -77,7 +77,7 @@ pub fn key_front<V: Version>(store: &Store<V>, key: &V::Key) -> Cursor
     }
 }
 
-/// The version at a cursor of the index by key.
+/// Returns the version at a cursor of the index by key.
 pub fn version_at<V: Version>(store: &Store<V>, cursor: Cursor) -> &V
     requires store { IsStore V.seen V.head_of V.Key.cmp V.bucket_of store.now }
     requires item { IsItem store.now.keys cursor }
@@ -86,7 +86,7 @@ pub fn version_at<V: Version>(store: &Store<V>, cursor: Cursor) -> &V
     &store.table[store.keys.get(cursor).slot]
 }
 
-/// Where the entry by expiry is of what is in a slot.
+/// Returns the place, in the index by expiry, of the entry for a slot.
 pub fn expiry_cursor<V: Version>(store: &Store<V>, slot: usize) -> Cursor
     requires index { IsExpiryIndex V.seen (get store.now.table) (entries store.now.expiries) }
     requires there { HasSlot store.now.table slot }
@@ -100,7 +100,7 @@ pub fn expiry_cursor<V: Version>(store: &Store<V>, slot: usize) -> Cursor
     }
 }
 
-/// Where the entry by expiry goes of a version that comes into an empty slot.
+/// Returns the place, in the index by expiry, of a version that is put into an empty slot.
 pub fn expiry_gap<V: Version>(store: &Store<V>, expires: Moment, slot: usize) -> Cursor
     requires index { IsExpiryIndex V.seen (get store.now.table) (entries store.now.expiries) }
     requires vacant { get store.now.table slot ≡ None }
@@ -115,8 +115,8 @@ pub fn expiry_gap<V: Version>(store: &Store<V>, expires: Moment, slot: usize) ->
     }
 }
 
-/// Where the entry by bucket is of a version's key in its bucket, or where it would go. The empty bucket is
-/// looked for near a cursor: that of the index by key is the right one where no version has another bucket.
+/// Searches the index by bucket for a version's key in its bucket. If the bucket is empty, the search is near a cursor: that
+/// of the index by key is exact if no version has another bucket.
 fn search_bucket<V: Version>(store: &Store<V>, version: &V, near: Cursor) -> Result<Cursor, Cursor>
     requires { IsBucketIndex V.seen V.head_of V.Key.cmp V.bucket_of (get store.now.table) (entries store.now.buckets) }
     ensures found { IfOk result (IsFound
@@ -150,7 +150,7 @@ fn search_bucket<V: Version>(store: &Store<V>, version: &V, near: Cursor) -> Res
     }
 }
 
-/// Where the entry by bucket is of what is in a slot; that of the empty bucket is looked for near a cursor.
+/// Returns the place, in the index by bucket, of the entry for a slot. If the bucket is empty, the search is near a cursor.
 fn bucket_cursor<V: Version>(store: &Store<V>, slot: usize, near: Cursor) -> Cursor
     requires index { IsBucketIndex V.seen V.head_of V.Key.cmp V.bucket_of (get store.now.table) (entries store.now.buckets) }
     requires there { HasSlot store.now.table slot }
@@ -163,8 +163,8 @@ fn bucket_cursor<V: Version>(store: &Store<V>, slot: usize, near: Cursor) -> Cur
     }
 }
 
-/// Where the entry by bucket goes of a version whose key none has; that of the empty bucket is looked for
-/// near a cursor.
+/// Returns the place, in the index by bucket, of a version whose key no other has. If the bucket is empty, the search is near
+/// a cursor.
 fn bucket_gap<V: Version>(store: &Store<V>, version: &V, near: Cursor) -> Cursor
     requires index { IsBucketIndex V.seen V.head_of V.Key.cmp V.bucket_of (get store.now.table) (entries store.now.buckets) }
     requires absent { IsAbsent V.seen (get store.now.table) (V.seen version.now).key }
@@ -179,7 +179,7 @@ fn bucket_gap<V: Version>(store: &Store<V>, version: &V, near: Cursor) -> Cursor
     }
 }
 
-/// Where the entries of a bucket begin, or would go.
+/// Returns the place at which the entries of a bucket begin, or would begin.
 pub fn bucket_front<V: Version>(store: &Store<V>, bucket: &[u8]) -> Cursor
     requires { IsBucketIndex V.seen V.head_of V.Key.cmp V.bucket_of (get store.now.table) (entries store.now.buckets) }
     ensures within { IsWithin store.now.buckets result }
@@ -199,7 +199,7 @@ pub fn bucket_front<V: Version>(store: &Store<V>, bucket: &[u8]) -> Cursor
     }
 }
 
-/// The entry by bucket of a version in a slot.
+/// Returns the entry by bucket of a version in a slot.
 pub fn entry_of<V: Version>(version: &V, slot: usize) -> BucketEntry
     ensures { result ≡ bucket_entry V.seen V.bucket_of V.head_of slot version.now }
 {
@@ -212,8 +212,7 @@ pub fn entry_of<V: Version>(version: &V, slot: usize) -> BucketEntry
     }
 }
 
-/// Takes what is in a slot out of the table and the index by expiry; the other indexes
-/// still name the slot.
+/// Removes the version in a slot from the table and the index by expiry. The other indexes still name the slot.
 fn take_out<V: Version>(store: &mut Store<V>, slot: usize) -> V
     requires index { IsExpiryIndex V.seen (get store.old.table) (entries store.old.expiries) }
     requires there { HasSlot store.old.table slot }
@@ -233,7 +232,7 @@ fn take_out<V: Version>(store: &mut Store<V>, slot: usize) -> V
     store.table.remove(slot)
 }
 
-/// Puts a version into the next slot of the table and into the index by expiry, and answers the slot.
+/// Puts a version into the next slot of the table and into the index by expiry, and returns the slot.
 fn put_in<V: Version>(store: &mut Store<V>, version: V) -> usize
     requires index { IsExpiryIndex V.seen (get store.old.table) (entries store.old.expiries) }
     requires table { HasRoomFor store.old.table 1 }
@@ -255,7 +254,7 @@ fn put_in<V: Version>(store: &mut Store<V>, version: V) -> usize
     store.table.insert_reserved(version)
 }
 
-/// Puts the first version of its key in. It takes no memory.
+/// Inserts the first version of a key, without allocating.
 pub fn add<V: Version>(store: &mut Store<V>, cursor: Cursor, version: V)
     requires store { IsStore V.seen V.head_of V.Key.cmp V.bucket_of store.old }
     requires cursor { IsGapCursor V.seen V.Key.cmp store.old (V.seen version).key cursor }
@@ -272,7 +271,7 @@ pub fn add<V: Version>(store: &mut Store<V>, cursor: Cursor, version: V)
     store.buckets.insert(place, entry);
 }
 
-/// Puts a version in the place of that of its key, under the same slot. It takes no memory.
+/// Replaces the version of a version's key, in the same slot, without allocating.
 pub fn replace<V: Version>(store: &mut Store<V>, cursor: Cursor, version: V)
     requires store { IsStore V.seen V.head_of V.Key.cmp V.bucket_of store.old }
     requires cursor { IsKeyCursor V.seen V.Key.cmp store.old (V.seen version).key cursor }
@@ -289,8 +288,8 @@ pub fn replace<V: Version>(store: &mut Store<V>, cursor: Cursor, version: V)
     }
 }
 
-/// Puts a version in the place of one of its key and its bucket, under the same slot. The entries by key
-/// and by bucket stay.
+/// Replaces the version of a version's key, in the same slot, if both have the same bucket. The entries by key and by bucket
+/// stay.
 fn replace_within<V: Version>(store: &mut Store<V>, cursor: Cursor, slot: usize, version: V)
     requires store { IsStore V.seen V.head_of V.Key.cmp V.bucket_of store.old }
     requires cursor { IsKeyCursor V.seen V.Key.cmp store.old (V.seen version).key cursor }
@@ -307,8 +306,8 @@ fn replace_within<V: Version>(store: &mut Store<V>, cursor: Cursor, slot: usize,
     put_in(store, version);
 }
 
-/// Puts a version in the place of one of its key, under the same slot. The entry by key stays, and that
-/// by bucket goes to its place in another one.
+/// Replaces the version of a version's key, in the same slot, if they have different buckets. The entry by key stays, and the
+/// entry by bucket moves to the other bucket.
 fn replace_across<V: Version>(store: &mut Store<V>, cursor: Cursor, slot: usize, version: V)
     requires store { IsStore V.seen V.head_of V.Key.cmp V.bucket_of store.old }
     requires cursor { IsKeyCursor V.seen V.Key.cmp store.old (V.seen version).key cursor }
@@ -330,7 +329,7 @@ fn replace_across<V: Version>(store: &mut Store<V>, cursor: Cursor, slot: usize,
     store.buckets.insert(place, entry);
 }
 
-/// Takes what is in a slot out.
+/// Removes the version in a slot.
 pub fn drop_at<V: Version>(store: &mut Store<V>, slot: usize)
     requires store { IsStore V.seen V.head_of V.Key.cmp V.bucket_of store.old }
     requires there { HasSlot store.old.table slot }
@@ -345,7 +344,7 @@ pub fn drop_at<V: Version>(store: &mut Store<V>, slot: usize)
     store.buckets.remove(place);
 }
 
-/// Where the entry by key is of what is in a slot.
+/// Returns the place, in the index by key, of the entry for a slot.
 fn key_cursor<V: Version>(store: &Store<V>, slot: usize) -> Cursor
     requires store { IsStore V.seen V.head_of V.Key.cmp V.bucket_of store.now }
     requires there { HasSlot store.now.table slot }
@@ -364,8 +363,7 @@ fn key_cursor<V: Version>(store: &Store<V>, slot: usize) -> Cursor
     }
 }
 
-/// Makes room for so many keys more, and for so many changes: versions that come or replace
-/// another.
+/// Makes room for `keys` more keys and for `changes` changes: versions that are added, or replace others.
 pub fn reserve<V: Version>(
     store: &mut Store<V>,
     keys: usize,
@@ -385,8 +383,7 @@ pub fn reserve<V: Version>(
     store.buckets.reserve(changes)
 }
 
-/// Makes room for a version that goes in the place of another one. Where it stays in its bucket the index
-/// by bucket isn't asked.
+/// Makes room for a version that replaces another one. If it stays in its bucket, the index by bucket needs none.
 pub fn reserve_over<V: Version>(
     store: &mut Store<V>,
     cursor: Cursor,

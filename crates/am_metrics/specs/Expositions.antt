@@ -1,4 +1,4 @@
--- Prometheus' text format, version 0.0.4: a line HELP, a line TYPE, and a line for each figure of a name.
+-- Prometheus' text format, version 0.0.4: a HELP line, a TYPE line, and a line for each figure of a name.
 use Rattle.std.specs.Prelude.{ℕ, List, [], ◌∷◌, ◌++◌, ◌+◌, ◌==◌, codes, decimal, drop, if◌then◌else◌}
 use Rattle.std.specs.List.{flat_map}
 use Rattle.am_metrics.specs.Kinds.{kind_text}
@@ -8,11 +8,11 @@ use Rattle.am_metrics.specs.declared.family.Label.{Label}
 use Rattle.am_metrics.specs.declared.family.Sample.{Sample}
 use Rattle.am_metrics.specs.declared.family.Family.{Family}
 
--- a byte of a line HELP: a backslash as \\, a line feed as \n
+-- a byte of a HELP line: a backslash as \\, a line feed as \n
 abbrev pub help_byte : ℕ → List ℕ
 help_byte b = if b == 92 then codes "\\\\" else (if b == 10 then codes "\\n" else b ∷ [])
 
--- a byte of a label's value: as in HELP, and a quote as \"
+-- a byte of a label's value: as in a HELP line, and a quote as \"
 abbrev pub value_byte : ℕ → List ℕ
 value_byte b = if b == 34 then codes "\\\"" else help_byte b
 
@@ -20,20 +20,20 @@ value_byte b = if b == 34 then codes "\\\"" else help_byte b
 unfoldable pub label_text : Label → List ℕ
 label_text label = label.name.now ++ (codes "=\"" ++ (flat_map value_byte label.value ++ codes "\""))
 
--- a label behind another
+-- a label after another
 abbrev pub next_label : Label → List ℕ
 next_label label = codes "," ++ label_text label
 
--- labels in braces, parted by commas; none at all where there is none
+-- labels in braces, separated by commas, or nothing if there are none
 unfoldable pub labels_text : List Label → List ℕ
 labels_text [] = []
 labels_text (label ∷ labels) = codes "{" ++ (label_text label ++ (flat_map next_label labels ++ codes "}"))
 
--- the nine digits of so many billionths: those of 1,000,000,000 more, behind the first
+-- the nine digits of a number of billionths: those of 1,000,000,000 plus that number, without the first
 abbrev pub nine_digits : ℕ → List ℕ
 nine_digits nanos = drop 1 (decimal (1_000_000_000 + nanos))
 
--- a number in decimal digits, perhaps with nine behind a point
+-- a number in decimal digits, with nine more after a point if it has billionths
 unfoldable pub number_text : Number → List ℕ
 number_text (Whole n) = decimal n
 number_text (Nanos whole nanos) = decimal whole ++ (codes "." ++ nine_digits nanos)
@@ -42,11 +42,11 @@ number_text (Nanos whole nanos) = decimal whole ++ (codes "." ++ nine_digits nan
 unfoldable pub sample_text : List ℕ → Sample → List ℕ
 sample_text name s = name ++ (s.suffix.now ++ (labels_text s.labels.items ++ (codes " " ++ (number_text s.number ++ codes "\n"))))
 
--- the line that says what the figures are
+-- the line that describes the figures
 unfoldable pub help_line : Family → List ℕ
 help_line f = codes "# HELP " ++ (f.name.now ++ (codes " " ++ (flat_map help_byte f.help.now ++ codes "\n")))
 
--- the line that names their kind
+-- the line that names the kind of the figures
 unfoldable pub type_line : Family → List ℕ
 type_line f = codes "# TYPE " ++ (f.name.now ++ (codes " " ++ (kind_text f.kind ++ codes "\n")))
 
@@ -54,6 +54,6 @@ type_line f = codes "# TYPE " ++ (f.name.now ++ (codes " " ++ (kind_text f.kind 
 unfoldable pub family_text : Family → List ℕ
 family_text f = help_line f ++ (type_line f ++ flat_map (sample_text f.name.now) f.samples.items)
 
--- The whole text: family after family.
+-- The whole text, one family after another.
 abbrev pub exposition : List Family → List ℕ
 exposition = flat_map family_text

@@ -3,7 +3,7 @@ use Rattle.std.specs.Prelude.{ℕ, List, codes}
 use Rattle.am_metrics.specs.declared.family.Kind.{Kind}
 use Rattle.am_metrics.specs.declared.family.Kind.TheVariants.{Counter, Gauge, Histogram}
 
--- the word of a line TYPE
+-- the word for a kind in a TYPE line
 abbrev pub kind_text : Kind → List ℕ
 kind_text Counter = codes "counter"
 kind_text Gauge = codes "gauge"

@@ -1,22 +1,22 @@
-//! Figures, as they are told.
+//! Families of figures.
 
 ghost use Rattle.std.specs.Prelude.{◌≡◌, ◌<◌};
 ghost use Rattle.am_metrics.specs.Kinds.{kind_text};
 
 use am_wire::Text;
 
-/// What the figures of a family are.
+/// The kind of the figures of a family.
 #[derive(Clone, Copy, PartialEq, Eq)]
 pub enum Kind {
-    /// They only grow, from 0 at the start on.
+    /// The figures only grow, from 0 at the start.
     Counter,
     Gauge,
-    /// How many values were at most so large, their sum and their count.
+    /// The figures are the numbers of values up to certain bounds, their sum and their count.
     Histogram,
 }
 
 impl Kind {
-    /// Its name.
+    /// Returns the name of the kind.
     pub const fn text(self) -> &'static str
         ensures { result.now ≡ kind_text self }
     {
@@ -32,7 +32,7 @@ impl Kind {
 #[derive(Clone, Copy, PartialEq, Eq)]
 pub enum Number {
     Whole(u64),
-    /// So many billionths beside a whole number.
+    /// A whole number and a number of billionths.
     Nanos { whole: u64, nanos: u32 },
 }
 
@@ -46,7 +46,7 @@ pub struct Label {
 /// A figure of a family.
 #[derive(Drop)]
 pub struct Sample {
-    /// What stands behind the name of the family: nothing, or which part of a histogram it is.
+    /// The ending of the family's name: nothing, or the part of a histogram that this is.
     pub suffix: &'static str,
     pub labels: Vec<Label>,
     pub number: Number,
@@ -56,7 +56,7 @@ pub struct Sample {
 #[derive(Drop)]
 pub struct Family {
     pub name: &'static str,
-    /// What they say.
+    /// The description of the figures.
     pub help: &'static str,
     pub kind: Kind,
     pub samples: Vec<Sample>,

@@ -16,7 +16,7 @@ fn add(out: &mut Vec<u8>, text: &str) -> Result<(), AllocError>
     Ok(())
 }
 
-/// Adds a byte of a line HELP.
+/// Adds a byte of a HELP line.
 fn add_help_byte(out: &mut Vec<u8>, byte: u8) -> Result<(), AllocError>
     ensures { OnOk result (out.new.items ≡ out.old.items ++ help_byte byte) }
 {
@@ -40,7 +40,7 @@ fn add_value_byte(out: &mut Vec<u8>, byte: u8) -> Result<(), AllocError>
     }
 }
 
-/// Adds what a line HELP says.
+/// Adds the text of a HELP line.
 fn add_help(out: &mut Vec<u8>, text: &str) -> Result<(), AllocError>
     ensures { OnOk result (out.new.items ≡ out.old.items ++ flat_map help_byte text.now) }
 {
@@ -72,7 +72,7 @@ fn add_label(out: &mut Vec<u8>, label: &Label) -> Result<(), AllocError>
     Ok(())
 }
 
-/// Adds labels behind a first one.
+/// Adds labels after a first one.
 fn add_more_labels(out: &mut Vec<u8>, labels: &[Label]) -> Result<(), AllocError>
     ensures { OnOk result (out.new.items ≡ out.old.items ++ flat_map next_label labels.now) }
 {
@@ -152,7 +152,7 @@ fn add_sample(
     Ok(())
 }
 
-/// Adds the lines of figures of one name.
+/// Adds the lines of figures with one name.
 fn add_samples(
     alloc: Global,
     out: &mut Vec<u8>,
@@ -167,7 +167,7 @@ fn add_samples(
     Ok(())
 }
 
-/// Adds the line that says what the figures of a family are.
+/// Adds the line that describes the figures of a family.
 #[tactic(auto, unfolding(crate::specs::Expositions::help_line))]
 fn add_help_line(out: &mut Vec<u8>, family: &Family) -> Result<(), AllocError>
     ensures { OnOk result (out.new.items ≡ out.old.items ++ help_line family.now) }
@@ -180,7 +180,7 @@ fn add_help_line(out: &mut Vec<u8>, family: &Family) -> Result<(), AllocError>
     Ok(())
 }
 
-/// Adds the line that names their kind.
+/// Adds the line that names the kind of the figures.
 #[tactic(auto, unfolding(crate::specs::Expositions::type_line))]
 fn add_type_line(out: &mut Vec<u8>, family: &Family) -> Result<(), AllocError>
     ensures { OnOk result (out.new.items ≡ out.old.items ++ type_line family.now) }
@@ -214,11 +214,11 @@ fn add_families(alloc: Global, out: &mut Vec<u8>, families: &[Family]) -> Result
     Ok(())
 }
 
-/// The text of families: Prometheus' text format 0.0.4.
+/// Returns the text of families in Prometheus' text format 0.0.4.
 ///
 /// # Errors
 ///
-/// [`AllocError`] where memory runs out.
+/// Returns [`AllocError`] if memory runs out.
 pub fn write_families(alloc: Global, families: &[Family]) -> Result<Vec<u8>, AllocError>
     // PROMISE: Figures are in Prometheus' text format 0.0.4.
     ensures { IfOk result (λ text. text.items ≡ exposition families.now) }

@@ -1,6 +1,8 @@
 -- A canonical text that was read to its end.
 use Rattle.std.proofs.Common.{◌≡◌, ℕ, ◌-◌, ◌≤◌, ◌^◌, List, [], ◌++◌, length, sym, ap, subst, ◌∙◌}
 use Rattle.am_version_order.specs.Moments.{greatest}
+use Rattle.am_wire.proofs.Kept.{is_none}
+use Rattle.am_wire.specs.RoundTrip.Plain.{writes_none}
 use Rattle.am_wire.proofs.Offsets.{stands_grown}
 use Rattle.am_wire.proofs.Passings.{both, whole}
 use Rattle.am_wire.specs.Expiring.{writes_expiring}
@@ -14,7 +16,7 @@ use Rattle.am_nflog.specs.declared.entry.Entry.{Entry}
 use Rattle.am_nflog.specs.declared.offsets.Offsets.{Offsets}
 use Rattle.am_nflog.specs.Canonical.{IsCanonical, PassesEntry}
 use Rattle.am_nflog.specs.Entries.{writes_entry}
-use Rattle.am_nflog.specs.Mesh.{Mesh, IsMesh, writes_mesh_entry}
+use Rattle.am_nflog.specs.Mesh.{Mesh, IsMesh, entry_numbers, plain_version, without_unknown, writes_mesh_entry}
 use Rattle.am_nflog.specs.Offsets.{StandAt}
 
 -- what stands in a text stands in a longer one
@@ -35,7 +37,7 @@ module _ (text : List ℕ) (parts : CanonicalEntry) (moment size : ℕ) (start f
     (over : done.passed ≡ done.text)
     (small : length text ≤ 2 ^ 63) where
   version : Mesh
-  version = record { entry = h.entry; expires_at = moment }
+  version = plain_version h.entry moment
 
   all : Passes (writes_expiring (writes_entry h.entry) moment) start done
   all = both (writes_delimited 1 (writes_entry h.entry)) (writes_delimited 2 (writes_moment moment)) start mid done
@@ -47,10 +49,11 @@ module _ (text : List ℕ) (parts : CanonicalEntry) (moment size : ℕ) (start f
   written : text ≡ writes_mesh_entry version
   unfolding version writes_mesh_entry
   written = passed ∙ all.passed ∙ ap (λ (p : Passing). p.passed ++ writes_expiring (writes_entry h.entry) moment) begins
+      ∙ sym (writes_none (writes_entry h.entry) moment)
 
   is_mesh : IsMesh version
   unfolding version
-  is_mesh = record { entry = h.value; expires_at = within; size = rw (← written) small }
+  is_mesh = record { entry = h.value; expires_at = within; unknown = is_none entry_numbers; size = rw (← written) small }
 
   pub is_canonical : IsCanonical text parts moment
   unfolding version
@@ -60,6 +63,7 @@ module _ (text : List ℕ) (parts : CanonicalEntry) (moment size : ℕ) (start f
       record {
         canonical = written ∙ ap writes_mesh_entry back;
         value = subst IsMesh back is_mesh;
+        plain = ap without_unknown (sym back) ∙ back;
         key = h.key ∙ ap (λ (m : Mesh). m.entry.key) back;
         resolved = h.resolved ∙ ap (λ (m : Mesh). m.entry.resolved) back;
         timestamp = h.timestamp ∙ ap (λ (m : Mesh). m.entry.timestamp) back;

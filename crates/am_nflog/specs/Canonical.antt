@@ -1,43 +1,45 @@
--- Canonical texts of versions, read from the front.
+-- The reading of canonical texts of versions.
 use Rattle.std.specs.Prelude.{◌≡◌, ℕ, List}
 use Rattle.am_wire.specs.Passing.{Passing, Passes}
 use Rattle.am_nflog.specs.declared.canonical.CanonicalEntry.{CanonicalEntry}
 use Rattle.am_nflog.specs.declared.entry.Entry.{Entry}
 use Rattle.am_nflog.specs.Entries.{writes_entry, IsEntry}
-use Rattle.am_nflog.specs.Mesh.{IsMesh, writes_mesh_entry}
+use Rattle.am_nflog.specs.Mesh.{IsMesh, without_unknown, writes_mesh_entry}
 use Rattle.am_nflog.specs.Offsets.{StandAt}
 use Rattle.am_nflog.specs.Spelled.{spelled}
 
--- from one reading to the next just the text of an entry is passed, whose parts are these
+-- between two states of a reader exactly the text of an entry is passed, whose parts are these
 pub record PassesEntry (parts : CanonicalEntry) (old new : Passing) : Type 0 where
   -- the entry
   pub entry : Entry
-  -- its text is passed, and nothing else
+  -- the text of the entry is passed, and nothing else
   pub passes : Passes (writes_entry entry) old new
-  -- its values are those of an entry
+  -- the entry is a value of its type
   pub value : IsEntry entry
-  -- the parts of its key are told
+  -- the key is that of the entry
   pub key : parts.key ≡ entry.key
-  -- its flag is told
+  -- the flag is that of the entry
   pub resolved : parts.resolved ≡ entry.resolved
-  -- its moment is told
+  -- the moment is that of the entry
   pub timestamp : parts.timestamp ≡ entry.timestamp
-  -- its other parts stand at their places in what is passed
+  -- the other parts are at their places in what is passed
   pub places : StandAt entry parts.places new.passed
 
--- a text is the canonical one of the version that it spells, whose parts are these
+-- the text is the canonical one of the version that it spells, which has no unknown fields, and whose parts are these
 pub record IsCanonical (text : List ℕ) (parts : CanonicalEntry) (moment : ℕ) : Type 0 where
-  -- the text is as the version is written
+  -- the text is the one that is written for the version
   pub canonical : text ≡ writes_mesh_entry (spelled text)
-  -- the values of the version are those of the type
+  -- the version is a value of its type
   pub value : IsMesh (spelled text)
-  -- the parts of its key are told
+  -- the version has no unknown fields
+  pub plain : without_unknown (spelled text) ≡ spelled text
+  -- the key is that of the version's entry
   pub key : parts.key ≡ (spelled text).entry.key
-  -- its flag is told
+  -- the flag is that of the version's entry
   pub resolved : parts.resolved ≡ (spelled text).entry.resolved
-  -- the moment of the notification is told
+  -- the moment of the notification is that of the version's entry
   pub timestamp : parts.timestamp ≡ (spelled text).entry.timestamp
-  -- the moment from which on it may be forgotten is the other one
+  -- the other moment is the one from which the version may be forgotten
   pub expires_at : moment ≡ (spelled text).expires_at
-  -- its other parts stand at their places in the text
+  -- the other parts are at their places in the text
   pub places : StandAt (spelled text).entry parts.places text

@@ -1,4 +1,4 @@
--- What a message's draft holds after some fields.
+-- The state of a message's draft after some fields.
 use Rattle.std.specs.Prelude.{◌≡◌, List}
 use Rattle.am_wire.specs.Fields.{FieldAt}
 use Rattle.am_wire.specs.Parts.{IsPart}
@@ -15,7 +15,7 @@ pub record IsReceiverDraft (es : List FieldAt) (d : ReceiverDraft) : Type 0 wher
   pub integration : d.integration.text.now ≡ last_text 2 es
   pub idx : d.idx.value ≡ last_number 3 es
 
--- an entry's draft does
+-- an entry's draft holds what these fields leave
 pub record IsEntryDraft (es : List FieldAt) (d : EntryDraft) : Type 0 where
   pub group_key : d.group_key.bytes.now ≡ last_text 1 es
   pub receiver : IsPart IsReceiverDraft receiver 2 es d.receiver

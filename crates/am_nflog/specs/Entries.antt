@@ -13,15 +13,15 @@ use Rattle.am_nflog.specs.declared.entry.Entry.{Entry}
 use Rattle.am_nflog.specs.LogKeys.{LogKey}
 use Rattle.am_nflog.specs.Receivers.{receiver, receiver_value, writes_receiver, IsReceiver}
 
--- which wire types an entry's fields have, and what is at fault inside them
+-- the wire types of an entry's fields, and the faults inside them
 abbrev pub entry : Table
 entry = table_of (blob_row 1 ∷ part_row 2 receiver ∷ blob_row 3 ∷ varint_row 4 ∷ part_row 5 timestamp ∷ numbers_row 6 ∷ numbers_row 7 ∷ [])
 
--- the key of an entry of these fields
+-- the key of the entry that these fields make
 abbrev pub key_value : List FieldAt → LogKey
 key_value es = record { group_key = last_text 1 es; receiver = receiver_value (merged receiver 2 es) }
 
--- the entry of these fields
+-- the entry that these fields make
 abbrev pub entry_value : List FieldAt → Entry
 entry_value es = record {
   key = key_value es;
@@ -32,7 +32,7 @@ entry_value es = record {
   resolved_alerts = all_numbers 7 es;
 }
 
--- a receiver that is missing comes before a bad timestamp
+-- the fault that an entry's tests find: a missing receiver comes before an invalid timestamp
 abbrev pub entry_tests : ℕ → List FieldAt → Option WireError
 entry_tests place es = if is_given 2 es then moment_test 5 es else Some (errors.MissingMessage 2)
 
@@ -40,14 +40,14 @@ entry_tests place es = if is_given 2 es then moment_test 5 es else Some (errors.
 unfoldable pub reads_entry : ℕ → List ℕ → Result Entry WireError
 reads_entry at bytes = read_by entry entry_tests entry_value at at bytes
 
--- the one text of an entry
+-- the canonical text of an entry
 unfoldable pub writes_entry : Entry → List ℕ
 writes_entry e =
     writes_text 1 e.key.group_key ++ writes_delimited 2 (writes_receiver e.key.receiver) ++ writes_text 3 e.group_hash
     ++ writes_number 4 (if e.resolved then 1 else 0) ++ writes_delimited 5 (writes_moment e.timestamp)
     ++ writes_numbers 6 e.firing_alerts ++ writes_numbers 7 e.resolved_alerts
 
--- the values of an entry
+-- the entry is a value of its type
 pub record IsEntry (e : Entry) : Type 0 where
   pub receiver : IsReceiver e.key.receiver
   pub timestamp : e.timestamp ≤ greatest

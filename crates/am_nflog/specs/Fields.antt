@@ -1,8 +1,8 @@
--- The fields of an entry, whose texts and lists lie elsewhere.
+-- The fields of an entry, with borrowed texts and lists.
 use Rattle.am_nflog.specs.declared.entry.Entry.{Entry}
 use Rattle.am_nflog.specs.declared.fields.EntryFields.{EntryFields}
 
--- the entry of these fields
+-- the entry that these fields make
 abbrev pub entry_in : EntryFields → Entry
 entry_in fields = record {
   key = fields.key;

@@ -10,19 +10,19 @@ use Rattle.std.proofs.lemmas.Map.Lookups.{exact_bytes}
 use Rattle.am_nflog.specs.declared.receiver.Receiver.{Receiver}
 use Rattle.am_nflog.specs.LogKeys.{LogKey}
 
--- receivers in their order
+-- the order of receivers
 abbrev pub receiver_cmp : Receiver → Receiver → Ordering
 receiver_cmp =
     then_cmp (on (λ r. r.group_name) (slice_cmp nat_cmp)) (then_cmp (on (λ r. r.integration) (slice_cmp nat_cmp)) (on (λ r. r.idx) nat_cmp))
 
--- keys in their order
+-- the order of keys
 abbrev pub key_cmp : LogKey → LogKey → Ordering
 key_cmp =
     then_cmp (on (λ k. k.group_key) (slice_cmp nat_cmp))
     (then_cmp (on (λ k. k.receiver.group_name) (slice_cmp nat_cmp))
     (then_cmp (on (λ k. k.receiver.integration) (slice_cmp nat_cmp)) (on (λ k. k.receiver.idx) nat_cmp)))
 
--- keys are equal where all their parts are
+-- the keys are equal, which means that all their parts are
 abbrev pub key_eq : LogKey → LogKey → Bool
 key_eq =
     eq_of_both (on (λ k. k.group_key) (pointwise nat_eq))
@@ -34,7 +34,7 @@ then_equal Less b h = absurd cc
 then_equal Equal b h = (refl, h)
 then_equal Greater b h = absurd cc
 
--- keys that compare as equal are one key
+-- keys that compare as equal are the same
 pub exact_keys : (j k : LogKey) → key_cmp j k ≡ Equal → j ≡ k
 exact_keys j k e =
     let a = then_equal _ _ e in

@@ -1,4 +1,4 @@
--- Where the parts of an entry stand in a text.
+-- The places of an entry's parts in a text.
 use Rattle.std.specs.Prelude.{ℕ, List}
 use Rattle.std.specs.List.{flat_map}
 use Rattle.am_wire.specs.Offsets.{StandsAt}
@@ -6,7 +6,7 @@ use Rattle.am_wire.specs.Varint.{shortest}
 use Rattle.am_nflog.specs.declared.entry.Entry.{Entry}
 use Rattle.am_nflog.specs.declared.offsets.Offsets.{Offsets}
 
--- the group hash of an entry stands at its offset, and so do its two lists, whose numbers stand there one behind the other
+-- the group hash of an entry is at its offset, and so are its two lists, whose numbers are spelled there one after another
 pub record StandAt (entry : Entry) (offsets : Offsets) (text : List ℕ) : Type 0 where
   pub group_hash : StandsAt entry.group_hash offsets.group_hash text
   pub firing_alerts : StandsAt (flat_map shortest entry.firing_alerts) offsets.firing_alerts text

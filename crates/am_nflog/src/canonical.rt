@@ -1,4 +1,4 @@
-//! Canonical texts of versions, read from the front.
+//! A reader of canonical texts of versions.
 
 ghost use Rattle.std.specs.Prelude.{◌≡◌, IfSome, if◌then◌else◌};
 ghost use Rattle.am_wire.specs.Passing.{Passes};
@@ -12,7 +12,7 @@ use crate::receiver::ReceiverRef;
 use am_version_order::Moment;
 use am_wire::reading::CanonicalReader;
 
-/// An entry in a canonical text: what is told of it at once, and where its other parts stand.
+/// An entry in a canonical text: the parts that are read at once, and the places of the others.
 #[derive(Drop)]
 pub struct CanonicalEntry<'a> {
     pub key: KeyParts<'a>,
@@ -21,7 +21,7 @@ pub struct CanonicalEntry<'a> {
     pub places: Offsets,
 }
 
-/// The entry of a version and the moment from which on it may be forgotten; none where the text is not canonical.
+/// Returns the entry of a version and the moment from which it may be forgotten, or `None` if the text isn't canonical.
 pub fn read_version(text: &[u8]) -> Option<(CanonicalEntry<'_>, Moment)>
     ensures { IfSome result (λ it. IsCanonical text.now it.0 it.1) }
 {
@@ -101,7 +101,7 @@ fn pass_receiver_text<'a>(reader: &mut CanonicalReader<'a>) -> Option<ReceiverRe
     Some(receiver)
 }
 
-/// The number of an integration, where it is one.
+/// Returns the number as an integration's index, or `None` if it is too large.
 fn index_of(number: u64) -> Option<u32>
     ensures { IfSome result (λ idx. number ≡ idx) }
 {

@@ -14,17 +14,17 @@ use am_wire::reading::{
     LastBytes, LastNumber, MessageReader, Schema, Submessage, TimestampDraft, moment_in,
     read_message, take_numbers,
 };
-use am_wire::{Bytes, Field, Message, WireError, WireType};
+use am_wire::{Bytes, Field, Message, Unknown, WireError, WireType};
 use std::alloc::{AllocError, Global};
 use std::marker::Model;
 
-/// What was notified of a group to a receiver: which alerts were firing then, and which resolved.
+/// A record of what a receiver was notified of for a group: the alerts that were firing then, and those that were resolved.
 #[derive(Drop)]
 pub struct Entry {
     pub key: LogKey,
-    /// It is read, kept and written, and nothing looks at it.
+    /// The field `group_hash`, which is read, kept and written, but never used.
     pub group_hash: Bytes,
-    /// It is read, kept and written, and nothing looks at it.
+    /// The field `resolved`, which is read, kept and written, but never used.
     pub resolved: bool,
     pub timestamp: Moment,
     pub firing_alerts: Hashes,
@@ -32,11 +32,11 @@ pub struct Entry {
 }
 
 impl Entry {
-    /// A copy.
+    /// Returns a copy.
     ///
     /// # Errors
     ///
-    /// [`AllocError`] where memory runs out.
+    /// [`AllocError`] if memory runs out.
     pub fn try_clone(&self, alloc: Global) -> Result<Entry, AllocError>
         ensures { IfOk result (λ copy. copy ≡ self.now) }
     {
@@ -51,7 +51,7 @@ impl Entry {
     }
 }
 
-/// An entry as it was read, whose texts are the input's. Contracts see the entry.
+/// An entry as it was read, with texts borrowed from the input. Contracts see the entry.
 #[derive(Drop)]
 pub struct EntryParts<'a> {
     group_key: &'a [u8],
@@ -79,7 +79,7 @@ impl<'a> Model for EntryParts<'a> {
 }
 
 impl<'a> EntryParts<'a> {
-    /// The fields of the entry.
+    /// Returns the fields of the entry.
     pub(crate) fn fields(&self) -> EntryFields<'_>
         ensures { entry_in result ≡ self.now }
     {
@@ -93,11 +93,11 @@ impl<'a> EntryParts<'a> {
         }
     }
 
-    /// An entry with texts and lists of its own.
+    /// Copies the entry into one with texts and lists of its own.
     ///
     /// # Errors
     ///
-    /// [`AllocError`] where memory runs out.
+    /// [`AllocError`] if memory runs out.
     pub fn copied(&self, alloc: Global) -> Result<Entry, AllocError>
         ensures { IfOk result (λ copy. copy ≡ self.now) }
     {
@@ -105,7 +105,7 @@ impl<'a> EntryParts<'a> {
     }
 }
 
-/// An entry as it is read.
+/// The draft of an entry.
 #[derive(Drop)]
 pub struct EntryDraft<'a> {
     group_key: LastBytes<'a>,
@@ -193,14 +193,22 @@ impl<'a> MessageReader<'a> for EntryDraft<'a> {
 impl Message for Entry {
     ghost use Rattle.am_nflog.specs.Entries.{IsEntry, reads_entry, writes_entry};
     ghost use Rattle.am_nflog.specs.RoundTrip.{entry_again};
+    ghost use Rattle.am_wire.specs.RoundTrip.Plain.{plainly_itself};
+    ghost use Rattle.std.specs.Prelude.{refl};
 
     ghost is_value = { IsEntry };
 
     ghost writes = { writes_entry };
 
-    ghost reads = { reads_entry };
+    ghost plain = { λ v. v };
+
+    ghost reads = { λ unknown. reads_entry };
 
     ghost round_trip = { entry_again };
+
+    ghost dropped = { λ at bytes. plainly_itself (reads_entry at bytes) };
+
+    ghost plain_again = { λ v. refl };
 
     fn size(&self) -> u64 {
         EntryFields::of(self).size()
@@ -212,7 +220,12 @@ impl Message for Entry {
     }
 
     #[tactic(auto, unfolding(crate::specs::Entries::reads_entry))]
-    fn decode_at(alloc: Global, bytes: &[u8], at: usize) -> Result<Entry, WireError> {
+    fn decode_at(
+        alloc: Global,
+        _unknown: Unknown,
+        bytes: &[u8],
+        at: usize,
+    ) -> Result<Entry, WireError> {
         let entry = read_message::<EntryDraft>(alloc, bytes, at, at)?;
         Ok(entry.copied(alloc)?)
     }

@@ -1,4 +1,4 @@
-//! Versions of entries that stay where their canonical texts lie.
+//! Versions of entries that are borrowed from their canonical texts.
 
 use crate::canonical::read_version;
 use crate::key_parts::KeyParts;
@@ -7,9 +7,9 @@ use am_wire::{ReadText, VersionText};
 use std::cmp::Ordering;
 use std::marker::Model;
 
-/// A version of an entry in its canonical text, which is not copied. Contracts see the version.
+/// A version of an entry, borrowed from its canonical text. Contracts see the version.
 ///
-/// The parts of its key stand beside the text, so that rows are sorted by their keys and written again without making
+/// The parts of its key are beside the text, so that rows can be sorted by their keys and written again without making
 /// versions.
 #[derive(Drop)]
 pub struct EntryText<'a> {

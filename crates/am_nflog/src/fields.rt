@@ -1,4 +1,4 @@
-//! The fields of an entry, wherever they lie: how many bytes they have, and how they are written.
+//! The fields of an entry, wherever they are stored: their length, and the writing of them.
 
 ghost use Rattle.std.specs.Prelude.{◌≡◌, ◌++◌, length, OnOk, IfOk};
 ghost use Rattle.am_wire.specs.Sizes.{counted};
@@ -21,7 +21,7 @@ use am_wire::writing::{
 };
 use std::alloc::{AllocError, Global};
 
-/// The fields of an entry, whose texts and lists are another's.
+/// The fields of an entry, with borrowed texts and lists.
 #[derive(Drop)]
 pub struct EntryFields<'a> {
     pub key: KeyParts<'a>,
@@ -33,7 +33,7 @@ pub struct EntryFields<'a> {
 }
 
 impl<'a> EntryFields<'a> {
-    /// The fields of an entry.
+    /// Returns the fields of an entry.
     pub fn of(entry: &'a Entry) -> Self
         ensures { entry_in result ≡ entry.now }
     {
@@ -47,11 +47,11 @@ impl<'a> EntryFields<'a> {
         }
     }
 
-    /// An entry with texts and lists of its own.
+    /// Copies the fields into an entry with texts and lists of its own.
     ///
     /// # Errors
     ///
-    /// [`AllocError`] where memory runs out.
+    /// [`AllocError`] if memory runs out.
     pub fn copied(&self, alloc: Global) -> Result<Entry, AllocError>
         ensures { IfOk result (λ copy. copy ≡ entry_in self.now) }
     {
@@ -65,7 +65,7 @@ impl<'a> EntryFields<'a> {
         })
     }
 
-    /// How many bytes the entry has.
+    /// Returns the length of the entry.
     #[tactic(auto, unfolding(crate::specs::Entries::writes_entry))]
     pub fn size(&self) -> u64
         ensures { result ≡ counted (length (writes_entry (entry_in self.now))) }
@@ -79,11 +79,11 @@ impl<'a> EntryFields<'a> {
             .saturating_add(numbers_size(7, self.resolved_alerts))
     }
 
-    /// Writes the entry at the end of the bytes, and tells where its parts stand in them.
+    /// Appends the entry to the bytes, and returns the places of its parts in them.
     ///
     /// # Errors
     ///
-    /// [`AllocError`] where memory runs out. Some of the text may be left.
+    /// [`AllocError`] if memory runs out. Some of the text may have been written then.
     #[tactic(auto, unfolding(crate::specs::Entries::writes_entry))]
     pub fn write(&self, out: &mut Vec<u8>) -> Result<Offsets, AllocError>
         ensures written { OnOk result (out.new.items ≡ out.old.items ++ writes_entry (entry_in self.now)) }

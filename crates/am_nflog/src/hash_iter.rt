@@ -1,4 +1,4 @@
-//! Walks over alert hashes, which lie in a list or are packed in a text.
+//! An iterator over alert hashes, which are in a list or packed in a text.
 
 ghost use Rattle.std.specs.Prelude.{◌≡◌, ℕ, List, [], ◌∷◌, ◌==◌, ◌<◌, ◌^◌, length, All, IfSome, IfNone};
 ghost use Rattle.std.specs.Iterator.{YieldsFirst, item_count};
@@ -9,16 +9,16 @@ ghost use Rattle.am_nflog.specs.Packed.{packed_in, IsPacked};
 use am_wire::read_varint;
 use std::marker::Model;
 
-// What is left of a walk: a part of a list, or of packed numbers, each in its shortest spelling.
+// The rest of an iteration: a part of a list, or of packed numbers, each in its shortest spelling.
 #[derive(Clone, Copy)]
 enum Rest<'a> {
     Listed(&'a [u64]),
     Packed(&'a [u8]),
 }
 
-/// Hashes of alerts that are to come, in their order. Contracts see the list.
+/// An iterator over hashes of alerts, in their order. Contracts see the list of those to come.
 ///
-/// The next one is given in the same time, however many there are.
+/// Each step takes constant time, however many there are.
 #[derive(Drop)]
 pub struct HashIter<'a> {
     rest: Rest<'a>,
@@ -36,7 +36,7 @@ impl<'a> Model for HashIter<'a> {
 }
 
 impl<'a> HashIter<'a> {
-    /// All of these hashes.
+    /// Returns an iterator over these hashes.
     pub fn of(hashes: &'a [u64]) -> Self
         ensures { result ≡ hashes.now }
     {
@@ -45,7 +45,7 @@ impl<'a> HashIter<'a> {
         }
     }
 
-    /// The hashes that are packed in these bytes.
+    /// Returns an iterator over the hashes packed in these bytes.
     pub(crate) fn unpacking(bytes: &'a [u8]) -> Self
         requires { (hashes : List ℕ) × (bytes.now ≡ flat_map shortest hashes) × All (λ n. n < 2 ^ 64) hashes }
         ensures { (hashes : List ℕ) → bytes.now ≡ flat_map shortest hashes → All (λ n. n < 2 ^ 64) hashes → result ≡ hashes }
@@ -55,14 +55,14 @@ impl<'a> HashIter<'a> {
         }
     }
 
-    /// The same hashes once more.
+    /// Returns another iterator over the same hashes.
     pub fn again(&self) -> HashIter<'a>
         ensures { result ≡ self.now }
     {
         HashIter { rest: self.rest }
     }
 
-    /// No hash is to come.
+    /// Returns whether there are no more hashes.
     pub fn is_empty(&self) -> bool
         ensures { result ≡ (length self.now == 0) }
     {
@@ -73,7 +73,7 @@ impl<'a> HashIter<'a> {
     }
 }
 
-// The first of the packed numbers, and the bytes of the others.
+// Splits packed numbers into the first one and the bytes of the others.
 fn split_packed(bytes: &[u8]) -> Option<(u64, &[u8])>
     requires { IsPacked bytes.now }
     ensures none { IfNone result (packed_in bytes.now ≡ []) }

@@ -6,7 +6,7 @@ use crate::hash_iter::HashIter;
 use std::alloc::{AllocError, Global};
 use std::marker::Model;
 
-/// Hashes of alerts, in their order. Contracts see the list.
+/// The hashes of alerts, in their order. Contracts see the list.
 #[derive(Drop)]
 pub struct Hashes {
     hashes: Vec<u64>,
@@ -21,39 +21,39 @@ impl Model for Hashes {
 }
 
 impl Hashes {
-    /// These hashes. It takes no memory.
+    /// Returns a list of these hashes, without allocating.
     pub fn new(hashes: Vec<u64>) -> Hashes
         ensures { result ≡ hashes.items }
     {
         Hashes { hashes }
     }
 
-    /// The hashes, in their order.
+    /// Returns the hashes, in their order.
     pub fn as_slice(&self) -> &[u64]
         ensures { result.now ≡ self.now }
     {
         self.hashes.as_slice()
     }
 
-    /// The hashes, one by one.
+    /// Returns an iterator over the hashes.
     pub fn iter(&self) -> HashIter<'_>
         ensures { result ≡ self.now }
     {
         HashIter::of(self.as_slice())
     }
 
-    /// Gives the vector back. It takes no memory.
+    /// Returns the vector of the hashes, without allocating.
     pub fn into_vec(self) -> Vec<u64>
         ensures { result.items ≡ self }
     {
         self.hashes
     }
 
-    /// A copy.
+    /// Returns a copy.
     ///
     /// # Errors
     ///
-    /// [`AllocError`] where memory runs out.
+    /// [`AllocError`] if memory runs out.
     pub fn try_clone(&self, alloc: Global) -> Result<Hashes, AllocError>
         ensures { IfOk result (λ copy. copy ≡ self.now) }
     {

@@ -15,20 +15,20 @@ use std::alloc::{AllocError, Global};
 use std::cmp::Ordering;
 use std::marker::Model;
 
-/// Which group of alerts, and which receiver. Keys are ordered by group key, group name and
-/// integration, byte by byte, and then by index as a number.
+/// The key of a group of alerts and a receiver. Keys are ordered by group key, group name and integration, byte by byte, and
+/// then by index as a number.
 ///
-/// The three texts stand in one, one behind the other.
+/// The three texts are stored as one, one after another.
 pub struct LogKey {
     text: Vec<u8>,
-    // Where the group name begins.
+    // The offset at which the group name begins.
     group_name: usize,
-    // Where the integration begins.
+    // The offset at which the integration begins.
     integration: usize,
     idx: u32,
 }
 
-// (so that crates above cite one drop, and don't prove those of all that is inside)
+// With this the crates above cite one drop, and don't prove those of everything inside.
 impl Drop for LogKey {
     fn drop(self) {
         let LogKey {
@@ -51,22 +51,22 @@ impl Model for LogKey {
 }
 
 impl LogKey {
-    /// The key of a group and a receiver.
+    /// Returns the key of a group and a receiver.
     ///
     /// # Errors
     ///
-    /// [`AllocError`] where memory runs out.
+    /// [`AllocError`] if memory runs out.
     pub fn new(alloc: Global, group_key: &[u8], receiver: &Receiver) -> Result<LogKey, AllocError>
         ensures { IfOk result (λ key. key ≡ record { group_key = group_key.now; receiver = receiver.now }) }
     {
         KeyParts::of(group_key, &receiver.borrowed()).owned(alloc)
     }
 
-    /// The key of a group and the receiver of these parts.
+    /// Returns the key of a group and the receiver made of these parts.
     ///
     /// # Errors
     ///
-    /// [`AllocError`] where memory runs out.
+    /// [`AllocError`] if memory runs out.
     pub fn of_parts(
         alloc: Global,
         group_key: &[u8],
@@ -97,59 +97,59 @@ impl LogKey {
         })
     }
 
-    /// The key of the group of alerts.
+    /// Returns the key of the group of alerts.
     pub fn group_key(&self) -> &[u8]
         ensures { result.now ≡ self.now.group_key }
     {
         &self.text[..self.group_name]
     }
 
-    /// The name of the receiver.
+    /// Returns the name of the receiver.
     pub fn group_name(&self) -> &str
         ensures bytes { result.now ≡ self.now.receiver.group_name }
         ensures utf8 { IsUtf8 self.now.receiver.group_name }
     {
         let bytes = &self.text[self.group_name..self.integration];
-        // (the bytes of a text were put there)
+        // SAFETY: these are the bytes of a text.
         unsafe { str::from_utf8_unchecked(bytes) }
     }
 
-    /// The name of the receiver's integration.
+    /// Returns the name of the receiver's integration.
     pub fn integration(&self) -> &str
         ensures bytes { result.now ≡ self.now.receiver.integration }
         ensures utf8 { IsUtf8 self.now.receiver.integration }
     {
         let bytes = &self.text[self.integration..];
-        // (likewise)
+        // SAFETY: these are the bytes of a text.
         unsafe { str::from_utf8_unchecked(bytes) }
     }
 
-    /// The number of the integration in its receiver.
+    /// Returns the number of the integration in its receiver.
     pub fn idx(&self) -> u32
         ensures { result ≡ self.now.receiver.idx }
     {
         self.idx
     }
 
-    /// The receiver, whose texts are this one's.
+    /// Returns the receiver, with texts borrowed from the key.
     fn receiver(&self) -> ReceiverRef<'_>
         ensures { result ≡ self.now.receiver }
     {
         ReceiverRef::new(self.group_name(), self.integration(), self.idx)
     }
 
-    /// The parts, whose texts are this one's.
+    /// Returns the parts, with texts borrowed from the key.
     pub(crate) fn parts(&self) -> KeyParts<'_>
         ensures { result ≡ self.now }
     {
         KeyParts::of(self.group_key(), &self.receiver())
     }
 
-    /// A copy.
+    /// Returns a copy.
     ///
     /// # Errors
     ///
-    /// [`AllocError`] where memory runs out.
+    /// [`AllocError`] if memory runs out.
     pub fn try_clone(&self, alloc: Global) -> Result<LogKey, AllocError>
         ensures { IfOk result (λ copy. copy ≡ self.now) }
     {
@@ -199,7 +199,7 @@ impl Ord for LogKey {
     ghost matches_eq = { Prim.search (comparing, rules) depth 9 };
 
     fn cmp(&self, other: &LogKey) -> Ordering {
-        // (the receivers are not looked at where the group keys decide)
+        // The receivers are compared only if the group keys are equal.
         match compare_bytes(self.group_key(), other.group_key()) {
             Ordering::Equal => self.receiver().compare(&other.receiver()),
             order => order,

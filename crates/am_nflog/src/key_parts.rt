@@ -1,4 +1,4 @@
-//! Keys of the log whose parts lie elsewhere.
+//! Keys of the log with borrowed parts.
 
 ghost use Rattle.std.specs.Prelude.{◌≡◌, IfOk};
 ghost use Rattle.am_nflog.specs.Keys.{key_cmp};
@@ -10,7 +10,7 @@ use std::alloc::{AllocError, Global};
 use std::cmp::Ordering;
 use std::marker::Model;
 
-/// The parts of a key, whose texts are another's. Contracts see the key.
+/// The parts of a key, with borrowed texts. Contracts see the key.
 #[derive(Drop)]
 pub struct KeyParts<'a> {
     group_key: &'a [u8],
@@ -31,7 +31,7 @@ impl<'a> Model for KeyParts<'a> {
 }
 
 impl<'a> KeyParts<'a> {
-    /// The key of a group and a receiver.
+    /// Returns the key of a group and a receiver.
     pub fn of(group_key: &'a [u8], receiver: &ReceiverRef<'a>) -> Self
         ensures { result ≡ record { group_key = group_key.now; receiver = receiver.now } }
     {
@@ -43,21 +43,21 @@ impl<'a> KeyParts<'a> {
         }
     }
 
-    /// The key of the group of alerts.
+    /// Returns the key of the group of alerts.
     pub fn group_key(&self) -> &'a [u8]
         ensures { result.now ≡ self.now.group_key }
     {
         self.group_key
     }
 
-    /// The receiver.
+    /// Returns the receiver.
     pub fn receiver(&self) -> ReceiverRef<'a>
         ensures { result ≡ self.now.receiver }
     {
         ReceiverRef::new(self.group_name, self.integration, self.idx)
     }
 
-    /// The order of two keys. It takes no memory.
+    /// Compares two keys. Nothing is allocated.
     pub fn compare(&self, other: &KeyParts<'_>) -> Ordering
         ensures { result ≡ key_cmp self.now other.now }
     {
@@ -67,11 +67,11 @@ impl<'a> KeyParts<'a> {
         }
     }
 
-    /// The key, with a text of its own.
+    /// Copies the key into one with a text of its own.
     ///
     /// # Errors
     ///
-    /// [`AllocError`] where memory runs out.
+    /// [`AllocError`] if memory runs out.
     pub fn owned(&self, alloc: Global) -> Result<LogKey, AllocError>
         ensures { IfOk result (λ key. key ≡ self.now) }
     {

@@ -1,4 +1,4 @@
-//! The notification log: what was notified, of which groups, and when.
+//! The notification log: which groups were notified of what, and when.
 #![tactic(auto)]
 
 mod canonical;

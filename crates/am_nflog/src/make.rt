@@ -1,4 +1,4 @@
-//! The entry that a notification leaves.
+//! The entry that a notification leaves in the log.
 
 ghost use Rattle.std.specs.Prelude.{◌≡◌, ◌<◌, ◌≤◌, ◌↔◌, ◌⊎◌, length, Err, IfOk, IfErr, OnErr, IfSome, IsNone};
 ghost use Rattle.am_wire.specs.Limits.{most};
@@ -15,7 +15,7 @@ use am_version_order::{Interval, Moment};
 use am_wire::{Bytes, WireError};
 use std::alloc::Global;
 
-/// When the entry of a notification at `now` expires.
+/// Returns the moment at which the entry of a notification at `now` expires.
 fn expiry(repeat: Interval, retention: Interval, now: Moment) -> Moment
     ensures { result ≡ expiry repeat retention now }
 {
@@ -24,14 +24,13 @@ fn expiry(repeat: Interval, retention: Interval, now: Moment) -> Moment
     by_retention.min(by_repeat)
 }
 
-/// The entry of a notification at `now`: it expires after the smaller of `retention` and two times
-/// `repeat`, and [`Moment::GREATEST`] caps that. Where this is not after `now`, no entry is made, and nothing
-/// is refused.
+/// Returns the entry of a notification at `now`. It expires after the smaller of `retention` and two times `repeat`, but not
+/// after [`Moment::GREATEST`]. If that is not after `now`, no entry is made, and nothing is refused.
 ///
 /// # Errors
 ///
-/// [`WireError::TooLarge`] exactly where an entry is to be made and its version's canonical text has over
-/// 67,108,864 bytes, and [`WireError::Memory`] where memory runs out.
+/// [`WireError::TooLarge`] if and only if an entry is to be made and its version's canonical text has more than 67,108,864
+/// bytes, and [`WireError::Memory`] if memory runs out.
 pub fn make_entry(
     alloc: Global,
     group_key: Bytes,

@@ -1,6 +1,6 @@
-//! Entries as instances pass them on.
+//! Entries as instances exchange them.
 
-ghost use Rattle.std.specs.Prelude.{◌≡◌, ℕ, ◌+◌, ◌^◌, ◌<◌, ◌≤◌, List, [], ◌∷◌, ◌++◌, length, Ok, Err, OnOk, IfOk, IfErr, IfSome, ◌⊎◌, ◌↔◌};
+ghost use Rattle.std.specs.Prelude.{◌≡◌, ℕ, ◌+◌, ◌^◌, ◌<◌, ◌≤◌, List, [], ◌∷◌, ◌++◌, length, IsTrue, Ok, Err, OnOk, IfOk, IfErr, IfSome, ◌⊎◌, ◌↔◌};
 ghost use Rattle.am_version_order.specs.Moments.{greatest};
 ghost use Rattle.am_wire.specs.Limits.{most};
 ghost use Rattle.am_wire.specs.declared.error.WireError.TheVariants as errors;
@@ -8,9 +8,11 @@ ghost use Rattle.am_wire.specs.Reading.{GivesUnlessMemory};
 ghost use Rattle.am_wire.specs.Sizes.{counted};
 ghost use Rattle.am_nflog.specs.Entries.{writes_entry, IsEntry};
 ghost use Rattle.am_nflog.specs.Fields.{entry_in};
-ghost use Rattle.am_nflog.specs.Mesh.{Mesh, writes_mesh_entry};
+ghost use Rattle.am_wire.specs.Unknown.{IsUnknown, none};
+ghost use Rattle.am_nflog.specs.Mesh.{Mesh, plain_version, entry_numbers, writes_mesh_entry};
 ghost use Rattle.am_nflog.specs.MeshTable.{reads_mesh_entry};
 ghost use Rattle.am_nflog.specs.Offsets.{StandAt};
+ghost use Rattle.am_wire.specs.declared.unknown.Unknown.{Unknown};
 
 use crate::canonical::read_version;
 use crate::entry::{Entry, EntryDraft};
@@ -21,14 +23,18 @@ use crate::offsets::Offsets;
 use am_version_order::{Moment, Version, head_of_text};
 use am_wire::reading::{Expiring, ExpiringDraft, read_message};
 use am_wire::writing::{append_text, expiring_size, write_message, write_prefix};
-use am_wire::{MOST_MESSAGE_BYTES, Message, WireError};
+use am_wire::{MOST_MESSAGE_BYTES, Message, Unknown, UnknownFields, WireError};
 use std::alloc::{AllocError, Global};
 use std::marker::Model;
 
-/// A version of an entry: the entry, and the moment from which on it may be forgotten.
+// The numbers of an entry's known fields.
+const KNOWN: [u32; 7] = [1, 2, 3, 4, 5, 6, 7];
+
+/// A version of an entry: the entry, the moment from which it may be forgotten, and the fields that a reader kept without
+/// knowing them.
 ///
-/// Its canonical text is kept, so that comparing takes no memory; beside it stand its key and its moments, and the
-/// places of its other parts in that text.
+/// It is stored as its canonical text, so that comparing allocates nothing, with its key and its moments beside it, and the
+/// places of its other parts in the text.
 pub struct MeshEntry {
     key: LogKey,
     timestamp: Moment,
@@ -38,7 +44,7 @@ pub struct MeshEntry {
     canonical: Vec<u8>,
 }
 
-// (so that crates above cite one drop, and don't prove those of all that is inside)
+// With this the crates above cite one drop, and don't prove those of everything inside.
 impl Drop for MeshEntry {
     fn drop(self) {
         let MeshEntry {
@@ -74,57 +80,59 @@ impl Model for MeshEntry {
 }
 
 impl MeshEntry {
-    /// A version of these parts.
+    /// Returns a version of these parts, without unknown fields.
     ///
     /// # Errors
     ///
-    /// [`WireError::TooLarge`] exactly where its canonical text has over 67,108,864 bytes, and
-    /// [`WireError::Memory`] where memory runs out.
+    /// [`WireError::TooLarge`] if and only if its canonical text has more than 67,108,864 bytes, and [`WireError::Memory`] if
+    /// memory runs out.
     pub fn new(alloc: Global, entry: Entry, expires_at: Moment) -> Result<MeshEntry, WireError>
-        ensures parts { IfOk result (λ m. m ≡ record { entry = entry; expires_at = expires_at }) }
+        ensures parts { IfOk result (λ m. m ≡ plain_version entry expires_at) }
         ensures within { IfOk result (λ m. length (writes_mesh_entry m) ≤ most) }
         ensures too_large { (result ≡ Err errors.TooLarge) ↔
-            (most < length (writes_mesh_entry (record { entry = entry; expires_at = expires_at }))) }
+            (most < length (writes_mesh_entry (plain_version entry expires_at))) }
         ensures refused { IfErr result (λ e. (e ≡ errors.Memory) ⊎ (e ≡ errors.TooLarge)) }
     {
         MeshEntry::of_fields(alloc, &EntryFields::of(&entry), expires_at)
     }
 
-    // The same of an entry's fields.
+    // Returns a version of an entry's fields, as `new` does.
     #[tactic(auto, unfolding(crate::specs::Mesh::writes_mesh_entry))]
     pub(crate) fn of_fields(
         alloc: Global,
         fields: &EntryFields<'_>,
         expires_at: Moment,
     ) -> Result<MeshEntry, WireError>
-        ensures parts { IfOk result (λ m. m ≡ record { entry = entry_in fields.now; expires_at = expires_at }) }
+        ensures parts { IfOk result (λ m. m ≡ plain_version (entry_in fields.now) expires_at) }
         ensures within { IfOk result (λ m. length (writes_mesh_entry m) ≤ most) }
         ensures too_large { (result ≡ Err errors.TooLarge) ↔
-            (most < length (writes_mesh_entry (record { entry = entry_in fields.now; expires_at = expires_at }))) }
+            (most < length (writes_mesh_entry (plain_version (entry_in fields.now) expires_at))) }
         ensures refused { IfErr result (λ e. (e ≡ errors.Memory) ⊎ (e ≡ errors.TooLarge)) }
     {
         let size = fields.size();
         if expiring_size(size, expires_at) > MOST_MESSAGE_BYTES {
             return Err(WireError::TooLarge);
         }
-        let version = MeshEntry::of_sized(alloc, fields, size, expires_at)?;
+        let unknown = UnknownFields::none(alloc);
+        let version = MeshEntry::of_sized(alloc, fields, size, expires_at, &unknown)?;
         Ok(version)
     }
 
-    // A version of these parts, however long its text is; the entry has so many bytes.
+    // Returns a version of these parts and unknown fields, whatever the length of its text; the entry has `size` bytes.
     #[tactic(auto, unfolding(crate::specs::Mesh::writes_mesh_entry))]
     fn of_sized(
         alloc: Global,
         fields: &EntryFields<'_>,
         size: u64,
         expires_at: Moment,
+        unknown: &UnknownFields,
     ) -> Result<MeshEntry, AllocError>
-        requires { size ≡ counted (length (writes_entry (entry_in fields.now))) }
-        ensures { IfOk result (λ m. m ≡ record { entry = entry_in fields.now; expires_at = expires_at }) }
+        requires size { size ≡ counted (length (writes_entry (entry_in fields.now))) }
+        requires unknown { IsUnknown entry_numbers unknown.now }
+        ensures { IfOk result (λ m. m ≡ record { entry = entry_in fields.now; expires_at = expires_at; unknown = unknown.now }) }
     {
-        let room = expiring_size(size, expires_at) as usize;
-        let mut canonical = Vec::with_capacity(alloc, room)?;
-        let places = write_version(&mut canonical, fields, size, expires_at)?;
+        let mut canonical = Vec::new(alloc);
+        let places = write_version(&mut canonical, fields, size, expires_at, unknown)?;
         let key = fields.key.owned(alloc)?;
         Ok(MeshEntry {
             key,
@@ -136,9 +144,9 @@ impl MeshEntry {
         })
     }
 
-    // The version that a text is the canonical one of; none where it is not canonical.
+    // Returns the version that a text spells if it is canonical and has no unknown fields, and `None` otherwise.
     fn of_canonical(alloc: Global, text: &[u8]) -> Result<Option<MeshEntry>, AllocError>
-        ensures { IfOk result (λ found. IfSome found (λ m. (at : ℕ) → reads_mesh_entry at text.now ≡ Ok m)) }
+        ensures { IfOk result (λ found. IfSome found (λ m. (unknown : Unknown) (at : ℕ) → reads_mesh_entry unknown at text.now ≡ Ok m)) }
     {
         let Some((entry, expires_at)) = read_version(text) else {
             return Ok(None);
@@ -156,11 +164,16 @@ impl MeshEntry {
         Ok(Some(version))
     }
 
-    // The version that a text spells in one way or another.
+    // Returns the version that a text spells in any way.
     #[tactic(auto, unfolding(crate::specs::MeshTable::reads_mesh_entry))]
-    fn of_spelling(alloc: Global, text: &[u8], at: usize) -> Result<MeshEntry, WireError>
+    fn of_spelling(
+        alloc: Global,
+        unknown: Unknown,
+        text: &[u8],
+        at: usize,
+    ) -> Result<MeshEntry, WireError>
         requires { at + length text.now < 2 ^ 64 }
-        ensures { GivesUnlessMemory result (reads_mesh_entry at text.now) }
+        ensures { GivesUnlessMemory result (reads_mesh_entry unknown at text.now) }
     {
         let Expiring {
             message: entry,
@@ -168,39 +181,40 @@ impl MeshEntry {
         } = read_message::<ExpiringDraft<EntryDraft>>(alloc, text, at, at)?;
         let fields = entry.fields();
         let size = fields.size();
-        let version = MeshEntry::of_sized(alloc, &fields, size, expires_at)?;
+        let unknown = UnknownFields::of(alloc, unknown, &KNOWN, text, at)?;
+        let version = MeshEntry::of_sized(alloc, &fields, size, expires_at, &unknown)?;
         Ok(version)
     }
 
-    /// The moment of the notification, by which versions replace each other.
+    /// Returns the moment of the notification, by which versions replace each other.
     pub fn timestamp(&self) -> Moment
         ensures { result ≡ self.now.entry.timestamp }
     {
         self.timestamp
     }
 
-    /// The moment from which on it may be forgotten.
+    /// Returns the moment from which the version may be forgotten.
     pub fn expires_at(&self) -> Moment
         ensures { result ≡ self.now.expires_at }
     {
         self.expires_at
     }
 
-    /// The bytes of the field `group_hash` of its protobuf message, which nothing here sets.
+    /// Returns the bytes of the field `group_hash` of its protobuf message, which nothing here sets.
     pub fn group_hash(&self) -> &[u8]
         ensures { result.now ≡ self.now.entry.group_hash }
     {
         self.places.group_hash.part_of(self.canonical.as_slice())
     }
 
-    /// The field `resolved` of its protobuf message, which nothing here sets.
+    /// Returns the field `resolved` of its protobuf message, which nothing here sets.
     pub fn resolved(&self) -> bool
         ensures { result ≡ self.now.entry.resolved }
     {
         self.resolved
     }
 
-    /// The alerts that were firing, one by one.
+    /// Returns an iterator over the hashes of the alerts that were firing.
     pub fn firing_alerts(&self) -> HashIter<'_>
         ensures { result ≡ self.now.entry.firing_alerts }
     {
@@ -208,7 +222,7 @@ impl MeshEntry {
         HashIter::unpacking(packed)
     }
 
-    /// The alerts that were resolved, one by one.
+    /// Returns an iterator over the hashes of the alerts that were resolved.
     pub fn resolved_alerts(&self) -> HashIter<'_>
         ensures { result ≡ self.now.entry.resolved_alerts }
     {
@@ -220,38 +234,53 @@ impl MeshEntry {
     }
 }
 
-// Writes a version whose entry has so many bytes, and tells where the entry's parts stand.
+// Writes a version with unknown fields, and returns the places of the entry's parts; the entry has `size` bytes.
 #[tactic(auto, unfolding(crate::specs::Mesh::writes_mesh_entry))]
 fn write_version(
     out: &mut Vec<u8>,
     fields: &EntryFields<'_>,
     size: u64,
     expires_at: Moment,
+    unknown: &UnknownFields,
 ) -> Result<Offsets, AllocError>
     requires { size ≡ counted (length (writes_entry (entry_in fields.now))) }
     ensures written { OnOk result (out.new.items ≡
-        out.old.items ++ writes_mesh_entry (record { entry = entry_in fields.now; expires_at = expires_at })) }
+        out.old.items ++ writes_mesh_entry (record { entry = entry_in fields.now; expires_at = expires_at; unknown = unknown.now })) }
     ensures value { OnOk result (IsEntry (entry_in fields.now)) }
     ensures moment { OnOk result (expires_at ≤ greatest) }
     ensures places { IfOk result (λ places. StandAt (entry_in fields.now) places out.new.items) }
 {
+    let inner = unknown.inner.as_slice();
+    let outer = unknown.outer.as_slice();
+    let size = size.saturating_add(inner.len() as u64);
+    let room = expiring_size(size, expires_at).saturating_add(outer.len() as u64);
+    out.reserve_exact(room as usize)?;
     write_prefix(out, 1, size)?;
     let places = fields.write(out)?;
+    out.extend_from_slice(inner)?;
     write_message(out, 2, &expires_at)?;
+    out.extend_from_slice(outer)?;
     Ok(places)
 }
 
 impl Message for MeshEntry {
-    ghost use Rattle.am_nflog.specs.Mesh.{IsMesh};
-    ghost use Rattle.am_nflog.specs.RoundTrip.{mesh_again};
+    ghost use Rattle.std.specs.Prelude.{refl};
+    ghost use Rattle.am_nflog.specs.Mesh.{IsMesh, without_unknown};
+    ghost use Rattle.am_nflog.specs.RoundTrip.{mesh_again, mesh_dropped};
 
     ghost is_value = { IsMesh };
 
     ghost writes = { writes_mesh_entry };
 
+    ghost plain = { without_unknown };
+
     ghost reads = { reads_mesh_entry };
 
     ghost round_trip = { mesh_again };
+
+    ghost dropped = { mesh_dropped };
+
+    ghost plain_again = { λ m. refl };
 
     fn size(&self) -> u64 {
         self.canonical().len() as u64
@@ -265,11 +294,16 @@ impl Message for MeshEntry {
         append_text(out, self.canonical())
     }
 
-    fn decode_at(alloc: Global, bytes: &[u8], at: usize) -> Result<MeshEntry, WireError> {
+    fn decode_at(
+        alloc: Global,
+        unknown: Unknown,
+        bytes: &[u8],
+        at: usize,
+    ) -> Result<MeshEntry, WireError> {
         if let Some(version) = MeshEntry::of_canonical(alloc, bytes)? {
             return Ok(version);
         }
-        MeshEntry::of_spelling(alloc, bytes, at)
+        MeshEntry::of_spelling(alloc, unknown, bytes, at)
     }
 }
 
@@ -285,7 +319,7 @@ impl Version for MeshEntry {
 
     ghost seen = { mesh_version };
 
-    // entries are looked up by their keys alone
+    // Entries are looked up by their keys alone.
     ghost bucket_of = { λ m. [] };
 
     ghost head_of = { λ key. head_of_text key.group_key };

@@ -1,8 +1,8 @@
-//! Where the parts of an entry stand in a text.
+//! The places of an entry's parts in a text.
 
 use am_wire::reading::Offset;
 
-/// Where the parts of an entry stand in a text.
+/// The places of an entry's parts in a text.
 #[derive(Clone, Copy)]
 pub struct Offsets {
     pub group_hash: Offset,

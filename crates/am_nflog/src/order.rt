@@ -1,4 +1,4 @@
-//! The order of bytes. Keys of the log begin alike for long, so whole words are compared first.
+//! The order of bytes. Keys of the log have long common prefixes, so whole words are compared first.
 
 ghost use Rattle.std.specs.Prelude.{◌≡◌, ◌≤◌, IfSome, length, take, drop};
 ghost use Rattle.std.specs.Int.{w64, from_be_bytes};
@@ -7,10 +7,10 @@ ghost use Rattle.std.specs.Cmp.Lexicographic.{slice_cmp};
 
 use std::cmp::Ordering;
 
-/// How many bytes a word has.
+/// The number of bytes in a word.
 const WORD: usize = 8;
 
-/// The order of bytes.
+/// Compares bytes.
 pub(crate) fn compare_bytes(a: &[u8], b: &[u8]) -> Ordering
     ensures { result ≡ slice_cmp nat_cmp a.now b.now }
 {
@@ -26,7 +26,7 @@ pub(crate) fn compare_bytes(a: &[u8], b: &[u8]) -> Ordering
     compare_short(left, right)
 }
 
-/// The first word, as a number that goes by the order of its bytes, and what stands behind it.
+/// Splits bytes into the first word, as a number that follows the order of its bytes, and the rest.
 #[inline(always)]
 fn split_word(bytes: &[u8]) -> Option<(u64, &[u8])>
     ensures within { IfSome result (λ parts. 8 ≤ length bytes.now) }
@@ -37,7 +37,7 @@ fn split_word(bytes: &[u8]) -> Option<(u64, &[u8])>
     Some((u64::from_be_bytes(*word), rest))
 }
 
-/// The order of bytes, one by one.
+/// Compares bytes one by one.
 fn compare_short(a: &[u8], b: &[u8]) -> Ordering
     ensures { result ≡ slice_cmp nat_cmp a.now b.now }
 {

@@ -1,4 +1,4 @@
-//! Receivers: to whom a group's notifications go.
+//! Receivers, to which a group's notifications are sent.
 
 ghost use Rattle.std.specs.Prelude.{◌≡◌, ℕ, List, [], ◌∷◌, ◌++◌, OnOk, IfOk, IfErr, length};
 ghost use Rattle.am_wire.specs.Sizes.{counted};
@@ -7,7 +7,7 @@ ghost use Rattle.am_nflog.specs.Receivers.{receiver, writes_receiver, IsReceiver
 
 use am_wire::reading::{LastNumber, LastText, MessageReader, Schema, read_message};
 use am_wire::writing::{number_size, text_size, write_number, write_text};
-use am_wire::{Field, Message, Text, WireError, WireType};
+use am_wire::{Field, Message, Text, Unknown, WireError, WireType};
 use std::alloc::{AllocError, Global};
 use std::cmp::Ordering;
 use std::marker::Model;
@@ -21,7 +21,7 @@ pub struct Receiver {
 }
 
 impl Receiver {
-    /// The same receiver, whose texts are this one's.
+    /// Returns the same receiver with borrowed texts.
     pub(crate) fn borrowed(&self) -> ReceiverRef<'_>
         ensures { result ≡ self.now }
     {
@@ -32,11 +32,11 @@ impl Receiver {
         )
     }
 
-    /// A copy.
+    /// Returns a copy.
     ///
     /// # Errors
     ///
-    /// [`AllocError`] where memory runs out.
+    /// [`AllocError`] if memory runs out.
     pub fn try_clone(&self, alloc: Global) -> Result<Receiver, AllocError>
         ensures { IfOk result (λ copy. copy ≡ self.now) }
     {
@@ -44,7 +44,7 @@ impl Receiver {
     }
 }
 
-/// A receiver whose texts are another's. Contracts see the receiver.
+/// A receiver with borrowed texts. Contracts see the receiver.
 #[derive(Drop)]
 pub struct ReceiverRef<'a> {
     group_name: &'a str,
@@ -61,7 +61,7 @@ impl<'a> Model for ReceiverRef<'a> {
 }
 
 impl<'a> ReceiverRef<'a> {
-    /// A receiver of these parts.
+    /// Returns a receiver of these parts.
     pub fn new(group_name: &'a str, integration: &'a str, idx: u32) -> Self
         ensures { result ≡ record { group_name = group_name.now; integration = integration.now; idx = idx } }
     {
@@ -72,28 +72,28 @@ impl<'a> ReceiverRef<'a> {
         }
     }
 
-    /// The name of the receiver.
+    /// Returns the name of the receiver.
     pub fn group_name(&self) -> &'a str
         ensures { result.now ≡ self.now.group_name }
     {
         self.group_name
     }
 
-    /// The name of its integration.
+    /// Returns the name of its integration.
     pub fn integration(&self) -> &'a str
         ensures { result.now ≡ self.now.integration }
     {
         self.integration
     }
 
-    /// The number of the integration in its receiver.
+    /// Returns the number of the integration in its receiver.
     pub fn idx(&self) -> u32
         ensures { result ≡ self.now.idx }
     {
         self.idx
     }
 
-    /// The order of two receivers. It takes no memory.
+    /// Compares two receivers. Nothing is allocated.
     #[inline]
     pub(crate) fn compare(&self, other: &ReceiverRef<'_>) -> Ordering
         ensures { result ≡ receiver_cmp self.now other.now }
@@ -108,11 +108,11 @@ impl<'a> ReceiverRef<'a> {
         }
     }
 
-    /// A receiver with texts of its own.
+    /// Copies the receiver into one with texts of its own.
     ///
     /// # Errors
     ///
-    /// [`AllocError`] where memory runs out.
+    /// [`AllocError`] if memory runs out.
     pub fn copied(&self, alloc: Global) -> Result<Receiver, AllocError>
         ensures { IfOk result (λ copy. copy ≡ self.now) }
     {
@@ -123,7 +123,7 @@ impl<'a> ReceiverRef<'a> {
         })
     }
 
-    /// How many bytes its text has.
+    /// Returns the length of its text.
     #[tactic(auto, unfolding(crate::specs::Receivers::writes_receiver))]
     pub(crate) fn size(&self) -> u64
         ensures { result ≡ counted (length (writes_receiver self.now)) }
@@ -133,7 +133,7 @@ impl<'a> ReceiverRef<'a> {
             .saturating_add(number_size(3, u64::from(self.idx)))
     }
 
-    /// Writes its text at the end of the bytes.
+    /// Appends its text to the bytes.
     #[tactic(auto, unfolding(crate::specs::Receivers::writes_receiver))]
     pub(crate) fn write(&self, out: &mut Vec<u8>) -> Result<(), AllocError>
         ensures written { OnOk result (out.new.items ≡ out.old.items ++ writes_receiver self.now) }
@@ -145,7 +145,7 @@ impl<'a> ReceiverRef<'a> {
     }
 }
 
-/// A receiver as it is read.
+/// The draft of a receiver.
 #[derive(Clone, Copy)]
 pub struct ReceiverDraft<'a> {
     group_name: LastText<'a>,
@@ -208,14 +208,22 @@ impl<'a> MessageReader<'a> for ReceiverDraft<'a> {
 impl Message for Receiver {
     ghost use Rattle.am_nflog.specs.Receivers.{IsReceiver, reads_receiver, writes_receiver};
     ghost use Rattle.am_nflog.specs.RoundTrip.{receiver_again};
+    ghost use Rattle.am_wire.specs.RoundTrip.Plain.{plainly_itself};
+    ghost use Rattle.std.specs.Prelude.{refl};
 
     ghost is_value = { IsReceiver };
 
     ghost writes = { writes_receiver };
 
-    ghost reads = { reads_receiver };
+    ghost plain = { λ v. v };
+
+    ghost reads = { λ unknown. reads_receiver };
 
     ghost round_trip = { receiver_again };
+
+    ghost dropped = { λ at bytes. plainly_itself (reads_receiver at bytes) };
+
+    ghost plain_again = { λ v. refl };
 
     fn size(&self) -> u64 {
         self.borrowed().size()
@@ -226,7 +234,12 @@ impl Message for Receiver {
     }
 
     #[tactic(auto, unfolding(crate::specs::Receivers::reads_receiver))]
-    fn decode_at(alloc: Global, bytes: &[u8], at: usize) -> Result<Receiver, WireError> {
+    fn decode_at(
+        alloc: Global,
+        _unknown: Unknown,
+        bytes: &[u8],
+        at: usize,
+    ) -> Result<Receiver, WireError> {
         let receiver = read_message::<ReceiverDraft>(alloc, bytes, at, at)?;
         Ok(receiver.copied(alloc)?)
     }

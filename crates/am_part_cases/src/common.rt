@@ -1,4 +1,4 @@
-//! What all cases share: their words, what is printed of values, and calls over readers and writers that fail.
+//! The parts that all cases share: their words, the printing of values, and calls over readers and writers that fail.
 
 mod bytes;
 mod case;

@@ -1,7 +1,7 @@
-//! The words of cases, and the answers to those of what stands below an instance (docs/CASES.md).
+//! The words of cases, and the answers to the cases of everything below an instance (docs/CASES.md).
 #![tactic(auto)]
 
-/// Prints values one after the other; `?` before one has it printed as code spells it, and `@` as cases do.
+/// Prints values one after the other; `?` before a value prints it as code writes it, and `@` as cases do.
 #[macro_export]
 macro_rules! put {
     ($case:expr;) => { () };
@@ -16,7 +16,7 @@ macro_rules! say {
     ($case:expr; $($rest:tt)+) => {{ $crate::put!($case; $($rest)+); $case.put("\n") }};
 }
 
-/// Names a value, and says others of it; or `none` where there is none.
+/// Prints values about a named value, or `none` if there is no such value.
 #[macro_export]
 macro_rules! say_some {
     ($case:expr; $name:pat = $value:expr; $($rest:tt)+) => {
@@ -24,7 +24,7 @@ macro_rules! say_some {
     };
 }
 
-/// Names a value, and returns where there is none.
+/// Names a value, and returns if there is none.
 #[macro_export]
 macro_rules! given {
     ($name:pat = $value:expr) => { let Some($name) = $value else { return; }; };

@@ -1,4 +1,4 @@
-//! Cases of what stands below an instance. The functions `answer` hand on to one another what is no verb of theirs.
+//! Cases of everything below an instance. Each function `answer` passes the verbs that aren't its own on to the next one.
 
 mod figures;
 mod frames;

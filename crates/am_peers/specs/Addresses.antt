@@ -8,23 +8,23 @@ use Rattle.std.specs.Net.Grammar.{IsSocketText}
 use Rattle.std.specs.Net.Socket.{socket_ip, socket_port}
 use Rattle.am_peers.specs.Peers.{IsNumberWithin, decimal_of}
 
--- a port of 127.0.0.1
+-- the address is this port of 127.0.0.1
 pub record IsHere (port : ℕ) (address : SocketAddr) : Type 0 where
   pub ip : Ipv4Addr
   pub octets : ipv4_octets ip ≡ 127 ∷ 0 ∷ 0 ∷ 1 ∷ []
   pub at : socket_ip address ≡ Ip.V4 ip
   pub port_is : socket_port address ≡ port
 
--- an address and a port, as the standard library reads them, and the port isn't 0
+-- the word is an address and a port, as the standard library reads them, and the port isn't 0
 abbrev pub IsWritten : List ℕ → SocketAddr → Type 0
 IsWritten word address = IsSocketText word address × (0 < socket_port address)
 
--- a word is a port, which is one of 127.0.0.1, or an address and a port
+-- the word is a port, which is one of 127.0.0.1, or an address and a port
 abbrev pub IsAddressWord : List ℕ → SocketAddr → Type 0
 IsAddressWord word address =
     (IsNumberWithin 1 65535 word × IsHere (decimal_of word) address) ⊎ ((¬ IsNumberWithin 1 65535 word) × IsWritten word address)
 
--- a word is a name, the sign = and an address, cut at its last sign
+-- the word is a name, the sign = and an address, cut at its last sign =
 pub record IsPeerWord (word name : List ℕ) (address : SocketAddr) : Type 0 where
   pub text : List ℕ
   pub parts : word ≡ name ++ (61 ∷ text)

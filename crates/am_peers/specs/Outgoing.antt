@@ -1,4 +1,4 @@
--- What one peer sends to another: its greeting, and frames behind it.
+-- The bytes that one peer sends to another: its greeting, and frames behind it.
 use Rattle.std.specs.Prelude.{ℕ, Bool, ◌&&◌, nat_lt, nat_le, List, ◌∷◌, ◌++◌, length}
 use Rattle.std.specs.List.{list_all}
 use Rattle.am_wire.specs.Varint.{shortest}
@@ -9,10 +9,10 @@ use Rattle.am_gossip.specs.Frames.{fits}
 abbrev pub greeting_text : List ℕ → List ℕ
 greeting_text name = 0 ∷ (shortest (length name) ++ name)
 
--- a greeting has a name of 1 to 255 bytes
+-- whether a greeting may have a name: it has 1 to 255 bytes
 abbrev pub is_name : List ℕ → Bool
 is_name name = nat_lt 0 (length name) && nat_le (length name) 255
 
--- the payload of each frame keeps the limit of its kind
+-- whether the payload of each frame keeps the limit of its kind
 abbrev pub all_fit : List Frame → Bool
 all_fit frames = list_all fits frames

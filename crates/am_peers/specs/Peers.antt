@@ -3,7 +3,7 @@ use Rattle.std.specs.Prelude.{◌≡◌, ℕ, ◌+◌, ◌-◌, ◌*◌, ◌<◌
 use Rattle.std.specs.List.{list_all}
 use Rattle.std.specs.Char.{is_ascii_digit}
 
--- the number that decimal digits are, the highest first, behind a number
+-- the number that these decimal digits are, the highest first, behind a number
 abbrev pub decimal_behind : ℕ → List ℕ → ℕ
 decimal_behind n [] = n
 decimal_behind n (digit ∷ digits) = decimal_behind (10 * n + (digit - 48)) digits
@@ -11,12 +11,12 @@ decimal_behind n (digit ∷ digits) = decimal_behind (10 * n + (digit - 48)) dig
 unfoldable pub decimal_of : List ℕ → ℕ
 decimal_of digits = decimal_behind 0 digits
 
--- one ASCII digit or more, and nothing else
+-- the word consists of one ASCII digit or more, and nothing else
 pub record IsNumber (word : List ℕ) : Type 0 where
   pub some : 0 < length word
   pub digits : list_all is_ascii_digit word ≡ true
 
--- a number that lies between the least and the most
+-- the word is a number that lies between the least and the most
 pub record IsNumberWithin (least most : ℕ) (word : List ℕ) : Type 0 where
   pub number : IsNumber word
   pub not_below : least ≤ decimal_of word

@@ -1,4 +1,4 @@
--- What waits to be sent, parted by addressee.
+-- The frames that wait to be sent, split by addressee.
 use Rattle.std.specs.Prelude.{ℕ, ◌==◌, not, List, map}
 use Rattle.std.specs.List.{filter}
 use Rattle.am_gossip.specs.declared.frame.Frame.{Frame}
@@ -7,6 +7,6 @@ use Rattle.am_gossip.specs.declared.frame.Frame.{Frame}
 abbrev pub frames_for : ℕ → List (ℕ × Frame) → List Frame
 frames_for place queued = map (λ q. q.1) (filter (λ q. q.0 == place) queued)
 
--- those for all other places, in their order
+-- the frames for all other places, in their order
 abbrev pub frames_beside : ℕ → List (ℕ × Frame) → List (ℕ × Frame)
 frames_beside place queued = filter (λ q. not (q.0 == place)) queued

@@ -20,7 +20,7 @@ pub record HasReply (reply : List ℕ) (code : ℕ) (body : List ℕ) : Type 0 w
 abbrev pub HasNoReply : List ℕ → Type 0
 HasNoReply reply = (head : ResponseHead) (rest : List ℕ) → ReadsResponse (window reply) head rest → 64 < length head.fields
 
--- why a reply has no body that counts
+-- the reason why a reply has no body that counts
 abbrev pub IsRefused : List ℕ → ServerFault → Type 0
 IsRefused reply NoHead = HasNoReply reply
 IsRefused reply (Status code) = (code ≢ 200) × (body : List ℕ) × HasReply reply code body

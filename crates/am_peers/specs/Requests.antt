@@ -1,4 +1,4 @@
--- What a server is asked, and how much is read of its reply.
+-- The request to a server, and how much of its reply is read.
 use Rattle.std.specs.Prelude.{ℕ, List, ◌++◌, codes, ⊤}
 use Rattle.am_peers.specs.declared.error.ServerFault.{ServerFault}
 use Rattle.am_peers.specs.declared.error.ServerFault.TheVariants.{Read, TooLarge, Memory}

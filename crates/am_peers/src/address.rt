@@ -1,4 +1,4 @@
-//! Addresses.
+//! Addresses of the command line.
 
 ghost use Rattle.std.specs.Prelude.{◌≡◌, ◌<◌, ◌↔◌, IfNone, IfSome, IsTrue};
 ghost use Rattle.std.specs.Net.Addr.{IsLoopbackV4, IsLoopbackV6, MatchIp};
@@ -10,17 +10,17 @@ use crate::number::port_of;
 use std::fmt;
 use std::net::{IpAddr, Ipv4Addr, SocketAddr};
 
-/// The address of this machine alone that a word without an address means.
+/// The address of this machine that a word without an address means.
 const HERE: IpAddr = IpAddr::V4(Ipv4Addr::LOCALHOST);
 
-/// An address of this machine alone.
+/// Returns the address of a port of 127.0.0.1.
 fn here(port: u16) -> SocketAddr
     ensures { IsHere port result }
 {
     SocketAddr::new(IpAddr::V4(Ipv4Addr::new(127, 0, 0, 1)), port)
 }
 
-/// An address whose port isn't 0.
+/// Returns an address if its port isn't 0.
 fn with_port(address: SocketAddr) -> Option<SocketAddr>
     ensures some { IfSome result (λ it. (it ≡ address) × (0 < socket_port address)) }
     ensures none { IfNone result (socket_port address ≡ 0) }
@@ -32,7 +32,7 @@ fn with_port(address: SocketAddr) -> Option<SocketAddr>
     }
 }
 
-/// An address that is written `ADDRESS:PORT`, with `[` and `]` round one of IPv6. Port 0 is none.
+/// Reads an address that is written `ADDRESS:PORT`, with `[` and `]` around one of IPv6. Port 0 is refused.
 fn written(word: &str) -> Option<SocketAddr>
     ensures some { IfSome result (IsWritten word.now) }
     ensures none { IfNone result ((address : SocketAddr) → ¬ IsWritten word.now address) }
@@ -43,7 +43,7 @@ fn written(word: &str) -> Option<SocketAddr>
     }
 }
 
-/// An address, from a word of a command line: `ADDRESS:PORT`, or a port alone, which is one of 127.0.0.1.
+/// Reads an address from a word of the command line: `ADDRESS:PORT`, or a port alone, which is one of 127.0.0.1.
 pub fn address_of(word: &str) -> Option<SocketAddr>
     ensures some { IfSome result (IsAddressWord word.now) }
     ensures none { IfNone result ((address : SocketAddr) → ¬ IsAddressWord word.now address) }
@@ -54,14 +54,14 @@ pub fn address_of(word: &str) -> Option<SocketAddr>
     }
 }
 
-/// Whether nobody reaches an address but from the same machine (RFC 1122, section 3.2.1.3; RFC 4291, section 2.5.3).
+/// Returns whether an address can be reached only from the same machine (RFC 1122, section 3.2.1.3; RFC 4291, section 2.5.3).
 pub fn is_loopback(address: SocketAddr) -> bool
     ensures { IsTrue result ↔ MatchIp (socket_ip address) IsLoopbackV4 IsLoopbackV6 }
 {
     address.ip().is_loopback()
 }
 
-/// An address as a word of a command line: on 127.0.0.1 the port alone.
+/// An address that is displayed as a word of the command line: on 127.0.0.1 the port alone.
 #[derive(Clone, Copy)]
 pub struct AddressWord(pub SocketAddr);
 

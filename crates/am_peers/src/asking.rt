@@ -1,4 +1,4 @@
-//! Asking a server for its silences, over any reader and writer.
+//! The request for a server's silences, and its reply, over any reader and writer.
 
 ghost use Rattle.std.specs.Prelude.{◌≡◌, ◌<◌, ◌≤◌, length, IfOk, IfErr, IfSome, IsErrOf};
 ghost use Rattle.am_peers.specs.Requests.{IsOfReading, request_text, most_reply};
@@ -8,15 +8,15 @@ use crate::error::ServerFault;
 use std::alloc::{AllocError, Global};
 use std::io::{ErrorKind, Read};
 
-/// The most bytes of a reply: a head, and a list of 67,108,864 bytes.
+/// The maximum size of a reply in bytes: a head, and a list of 67,108,864 bytes.
 pub const MOST_REPLY_BYTES: usize = 67_125_248;
 
-/// The request for all silences, of a server at this host and port whose API stands below this path. It is of HTTP/1.0 (RFC
-/// 1945), so that no reply comes in chunks, and the server closes the connection behind its reply.
+/// Returns the request for all silences of a server at this host and port, whose API stands below this path. It is HTTP/1.0 (RFC
+/// 1945), so that the reply doesn't come in chunks and the server closes the connection after its reply.
 ///
 /// # Errors
 ///
-/// [`AllocError`] where memory runs out.
+/// [`AllocError`] if memory runs out.
 pub fn request_text(alloc: Global, host: &str, path: &str) -> Result<Vec<u8>, AllocError>
     ensures { IfOk result (λ text. text.items ≡ request_text host.now path.now) }
 {
@@ -33,7 +33,7 @@ pub fn request_text(alloc: Global, host: &str, path: &str) -> Result<Vec<u8>, Al
 ///
 /// # Errors
 ///
-/// [`ServerFault::Read`] where a read fails; [`ServerFault::TooLarge`] once byte 67,125,249 came; [`ServerFault::Memory`].
+/// [`ServerFault::Read`] if a read fails; [`ServerFault::TooLarge`] once byte 67,125,249 has come; [`ServerFault::Memory`].
 pub fn read_reply<R: Read + Drop>(alloc: Global, reader: R) -> Result<Vec<u8>, ServerFault>
     ensures all { IfOk result (λ reply. IfSome (R.remaining reader) (λ bytes. reply.items ≡ bytes)) }
     ensures few { IfOk result (λ reply. length reply.items ≤ most_reply) }

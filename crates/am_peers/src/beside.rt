@@ -5,14 +5,14 @@ ghost use Rattle.am_peers.specs.Names.{behind_all, shown};
 
 use std::alloc::{AllocError, Global};
 
-/// What such a name begins with: as text it comes behind all names that somebody gives.
+/// The prefix of such a name: as text it sorts behind all names that users give.
 const BEHIND_ALL: &str = "\u{10FFFF}";
 
-/// The name of an Alertmanager as it stands among the names of the members, behind all others.
+/// Returns the name of an Alertmanager as it stands among the names of the members, behind all others.
 ///
 /// # Errors
 ///
-/// [`AllocError`] where memory runs out.
+/// [`AllocError`] if memory runs out.
 pub fn name_beside(alloc: Global, name: &str) -> Result<String, AllocError>
     ensures { IfOk result (λ it. string_bytes it ≡ behind_all ++ name.now) }
 {
@@ -22,7 +22,7 @@ pub fn name_beside(alloc: Global, name: &str) -> Result<String, AllocError>
     Ok(beside)
 }
 
-/// The name of a member as it is shown.
+/// Returns the name of a member as it is shown.
 pub fn shown_name(name: &str) -> &str
     ensures { result.now ≡ shown name.now }
 {

@@ -8,7 +8,7 @@ use am_version_order::{Interval, Moment};
 use std::rt::Clock;
 use std::time::Duration;
 
-/// The moment of so much time since 1970, or the last one where it is past that.
+/// Converts a time since 1970 to a moment, or to the last moment if it is past that.
 fn clock_moment(since_1970: Duration) -> Moment
     ensures { result ≡ clock_moment (as_nanos since_1970) }
 {
@@ -23,15 +23,15 @@ fn clock_moment(since_1970: Duration) -> Moment
     }
 }
 
-/// The later one of what a clock says, as the time since 1970, and the moment of the last event.
+/// Returns the later of a clock's time since 1970 and the moment of the last event.
 pub fn later_moment(since_1970: Duration, last: Moment) -> Moment
     ensures { result ≡ later_moment (as_nanos since_1970) last }
 {
     clock_moment(since_1970).max(last)
 }
 
-/// The moment of the next event: the later one of the clock's and the last event's, which it is where the clock can't be
-/// read.
+/// Returns the moment of the next event: the later of the clock's time and the last event's moment, or the last event's moment if
+/// the clock can't be read.
 pub fn next_moment<C: Clock>(clock: &C, last: Moment) -> Moment
     ensures { last ≤ result }
 {
@@ -41,7 +41,7 @@ pub fn next_moment<C: Clock>(clock: &C, last: Moment) -> Moment
     }
 }
 
-/// Whether what a clock says, as the time since 1970, is behind the moment of the last event by over a second.
+/// Returns whether a clock's time since 1970 is more than a second behind the moment of the last event.
 pub fn is_behind(since_1970: Duration, last: Moment) -> bool
     ensures { IsTrue result ↔ (clock_moment (as_nanos since_1970) + 1_000_000_000 < last) }
 {

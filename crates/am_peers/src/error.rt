@@ -1,32 +1,31 @@
-//! Why a server did not do what it was to do.
+//! The faults of a server.
 
 ghost use Rattle.std.specs.Prelude.{◌≡◌};
 
 use std::io::{self, ErrorKind};
 use thiserror::Error;
 
-/// Why a server has not told what it was asked. It is printed as its name and number; of `NoHead` the name is `Reply`.
+/// The reason why a server hasn't told what it was asked. It is printed as its name and number; the name of `NoHead` is `Reply`.
 #[derive(Clone, Copy, Debug, PartialEq, Eq, Error)]
 pub enum ServerFault {
-    /// There is no connection.
+    /// The connection couldn't be made.
     #[error("Connect {0:?}")]
     Connect(ErrorKind),
-    /// A write failed or took nothing, when so many bytes of the request had gone out.
+    /// A write failed or took nothing, after `written` bytes of the request had gone out.
     #[error("Write {written}")]
     Write { written: u64 },
-    /// A read failed, when so many bytes of the reply had come.
+    /// A read failed, after `at` bytes of the reply had come.
     #[error("Read {at}")]
     Read { at: usize },
-    /// It has over 67,125,248 bytes.
+    /// The reply has more than 67,125,248 bytes.
     #[error("TooLarge")]
     TooLarge,
     #[error("Memory")]
     Memory,
-    /// The reply doesn't begin with the head of a response of HTTP/1.0 or HTTP/1.1 within 16,384 bytes, of at most 64
-    /// fields.
+    /// The reply doesn't begin with the head of a response of HTTP/1.0 or HTTP/1.1 that has at most 16,384 bytes and 64 fields.
     #[error("Reply")]
     NoHead,
-    /// Its status isn't 200.
+    /// The reply's status isn't 200.
     #[error("Status {0}")]
     Status(u16),
 }

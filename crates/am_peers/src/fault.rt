@@ -1,4 +1,4 @@
-//! Why a connection ends before its input does.
+//! The reasons why a connection ends before its input does.
 
 ghost use Rattle.std.specs.Prelude.{◌≡◌};
 
@@ -6,19 +6,19 @@ use am_gossip::FrameError;
 use am_refusals::StepError;
 use thiserror::Error;
 
-/// Why a connection ended before its input did: the first of these that stands.
+/// The reason why a connection ended before its input did: the first of these that applies.
 #[derive(Clone, Copy, Debug, PartialEq, Eq, Error)]
 pub enum Fault {
-    /// A read failed, when so many bytes had come.
+    /// A read failed, after `at` bytes had come.
     #[error("Read {at}")]
     Read { at: u64 },
-    /// A write failed or took nothing, when so many bytes had gone out.
+    /// A write failed or took nothing, after `written` bytes had gone out.
     #[error("Write {written}")]
     Write { written: u64 },
-    /// Over 134,217,728 bytes came.
+    /// More than 134,217,728 bytes came.
     #[error("TooLarge")]
     TooLarge,
-    /// In the greeting, or in the frames behind it; or memory ran out for them.
+    /// The greeting or one of the frames behind it is faulty, or memory ran out for them.
     #[error("Frame {0}")]
     Frame(FrameError),
     /// The greeting names no peer.

@@ -1,4 +1,4 @@
-//! What a server of API v2 replies.
+//! Requests to a server of API v2, and their replies.
 
 use crate::asking::{read_reply, request_text};
 use crate::error::ServerFault;
@@ -10,26 +10,26 @@ use std::net::{Ipv4Addr, Ipv6Addr, Net, SocketAddr, TcpStream};
 use std::rt::Clock;
 use std::time::{Duration, Instant};
 
-/// A server: its host and port as they are written, the path below which its API stands, and where it listens.
+/// A server: its host and port as they are written, the path below which its API stands, and the address at which it listens.
 #[derive(Clone, Copy)]
 pub struct Server<'a> {
     pub host: &'a str,
-    /// It begins with a slash and doesn't end with one, or is empty.
+    /// The path, which is empty or begins with a slash and doesn't end with one.
     pub path: &'a str,
     pub address: SocketAddr,
-    /// Where it is looked for if nothing listens there.
+    /// The address that is tried if nothing listens at the first one.
     pub other: Option<SocketAddr>,
 }
 
-/// The host that is this machine.
+/// The name of the host that is this machine.
 const LOCALHOST: &str = "localhost";
 
-/// A byte that may stand in the path of a URL (RFC 3986, section 3.3, and what browsers let pass beside it).
+/// Returns whether a byte may stand in the path of a URL (RFC 3986, section 3.3, and what browsers also let pass).
 fn is_of_path(byte: &u8) -> bool {
     matches!(*byte, b'!'..=b'~') && !matches!(*byte, b'?' | b'#')
 }
 
-/// The host of a server with its port, and the path below which its API stands, without a slash at its end.
+/// Cuts a place into the host with its port, and the path below which the API stands, without a slash at its end.
 fn cut_at_path(place: &str) -> (&str, &str) {
     let count = place
         .as_bytes()
@@ -42,8 +42,8 @@ fn cut_at_path(place: &str) -> (&str, &str) {
     }
 }
 
-/// The server at an address with its port: of IPv4, of IPv6 in brackets, or `localhost`, which is 127.0.0.1, or else `[::1]`;
-/// perhaps with a path behind it.
+/// Reads a server from its address and port: an address of IPv4, one of IPv6 in brackets, or `localhost`, which is 127.0.0.1, or
+/// else `[::1]`. A path may follow.
 pub fn server_of(place: &str) -> Option<Server<'_>> {
     let (host, path) = cut_at_path(place);
     if !path.as_bytes().iter().all(|byte| is_of_path(byte)) {
@@ -75,7 +75,7 @@ pub fn server_of(place: &str) -> Option<Server<'_>> {
 ///
 /// # Errors
 ///
-/// [`ServerFault`]: why there is no connection, or not all was written or read.
+/// A [`ServerFault`] if the connection can't be made, or not everything was written or read.
 pub fn fetch<R: Net<Stream = TcpStream> + Clock>(
     alloc: Global,
     rt: &R,
@@ -88,11 +88,11 @@ pub fn fetch<R: Net<Stream = TcpStream> + Clock>(
     ask(alloc, rt, server, &request, limit)
 }
 
-/// Sends a request to a server, and reads what it answers until it closes the connection, all within the limit.
+/// Sends a request to a server, and reads its reply until it closes the connection, all within the limit.
 ///
 /// # Errors
 ///
-/// [`ServerFault`]: why there is no connection, or not all was written or read.
+/// A [`ServerFault`] if the connection can't be made, or not everything was written or read.
 pub fn ask<R: Net<Stream = TcpStream> + Clock>(
     alloc: Global,
     rt: &R,
@@ -112,7 +112,7 @@ pub fn ask<R: Net<Stream = TcpStream> + Clock>(
     read_reply(alloc, reader)
 }
 
-/// A connection to a server.
+/// Connects to a server.
 fn connect<R: Net<Stream = TcpStream> + Clock>(
     rt: &R,
     server: &Server<'_>,

@@ -1,4 +1,5 @@
-//! The peers of a member, and servers of API v2: where each listens, what goes to them, what comes of it, and the moments of events.
+//! The peers of a member and the servers of API v2: their addresses, the bytes that go there and come back, and the moments of
+//! events.
 #![tactic(auto)]
 
 mod address;

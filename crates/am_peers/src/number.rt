@@ -6,14 +6,14 @@ ghost use Rattle.std.specs.Char.{is_ascii_digit};
 ghost use Rattle.std.specs.Option.{SomeIff};
 ghost use Rattle.am_peers.specs.Peers.{IsNumber, IsNumberWithin, decimal_of};
 
-/// Whether all bytes are ASCII digits.
+/// Returns whether all bytes are ASCII digits.
 fn are_digits(bytes: &[u8]) -> bool
     ensures { result ≡ list_all is_ascii_digit bytes.now }
 {
     bytes.iter().all(|byte| byte.is_ascii_digit())
 }
 
-/// A number below 2^64, in ASCII digits alone.
+/// Reads a number below 2^64 that consists of ASCII digits alone.
 fn number_of(word: &str) -> Option<u64>
     ensures { SomeIff result (IsNumber word.now × (decimal_of word.now < 2 ^ 64)) (decimal_of word.now) }
 {
@@ -26,7 +26,7 @@ fn number_of(word: &str) -> Option<u64>
     }
 }
 
-/// A number from `least` to `most`, in ASCII digits alone.
+/// Reads a number from `least` to `most` that consists of ASCII digits alone.
 pub fn number_within(least: u64, most: u64, word: &str) -> Option<u64>
     ensures { SomeIff result (IsNumberWithin least most word.now) (decimal_of word.now) }
 {
@@ -37,7 +37,7 @@ pub fn number_within(least: u64, most: u64, word: &str) -> Option<u64>
     Some(number)
 }
 
-/// A port, from 1 to 65,535.
+/// Reads a port, from 1 to 65,535.
 pub fn port_of(word: &str) -> Option<u16>
     ensures { SomeIff result (IsNumberWithin 1 65535 word.now) (decimal_of word.now) }
 {

@@ -1,4 +1,4 @@
-//! Peers.
+//! Peers of the command line.
 
 ghost use Rattle.std.specs.Prelude.{List, ℕ, IfNone, IfSome};
 ghost use Rattle.std.specs.declared.net.socket_addr.SocketAddr.{SocketAddr};
@@ -14,7 +14,7 @@ pub struct Peer<'a> {
     pub address: SocketAddr,
 }
 
-/// A peer as `NAME=ADDRESS:PORT` or `NAME=PORT`, which is cut at the last `=`.
+/// Reads a peer that is written `NAME=ADDRESS:PORT` or `NAME=PORT`, cut at the last `=`.
 pub fn peer_of(word: &str) -> Option<Peer<'_>>
     ensures some { IfSome result (λ peer. IsPeerWord word.now peer.name.now peer.address) }
     ensures none { IfNone result ((name : List ℕ) (address : SocketAddr) → ¬ IsPeerWord word.now name address) }

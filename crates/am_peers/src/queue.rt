@@ -1,4 +1,4 @@
-//! What waits to be sent.
+//! The frames that wait to be sent.
 
 ghost use Rattle.std.specs.Prelude.{◌≡◌, IfOk};
 ghost use Rattle.am_peers.specs.Queues.{frames_beside, frames_for};
@@ -7,18 +7,18 @@ use am_gossip::Frame;
 use am_refusals::Place;
 use std::alloc::{AllocError, Global};
 
-/// Frames, parted in those of one peer and those of all others.
+/// Frames that are split into those for one peer and those for all others.
 #[derive(Drop)]
 pub struct Parted {
     pub own: Vec<Frame>,
     pub others: Vec<(Place, Frame)>,
 }
 
-/// Parts frames in those for a place and those for other places, each in their order.
+/// Splits frames into those for a place and those for other places, each in their order.
 ///
 /// # Errors
 ///
-/// [`AllocError`] where memory runs out.
+/// [`AllocError`] if memory runs out.
 pub fn split_by_peer(
     alloc: Global,
     place: Place,

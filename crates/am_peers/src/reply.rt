@@ -1,4 +1,4 @@
-//! The reply of a server, in the bytes that came until it closed its connection.
+//! The reply of a server, as the bytes that came until it closed its connection.
 
 ghost use Rattle.std.specs.Prelude.{◌≡◌, ◌≤◌, IfOk, IfErr, IfSome, IfNone, length, take, drop};
 ghost use Rattle.am_peers.specs.Replies.{HasReply, HasNoReply, IsRefused};
@@ -7,16 +7,16 @@ use crate::error::ServerFault;
 use httparse::Status;
 use httparse::spans::{EMPTY_HEADER_SPAN, ResponseSpans, parse_response};
 
-/// The most bytes of a head.
+/// The maximum size of a head in bytes.
 const MOST_HEAD_BYTES: usize = 16_384;
 
-/// The most fields of a head.
+/// The maximum number of fields of a head.
 const MOST_FIELDS: usize = 64;
 
-/// The status of a reply that has what was asked for.
+/// The status of a reply that contains what was asked for.
 const OK: u16 = 200;
 
-/// The bytes in which a head has to end.
+/// Returns the bytes in which a head has to end.
 fn window(reply: &[u8]) -> &[u8]
     ensures { result.now ≡ take MOST_HEAD_BYTES reply.now }
 {
@@ -26,7 +26,7 @@ fn window(reply: &[u8]) -> &[u8]
     }
 }
 
-/// The head at the front of a reply.
+/// Parses the head at the front of a reply.
 fn head_of(reply: &[u8]) -> Option<ResponseSpans>
     ensures fits { IfSome result (λ head. head.len ≤ length (take MOST_HEAD_BYTES reply.now)) }
     ensures head { IfSome result (λ head. HasReply reply.now head.code (drop head.len reply.now)) }
@@ -39,12 +39,12 @@ fn head_of(reply: &[u8]) -> Option<ResponseSpans>
     }
 }
 
-/// The body of a reply of status 200: what stands behind its head (RFC 9112, section 6.3: a reply whose connection is
-/// closed ends there).
+/// Returns the body of a reply with status 200: everything behind its head (RFC 9112, section 6.3: the reply ends when the
+/// connection is closed).
 ///
 /// # Errors
 ///
-/// [`ServerFault::NoHead`], and [`ServerFault::Status`] where the status is another.
+/// [`ServerFault::NoHead`], and [`ServerFault::Status`] if the status is another.
 pub fn body_of(reply: &[u8]) -> Result<&[u8], ServerFault>
     ensures body { IfOk result (λ body. HasReply reply.now 200 body.now) }
     ensures refused { IfErr result (IsRefused reply.now) }

@@ -1,4 +1,4 @@
-//! What API v2 shows of sources, as maps that can be compared.
+//! The part of sources that API v2 shows, as maps that can be compared.
 
 ghost use Rattle.std.specs.Prelude.{◌≡◌, map, IfOk, IfSome};
 ghost use Rattle.std.specs.Ordering.{nat_cmp};
@@ -14,15 +14,15 @@ use am_silence::MeshSilence;
 use am_silence_json::cut_to_shown;
 use am_snapshot::{SnapshotError, take_row};
 use am_version_order::{Moment, Version};
-use am_wire::WireError;
+use am_wire::{Unknown, WireError};
 use std::alloc::{AllocError, Global};
 use std::io::Read;
 
-/// The map of the versions of a list: of each identifier the greatest.
+/// Returns the map of a list's versions: the greatest one of each identifier.
 ///
 /// # Errors
 ///
-/// [`AllocError`] where memory runs out.
+/// [`AllocError`] if memory runs out.
 pub fn held_of<V: Version>(alloc: Global, list: Vec<V>) -> Result<Held<V>, AllocError>
     ensures order { IfOk result (IsMap V.seen V.Key.cmp) }
     ensures best { IfOk result (HoldsBest V.seen list.items) }
@@ -34,7 +34,7 @@ pub fn held_of<V: Version>(alloc: Global, list: Vec<V>) -> Result<Held<V>, Alloc
     Ok(held)
 }
 
-/// Of each version of a map the one that API v2 shows of it.
+/// Cuts each version of a map to what API v2 shows of it.
 fn cut_all(alloc: Global, held: &Held<MeshSilence>) -> Result<Vec<MeshSilence>, SnapshotError>
     ensures { IfOk result (λ cut. cut.items ≡ map cut_to_shown held.now) }
 {
@@ -52,11 +52,11 @@ fn cut_all(alloc: Global, held: &Held<MeshSilence>) -> Result<Vec<MeshSilence>, 
     Ok(list)
 }
 
-/// Of the versions that count in a row, which are those of a fold, what API v2 shows of each.
+/// Returns what API v2 shows of each version that counts in a row, which are the versions of a fold.
 ///
 /// # Errors
 ///
-/// The first fault of the row, [`SnapshotError::Wire`] also where a version is too large once it is cut, and
+/// The first fault of the row, [`SnapshotError::Wire`] also if a version is too large once it is cut, and
 /// [`SnapshotError::Memory`].
 pub fn shown_of_row<R: Read>(
     alloc: Global,
@@ -65,7 +65,7 @@ pub fn shown_of_row<R: Read>(
     ensures order { IfOk result (IsMap mesh_version (slice_cmp nat_cmp)) }
     ensures shown { IfOk result (λ held. IfSome (R.remaining reader.old) (λ input. IsShownOfRow input held)) }
 {
-    let held = take_row::<MeshSilence, _>(alloc, reader)?;
+    let held = take_row::<MeshSilence, _>(alloc, Unknown::Drop, reader)?;
     let list = cut_all(alloc, &held)?;
     Ok(held_of(alloc, list)?)
 }

@@ -1,4 +1,4 @@
-//! Streams that wait no longer than a connection may last.
+//! Streams that don't wait longer than a connection may last.
 
 use std::io::{self, ErrorKind, Read, Write};
 use std::net::TcpStream;
@@ -11,11 +11,11 @@ pub struct Timed<'a, C: Clock> {
     clock: &'a C,
     stream: &'a TcpStream,
     end: Instant,
-    /// The longest that one read or write waits.
+    /// The longest time that one read or write waits.
     longest: Duration,
 }
 
-/// When a connection's time ends that begins now.
+/// Returns the end of the time of a connection that begins now.
 pub fn end_after<C: Clock>(clock: &C, limit: Duration) -> io::Result<Instant> {
     match Instant::now(clock)?.checked_add(limit) {
         Some(end) => Ok(end),
@@ -23,7 +23,7 @@ pub fn end_after<C: Clock>(clock: &C, limit: Duration) -> io::Result<Instant> {
     }
 }
 
-/// How long it is until then, if it isn't over.
+/// Returns the time that is left until `end`, or an error if there is none.
 pub fn left_until<C: Clock>(clock: &C, end: Instant) -> io::Result<Duration> {
     let left = end.saturating_duration_since(Instant::now(clock)?);
     if left.is_zero() {
@@ -33,7 +33,7 @@ pub fn left_until<C: Clock>(clock: &C, end: Instant) -> io::Result<Duration> {
 }
 
 impl<'a, C: Clock> Timed<'a, C> {
-    /// A stream until the end of its connection, each of whose calls waits at most `longest`.
+    /// Returns a stream that lasts until the end of its connection, and each of whose calls waits at most `longest`.
     pub fn new(
         clock: &'a C,
         stream: &'a TcpStream,
@@ -48,7 +48,7 @@ impl<'a, C: Clock> Timed<'a, C> {
         }
     }
 
-    /// How long the next call may wait.
+    /// Returns how long the next call may wait.
     fn wait(&self) -> io::Result<Duration> {
         Ok(left_until(self.clock, self.end)?.min(self.longest))
     }

@@ -1,4 +1,4 @@
-//! What goes out to a peer.
+//! The bytes that go out to a peer.
 
 ghost use Rattle.std.specs.Prelude.{◌≡◌, ◌++◌, ◌⊎◌, ◌↔◌, false, Err, OnOk, IfOk, IfErr};
 ghost use Rattle.std.specs.List.{flat_map};
@@ -10,21 +10,21 @@ use am_gossip::{Frame, FrameError, MOST_NAME_BYTES, append_frame, frame_fits};
 use am_wire::writing::append_delimited;
 use std::alloc::{AllocError, Global};
 
-/// Whether a greeting may have this name.
+/// Returns whether a greeting may have this name.
 fn is_name(name: &str) -> bool
     ensures { result ≡ is_name name.now }
 {
     !name.is_empty() && name.len() as u64 <= MOST_NAME_BYTES
 }
 
-/// Whether each frame keeps its limit.
+/// Returns whether each frame keeps its limit.
 fn all_fit(frames: &[Frame]) -> bool
     ensures { result ≡ all_fit frames.now }
 {
     frames.iter().all(|frame| frame_fits(frame))
 }
 
-/// Writes a greeting.
+/// Appends a greeting.
 fn append_greeting(out: &mut Vec<u8>, name: &str) -> Result<(), AllocError>
     ensures { OnOk result (out.new.items ≡ out.old.items ++ greeting_text name.now) }
 {
@@ -32,7 +32,7 @@ fn append_greeting(out: &mut Vec<u8>, name: &str) -> Result<(), AllocError>
     append_delimited(out, name.as_bytes())
 }
 
-/// Writes frames, one after the other; one over its limit, which was looked for before, would end it too.
+/// Appends frames, one after the other; one over its limit would be an error too, but the callers have checked that before.
 fn append_frames(out: &mut Vec<u8>, frames: &[Frame]) -> Result<(), AllocError>
     ensures { OnOk result (out.new.items ≡ out.old.items ++ flat_map frame_text frames.now) }
 {
@@ -44,11 +44,12 @@ fn append_frames(out: &mut Vec<u8>, frames: &[Frame]) -> Result<(), AllocError>
     Ok(())
 }
 
-/// The greeting of a member of this name, with which each of its connections to a peer begins.
+/// Returns the greeting of a member of this name, with which each of its connections to a peer begins.
 ///
 /// # Errors
 ///
-/// [`FrameError::Length`] where the name has no byte or over 255, whatever memory there is, and [`FrameError::Memory`].
+/// [`FrameError::Length`] if the name is empty or has more than 255 bytes, however much memory there is, and
+/// [`FrameError::Memory`].
 pub fn greeting(alloc: Global, name: &str) -> Result<Vec<u8>, FrameError>
     ensures text { IfOk result (λ text. text.items ≡ greeting_text name.now) }
     ensures too_long { (result ≡ Err errors.Length) ↔ (is_name name.now ≡ false) }
@@ -62,11 +63,11 @@ pub fn greeting(alloc: Global, name: &str) -> Result<Vec<u8>, FrameError>
     Ok(text)
 }
 
-/// The text of frames, one after the other, as it goes to a peer behind the greeting.
+/// Returns the text of frames, one after the other, as it goes to a peer behind the greeting.
 ///
 /// # Errors
 ///
-/// [`FrameError::Length`] where the payload of a frame is over its limit, whatever memory there is, and
+/// [`FrameError::Length`] if the payload of a frame is over its limit, however much memory there is, and
 /// [`FrameError::Memory`].
 pub fn frames_text(alloc: Global, frames: &[Frame]) -> Result<Vec<u8>, FrameError>
     ensures text { IfOk result (λ text. text.items ≡ flat_map frame_text frames.now) }

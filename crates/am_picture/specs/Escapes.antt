@@ -1,12 +1,14 @@
--- How a text stands in XML 1.0 (W3C Recommendation, fifth edition).
+-- Texts as they are written in XML 1.0 (W3C Recommendation, fifth edition).
 use Rattle.std.specs.Prelude.{ℕ, Bool, not, ◌==◌, ◌&&◌, ◌||◌, ◌-◌, nat_le, List, ◌∷◌, [], ◌++◌, length, take, Option, Some, None, unwrap_or, chars, codes, encode_utf8, if◌then◌else◌}
 use Rattle.std.specs.List.{flat_map}
 
--- the characters of XML (section 2.2), of those that UTF-8 spells; a carriage return would be read as the end of a line (section 2.11)
+-- the characters of XML (section 2.2) among those that UTF-8 encodes; a carriage return would be read as the end of a line
+-- (section 2.11)
 abbrev pub is_plain : ℕ → Bool
 is_plain c = c == 9 || c == 10 || nat_le 32 c && not (c == 65534) && not (c == 65535)
 
--- what stands for a character that doesn't stand for itself: a reference (sections 4.1 and 4.6), or U+FFFD where XML hasn't the character
+-- what stands for a character that can't stand for itself: a reference (sections 4.1 and 4.6), or U+FFFD if XML doesn't have
+-- the character
 abbrev pub reference_of : ℕ → Option (List ℕ)
 reference_of c =
     if c == 38 then Some (codes "&amp;") else
@@ -17,15 +19,15 @@ reference_of c =
     if c == 13 then Some (codes "&#13;") else
     if is_plain c then None else Some (239 ∷ 191 ∷ 189 ∷ [])
 
--- how a character is spelled
+-- the bytes that a character is written as
 abbrev pub spelled : ℕ → List ℕ
 spelled c = unwrap_or (reference_of c) (encode_utf8 c)
 
--- how a text is spelled
+-- the bytes that a text is written as
 abbrev pub escaped : List ℕ → List ℕ
 escaped text = flat_map spelled (chars text)
 
--- a text of at most so many characters: what is more is cut off, and an ellipsis (U+2026) stands for it
+-- a text of at most `most` characters: the rest is cut off, and an ellipsis (U+2026) stands for it
 abbrev pub shortened : ℕ → List ℕ → List ℕ
 shortened most text =
     if nat_le (length (chars text)) most then escaped text

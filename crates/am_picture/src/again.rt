@@ -1,10 +1,10 @@
-//! Which notifications go out once more although nothing changed.
+//! The notifications that go out once more although nothing changed.
 
 use crate::mark::{Mark, Verb};
 use am_schedule::{Action, GroupLine, Line, LineEvent, Schedule};
 use std::alloc::{AllocError, Global};
 
-/// The lines that the steps repeat, by their places.
+/// Returns the lines that the steps repeat, by the steps' places.
 pub fn repeated_lines(
     alloc: Global,
     schedule: &Schedule,
@@ -17,9 +17,9 @@ pub fn repeated_lines(
     Ok(lines)
 }
 
-/// The line that a step repeats. The step decides to notify a group; that line is the last one before it by which the group
-/// was notified at this receiver, by a decision of another member or as `notified` says it; the alerts are the same, and the
-/// repeat interval of the step isn't over since.
+/// Returns the line that a step repeats. Such a step decides to notify a group. The line that it repeats is the last one before
+/// it by which the group was notified at this receiver, through a decision of another member or through `notified`. The alerts
+/// are the same, and the repeat interval of the step isn't over since then.
 fn repeated_line(schedule: &Schedule, marks: &[Mark], column: usize, mark: &Mark) -> Option<u64> {
     if !mark.notifies() {
         return None;
@@ -33,7 +33,7 @@ fn repeated_line(schedule: &Schedule, marks: &[Mark], column: usize, mark: &Mark
     }
 }
 
-/// The last step before one by which its group was notified, and the group as it was then.
+/// Returns the last step before another one by which the same group was notified, and the group as it was then.
 fn last_told<'a>(
     schedule: &'a Schedule,
     marks: &'a [Mark],
@@ -53,7 +53,7 @@ fn last_told<'a>(
     last
 }
 
-/// Whether by a step a group was notified, as a later step finds it.
+/// Returns whether a step notified a group as far as a later step can find.
 fn tells(earlier: &Mark, mark: &Mark) -> bool {
     match earlier.verb {
         Verb::Notified => !earlier.is_refused(),
@@ -62,7 +62,7 @@ fn tells(earlier: &Mark, mark: &Mark) -> bool {
     }
 }
 
-/// Whether two steps are about one group at one receiver.
+/// Returns whether two steps are about the same group at the same receiver.
 fn is_one_group(one: &GroupLine, other: &GroupLine) -> bool {
     one.group.as_str() == other.group.as_str() && one.receiver.as_str() == other.receiver.as_str()
 }
@@ -72,7 +72,7 @@ fn has_same_alerts(one: &GroupLine, other: &GroupLine) -> bool {
         && one.resolved.as_slice() == other.resolved.as_slice()
 }
 
-/// The group that a step decides on or notifies.
+/// Returns the group that a step decides on or notifies.
 fn group_at(schedule: &Schedule, column: usize) -> Option<&GroupLine> {
     let (Line::Step(step), _) = schedule.lines.as_slice().get(column)? else {
         return None;

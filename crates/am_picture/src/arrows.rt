@@ -8,7 +8,7 @@ use crate::sheet::{Sheet, Stroke, append_title, open_curve};
 use am_replay::kind_name;
 use std::alloc::AllocError;
 
-/// Appends all frames: those that fly or were lost, and each delivery.
+/// Appends all frames: those that are in flight or were lost, and each delivery.
 pub fn append_frames(sheet: &Sheet<'_>, out: &mut String) -> Result<(), AllocError> {
     for sending in &sheet.scene.sendings {
         append_sending(sheet, out, sending)?;
@@ -67,7 +67,7 @@ fn append_delivery(
     writeln!(out, ", delivered by line {line}</title></path>")
 }
 
-/// Appends the frame that a line has come from a peer, without a step that sent it.
+/// Appends the frame that a line brings from a peer without a step that sent it.
 fn append_written(
     sheet: &Sheet<'_>,
     out: &mut String,
@@ -88,7 +88,7 @@ fn append_written(
     out.push_str("</path>\n")
 }
 
-/// Appends a frame from where it was sent to a cursor, up to the end of its title.
+/// Appends a frame from where it was sent to a position, up to the end of its title.
 fn open_sending(
     sheet: &Sheet<'_>,
     out: &mut String,

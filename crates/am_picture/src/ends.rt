@@ -1,4 +1,4 @@
-//! What is told of the members at the end of a picture.
+//! The part of a picture that tells how the members stand at the end.
 
 use crate::lanes::{MOST_OF_NAME, runs_at_end};
 use crate::layout::{edge_of, end_of};
@@ -10,19 +10,19 @@ use am_report::append_view;
 use am_version_order::Moment;
 use std::alloc::{AllocError, Global};
 
-/// How far to the right what it shows stands.
+/// The distance from the left at which a member's view stands.
 const SPOT: i32 = 192;
 
-/// How high a line is.
+/// The height of a line.
 const LINE: i32 = 22;
 
-/// How many lines of a view are shown.
+/// The maximum number of lines that are shown of a view.
 const MOST_LINES: usize = 3;
 
-/// How many characters of a line are shown.
+/// The maximum number of characters that are shown of a line.
 const MOST_OF_LINE: usize = 64;
 
-/// Appends below the steps, for each member, whether it was calm, and what it shows at the latest moment of all.
+/// Appends, below the steps, whether each member was calm, and what it shows at the latest moment of any member.
 pub fn append_ends(
     sheet: &Sheet<'_>,
     cluster: &Cluster,
@@ -36,7 +36,7 @@ pub fn append_ends(
     Ok(())
 }
 
-/// The latest moment at which a member stands.
+/// Returns the latest moment of any member.
 fn latest_moment(cluster: &Cluster, members: usize) -> Moment {
     let mut latest = Moment::LEAST;
     for place in 0..members {
@@ -47,7 +47,7 @@ fn latest_moment(cluster: &Cluster, members: usize) -> Moment {
     latest
 }
 
-/// Appends the head above what is told at the end.
+/// Appends the heading of the end.
 fn append_end_head(sheet: &Sheet<'_>, out: &mut String, now: Moment) -> Result<(), AllocError> {
     let y = edge_of(sheet.scene.marks.len());
     write!(
@@ -61,7 +61,7 @@ fn append_end_head(sheet: &Sheet<'_>, out: &mut String, now: Moment) -> Result<(
     out.push_str("</text></g>\n")
 }
 
-/// Appends what is told of a member.
+/// Appends how a member stands at the end.
 fn append_end(
     sheet: &Sheet<'_>,
     cluster: &Cluster,
@@ -95,7 +95,7 @@ fn append_head(sheet: &Sheet<'_>, out: &mut String, place: Place) -> Result<(), 
     append_calm(out, sheet.fault(place))
 }
 
-/// Appends whether a member was calm, by the line of the first fault.
+/// Appends whether a member was calm, or else the line of its first fault.
 fn append_calm(out: &mut String, fault: Option<u64>) -> Result<(), AllocError> {
     match fault {
         Some(line) => write!(
@@ -106,7 +106,7 @@ fn append_calm(out: &mut String, fault: Option<u64>) -> Result<(), AllocError> {
     }
 }
 
-/// Appends what a member shows, and the whole of it as a title.
+/// Appends what a member shows, with all of it as a title.
 fn append_shown(
     alloc: Global,
     out: &mut String,

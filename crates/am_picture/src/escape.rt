@@ -1,4 +1,4 @@
-//! Texts as they stand in XML.
+//! Texts as they are written in XML.
 
 ghost use Rattle.std.specs.Prelude.{◌≡◌, ◌++◌, IfOk, OnOk, chars, string_bytes};
 ghost use Rattle.std.specs.List.{flat_map};
@@ -7,7 +7,7 @@ ghost use Rattle.am_picture.specs.Escapes.{escaped, reference_of, shortened, spe
 
 use std::alloc::{AllocError, Global};
 
-/// What stands for a character that doesn't stand for itself.
+/// Returns what stands for a character that can't stand for itself.
 fn reference_of(character: char) -> Option<&'static str>
     ensures { option_copied result ≡ reference_of character }
 {
@@ -44,19 +44,19 @@ fn append_characters(out: &mut String, characters: &[char]) -> Result<(), AllocE
     Ok(())
 }
 
-/// The characters of a text.
+/// Returns the characters of a text.
 fn characters_of(alloc: Global, text: &str) -> Result<Vec<char>, AllocError>
     ensures { IfOk result (λ characters. characters.items ≡ chars text.now) }
 {
     text.chars().collect(alloc)
 }
 
-/// Appends a text as it stands in XML: `&`, `<`, `>`, both quotes and a carriage return as references, and U+FFFD for each
-/// character that XML hasn't.
+/// Appends a text as it is written in XML: `&`, `<`, `>`, both quotes and a carriage return as references, and U+FFFD for each
+/// character that XML doesn't have.
 ///
 /// # Errors
 ///
-/// [`AllocError`] where memory runs out.
+/// [`AllocError`] if memory runs out.
 pub fn append_escaped(alloc: Global, out: &mut String, text: &str) -> Result<(), AllocError>
     ensures appended { OnOk result (string_bytes out.new ≡ string_bytes out.old ++ escaped text.now) }
 {
@@ -64,11 +64,11 @@ pub fn append_escaped(alloc: Global, out: &mut String, text: &str) -> Result<(),
     append_characters(out, &characters)
 }
 
-/// Does as [`append_escaped`] does with at most `most` characters, of which an ellipsis is the last where the text has more.
+/// Does as [`append_escaped`] does with at most `most` characters. If the text has more, the last of them is an ellipsis.
 ///
 /// # Errors
 ///
-/// [`AllocError`] where memory runs out.
+/// [`AllocError`] if memory runs out.
 pub fn append_shortened(
     alloc: Global,
     out: &mut String,

@@ -6,10 +6,10 @@ use crate::sheet::{Sheet, Stroke, append_text, append_title, open_stroke};
 use am_instance::Place;
 use std::alloc::AllocError;
 
-/// How many characters of a name are shown.
+/// The maximum number of characters that are shown of a name.
 pub const MOST_OF_NAME: usize = 8;
 
-/// Appends a lane for each member, with its name.
+/// Appends a lane with its name for each member.
 pub fn append_lanes(sheet: &Sheet<'_>, out: &mut String) -> Result<(), AllocError> {
     for (place, name) in sheet.names.iter().enumerate() {
         append_lane(sheet, out, place as Place)?;
@@ -18,7 +18,7 @@ pub fn append_lanes(sheet: &Sheet<'_>, out: &mut String) -> Result<(), AllocErro
     Ok(())
 }
 
-/// Appends a member's name at the head.
+/// Appends a member's name at the top.
 fn append_name(
     sheet: &Sheet<'_>,
     out: &mut String,
@@ -52,7 +52,7 @@ fn append_lane(sheet: &Sheet<'_>, out: &mut String, place: Place) -> Result<(), 
     }
 }
 
-/// Whether a member runs behind a line, as it did or didn't before.
+/// Returns whether a member runs after a line, given whether it ran before.
 fn runs_behind(mark: &Mark, place: Place, runs: bool) -> bool {
     match mark.verb {
         _ if mark.place != Some(place) || mark.is_refused() => runs,
@@ -62,7 +62,7 @@ fn runs_behind(mark: &Mark, place: Place, runs: bool) -> bool {
     }
 }
 
-/// Whether a member runs at the end.
+/// Returns whether a member runs at the end.
 pub fn runs_at_end(sheet: &Sheet<'_>, place: Place) -> bool {
     let mut runs = true;
     for mark in &sheet.scene.marks {
@@ -71,7 +71,7 @@ pub fn runs_at_end(sheet: &Sheet<'_>, place: Place) -> bool {
     runs
 }
 
-/// Appends a time in which a member ran, and once more what of it comes from the first fault of its calm on.
+/// Appends a time in which a member ran, and once more the part of it that follows the first fault of the member's calm.
 fn append_span(
     sheet: &Sheet<'_>,
     out: &mut String,
@@ -91,7 +91,7 @@ fn append_span(
     }
 }
 
-/// Appends a line along a lane, up to what it holds.
+/// Appends a line along a lane, up to its content.
 fn open_along(
     out: &mut String,
     class: &str,
@@ -109,7 +109,7 @@ fn open_along(
     open_stroke(out, class, &stroke)
 }
 
-/// The line of the first fault of a member's calm, and where it stands.
+/// Returns the line of the first fault of a member's calm, and its position.
 fn first_fault(sheet: &Sheet<'_>, place: Place) -> Option<(u64, u64)> {
     let line = sheet.fault(place)?;
     for (column, mark) in sheet.scene.marks.iter().enumerate() {
@@ -120,7 +120,7 @@ fn first_fault(sheet: &Sheet<'_>, place: Place) -> Option<(u64, u64)> {
     None
 }
 
-/// Appends the number of the line of each member's first fault, beside where it stands.
+/// Appends the number of the line of each member's first fault, beside its position.
 pub fn append_fault_lines(sheet: &Sheet<'_>, out: &mut String) -> Result<(), AllocError> {
     for place in 0..sheet.names.len() {
         if let Some((line, y)) = first_fault(sheet, place as Place) {

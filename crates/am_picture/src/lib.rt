@@ -1,4 +1,4 @@
-//! A picture of a schedule that is played, as SVG: a lane for each member, and from top to bottom what each line did.
+//! A picture of a schedule as it is played, as SVG: a lane for each member, and from top to bottom what each line did.
 #![tactic(auto)]
 
 mod again;

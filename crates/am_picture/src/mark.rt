@@ -1,4 +1,4 @@
-//! What a line of a schedule did.
+//! The marks of a schedule's lines, which say what each did.
 
 use am_cluster::Cluster;
 use am_dedup::Decision;
@@ -7,7 +7,7 @@ use am_replay::{Answer, Refusal};
 use am_schedule::{Action, Line, LineEvent, Word};
 use am_version_order::Moment;
 
-/// What a line asks for.
+/// The action that a line asks for.
 #[derive(Clone, Copy)]
 pub enum Verb {
     From,
@@ -30,7 +30,7 @@ pub enum Verb {
 }
 
 impl Verb {
-    /// What it is called.
+    /// Returns the name of the action.
     pub fn name(self) -> &'static str {
         match self {
             Verb::From => "from",
@@ -57,21 +57,21 @@ impl Verb {
 /// A line of a schedule as it was played.
 #[derive(Clone, Copy)]
 pub struct Mark {
-    /// Its number, counted from 1.
+    /// The number of the line, counted from 1.
     pub line: u64,
     pub moment: Option<Moment>,
     pub verb: Verb,
-    /// The member that it is a step of.
+    /// The member that makes the line's step.
     pub place: Option<Place>,
-    /// The peer from which a frame comes by itself.
+    /// The peer that a frame comes from without a step that sent it.
     pub peer: Option<Place>,
-    /// The number of the frame that it names.
+    /// The number of the frame that the line names.
     pub frame: Option<u64>,
     pub answer: Answer,
 }
 
 impl Mark {
-    /// The place of the frame that it names among all that were sent, counted from 0, if that flies.
+    /// Returns the index of the frame that the line names among all that were sent, counted from 0, if that frame is in flight.
     pub fn flying(&self) -> Option<usize> {
         match self.answer {
             Answer::Refused(Refusal::NoFrame) => None,
@@ -83,13 +83,13 @@ impl Mark {
         matches!(self.answer, Answer::Refused(_))
     }
 
-    /// Whether a group is notified by its decision.
+    /// Returns whether the line's decision notifies a group.
     pub fn notifies(&self) -> bool {
         matches!(self.answer, Answer::Decided(Decision::Notify(_)))
     }
 }
 
-/// What the line of a number did.
+/// Returns what the line of a number did.
 pub fn mark_of(cluster: &Cluster, line: &Line, number: u64, answer: Answer) -> Mark {
     let (verb, moment, name, frame) = parts_of(line);
     Mark {
@@ -103,7 +103,7 @@ pub fn mark_of(cluster: &Cluster, line: &Line, number: u64, answer: Answer) -> M
     }
 }
 
-/// What a line asks for, its moment, its member and the frame that it names.
+/// Returns the action that a line asks for, its moment, its member, and the frame that it names.
 fn parts_of(line: &Line) -> (Verb, Option<Moment>, Option<&Word>, Option<u64>) {
     match line {
         Line::Step(step) => match step.action() {
@@ -134,7 +134,7 @@ fn verb_of(event: &LineEvent) -> Verb {
     }
 }
 
-/// The peer from which a frame comes by itself.
+/// Returns the peer that a frame comes from without a step that sent it.
 fn peer_of(line: &Line) -> Option<&Word> {
     let Line::Step(step) = line else {
         return None;
@@ -148,7 +148,7 @@ fn peer_of(line: &Line) -> Option<&Word> {
     }
 }
 
-/// The place of the member of a name.
+/// Returns the place of the member of a name.
 fn place_of(cluster: &Cluster, name: Option<&Word>) -> Option<Place> {
     let first = cluster.instance(0)?;
     first.config().place_named(name?.as_str())

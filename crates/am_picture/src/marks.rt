@@ -1,4 +1,4 @@
-//! What the lines of a schedule did, in a picture.
+//! The parts of a picture that say what the lines of a schedule did.
 
 use crate::escape::{append_escaped, append_shortened};
 use crate::lanes::MOST_OF_NAME;
@@ -61,7 +61,7 @@ fn append_mark(
     out.push_str("</text></g>\n")
 }
 
-/// Appends who does a line, what it is called, and what came of it, up to the end of these words.
+/// Appends the member of a line, its action and its outcome, up to the end of these words.
 fn append_words(
     sheet: &Sheet<'_>,
     out: &mut String,
@@ -83,7 +83,8 @@ fn append_name(sheet: &Sheet<'_>, out: &mut String, place: Place) -> Result<(), 
     append_shortened(sheet.alloc, out, sheet.name(place), MOST_OF_NAME)
 }
 
-/// Where the mark of a line stands: at its member's lane, where a frame is delivered or lost, or else at the words.
+/// Returns the position of the mark of a line: at its member's lane, or where a frame is delivered or lost, or else at the
+/// words.
 fn lane_of_mark(sheet: &Sheet<'_>, mark: &Mark) -> u64 {
     if let Some(place) = mark.place {
         return lane_of(place);
@@ -95,7 +96,7 @@ fn lane_of_mark(sheet: &Sheet<'_>, mark: &Mark) -> u64 {
     }
 }
 
-/// Appends a title: the line, and why it was refused, or which one it repeats.
+/// Appends a title: the line, and why it was refused or which line it repeats.
 fn append_mark_title(
     sheet: &Sheet<'_>,
     out: &mut String,
@@ -115,7 +116,8 @@ fn append_mark_title(
     out.push_str("</title>")
 }
 
-/// What is drawn for a line: a cross where a frame is lost, a dot at a member, and nothing at the head.
+/// Returns the shape for a line: a cross where a frame is lost, nothing for lines about the whole cluster and for a frame that
+/// isn't in flight, and otherwise a dot.
 fn shape_of(mark: &Mark) -> &'static str {
     match (mark.verb, mark.flying()) {
         (Verb::Lose, Some(_)) => "<path class=\"cross\" d=\"M-5-5L5 5M-5 5L5-5\"/>",
@@ -124,7 +126,7 @@ fn shape_of(mark: &Mark) -> &'static str {
     }
 }
 
-/// Appends what a line is called.
+/// Appends the action of a line in words.
 fn append_label(sheet: &Sheet<'_>, out: &mut String, mark: &Mark) -> Result<(), AllocError> {
     match (mark.verb, sheet.scene.frame_of(mark)) {
         (Verb::Deliver, Some(sending)) => {
@@ -148,7 +150,7 @@ fn append_verb(sheet: &Sheet<'_>, out: &mut String, mark: &Mark) -> Result<(), A
     Ok(())
 }
 
-/// Appends what came of a line, in a word.
+/// Appends the outcome of a line as a word.
 fn append_answer(out: &mut String, answer: &Answer) -> Result<(), AllocError> {
     let word = match *answer {
         Answer::Nothing => return Ok(()),

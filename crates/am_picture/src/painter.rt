@@ -1,4 +1,4 @@
-//! Who looks on while a schedule is played, and draws it at the end.
+//! The onlooker that draws a schedule while it is played.
 
 use crate::again::repeated_lines;
 use crate::mark::mark_of;
@@ -14,7 +14,7 @@ use am_wire::Text;
 use std::alloc::{AllocError, Global};
 use std::str;
 
-/// Looks on while a schedule is played, and draws it at the end. How far the playing is another one is told.
+/// An onlooker that draws a schedule at the end of its playing. It passes the progress of the playing on to another one.
 #[derive(Drop)]
 pub struct Painter<'a, O> {
     alloc: Global,
@@ -26,7 +26,7 @@ pub struct Painter<'a, O> {
 }
 
 impl<'a, O: Onlooker> Painter<'a, O> {
-    /// Before the schedule of a text is played.
+    /// Returns a painter for the schedule of a text, before it is played.
     pub fn new(
         alloc: Global,
         schedule: &'a Schedule,
@@ -43,7 +43,7 @@ impl<'a, O: Onlooker> Painter<'a, O> {
         }
     }
 
-    /// What was drawn; nothing before the end.
+    /// Returns the picture, which is empty before the end.
     pub fn into_picture(self) -> String {
         let Painter { picture, .. } = self;
         picture
@@ -84,7 +84,7 @@ impl<O: Onlooker> Onlooker for Painter<'_, O> {
     }
 }
 
-/// The names of the members of a cluster, by their places.
+/// Returns the names of the members of a cluster, by their places.
 fn names_of(cluster: &Cluster) -> &[Text] {
     match cluster.instance(0) {
         Some(instance) => instance.config().members(),
@@ -92,7 +92,7 @@ fn names_of(cluster: &Cluster) -> &[Text] {
     }
 }
 
-/// The line of the first fault of each member's calm.
+/// Returns the line of the first fault of each member's calm.
 fn faults_of(
     alloc: Global,
     cluster: &Cluster,
@@ -105,7 +105,7 @@ fn faults_of(
     Ok(faults)
 }
 
-/// The lines of a text that is UTF-8.
+/// Returns the lines of a text if it is UTF-8, and none otherwise.
 fn lines_of(alloc: Global, text: &[u8]) -> Result<Vec<&str>, AllocError> {
     match str::from_utf8(text) {
         Ok(text) => text.split('\n').collect(alloc),

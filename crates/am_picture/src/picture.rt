@@ -16,28 +16,28 @@ use am_schedule::parse;
 use am_silence_json::moments::write_moment;
 use std::alloc::{AllocError, Global};
 
-/// What came of a schedule that was to be drawn.
+/// The outcome of drawing a schedule.
 #[derive(Drop)]
 pub enum Drawing {
-    /// It was played and drawn.
+    /// The schedule was played and drawn.
     Drawn {
         /// The picture, as SVG.
         picture: String,
-        /// All that is printed of the schedule.
+        /// The text that the schedule prints.
         output: String,
     },
-    /// It has so many steps, over 2,000, and wasn't played.
+    /// The schedule has this many steps, more than 2,000, and wasn't played.
     TooManySteps {
         steps: usize,
     },
 }
 
-/// Plays the schedule that a text is, and draws it. `onlooker` is told how far the playing is.
+/// Plays the schedule in a text, and draws it. `onlooker` is told the progress of the playing.
 ///
 /// # Errors
 ///
-/// [`ReplayError::Schedule`] where a line is at fault, and else [`ReplayError::Memory`] with the line at which memory ran out,
-/// when it was read or when it was played, or 0.
+/// [`ReplayError::Schedule`] if a line is at fault, and otherwise [`ReplayError::Memory`] with the line at which memory ran
+/// out, while it was read or while it was played, or 0.
 pub fn picture_of<O: Onlooker>(
     alloc: Global,
     text: &[u8],
@@ -69,7 +69,7 @@ pub fn append_picture(
     append_back(sheet, out)
 }
 
-/// Appends what comes before the end.
+/// Appends everything before the end.
 fn append_steps(sheet: &Sheet<'_>, out: &mut String) -> Result<(), AllocError> {
     append_front(sheet, out)?;
     append_first(sheet, out)?;
@@ -81,7 +81,7 @@ fn append_steps(sheet: &Sheet<'_>, out: &mut String) -> Result<(), AllocError> {
     append_fault_lines(sheet, out)
 }
 
-/// Appends what comes before all marks.
+/// Appends everything before the marks.
 fn append_front(sheet: &Sheet<'_>, out: &mut String) -> Result<(), AllocError> {
     let (steps, members) = (sheet.scene.marks.len(), sheet.names.len());
     let (width, height) = (width_of(members), height_of(steps, members));
@@ -100,7 +100,7 @@ fn append_front(sheet: &Sheet<'_>, out: &mut String) -> Result<(), AllocError> {
     )
 }
 
-/// Appends the first moment of a clock, in whole.
+/// Appends the first moment that was read from a clock, in full.
 fn append_first(sheet: &Sheet<'_>, out: &mut String) -> Result<(), AllocError> {
     match sheet.first {
         Some(first) => {
@@ -132,7 +132,7 @@ fn append_grid_line(out: &mut String, column: usize, members: usize) -> Result<(
     out.push_str("</line>\n")
 }
 
-/// Appends what comes behind all marks.
+/// Appends everything after the marks.
 fn append_back(sheet: &Sheet<'_>, out: &mut String) -> Result<(), AllocError> {
     let y = height_of(sheet.scene.marks.len(), sheet.names.len());
     writeln!(

@@ -1,4 +1,4 @@
-//! What is known of a schedule that was played.
+//! The facts that are collected of a schedule while it is played.
 
 use crate::mark::{Mark, Verb};
 use am_cluster::Flight;
@@ -6,21 +6,21 @@ use am_gossip::FrameKind;
 use am_instance::Place;
 use std::alloc::{AllocError, Global};
 
-/// What became of a frame.
+/// The fate of a frame.
 #[derive(Clone, Copy)]
 pub enum Fate {
-    /// It was never delivered, and flies.
+    /// The frame was never delivered, and is in flight.
     Flying,
-    /// It was delivered, and flies on.
+    /// The frame was delivered, and stays in flight.
     Delivered,
-    /// It was lost by the step of this number, counted from 0.
+    /// The frame was lost by the step of this number, counted from 0.
     Lost(usize),
 }
 
 /// A frame that was sent.
 #[derive(Clone, Copy)]
 pub struct Sending {
-    /// Its number, counted from 1, among all that were ever sent.
+    /// The number of the frame, counted from 1, among all that were ever sent.
     pub number: u64,
     /// The number, counted from 0, of the step that sent it.
     pub column: usize,
@@ -30,7 +30,7 @@ pub struct Sending {
     pub fate: Fate,
 }
 
-/// What was played: what each line did, and all frames that were sent, by their numbers.
+/// A schedule as it was played: what each line did, and all frames that were sent, by their numbers.
 #[derive(Drop)]
 pub struct Scene {
     pub marks: Vec<Mark>,
@@ -45,12 +45,12 @@ impl Scene {
         }
     }
 
-    /// The frame that a line delivers or loses, if it flies.
+    /// Returns the frame that a line delivers or loses, if it is in flight.
     pub fn frame_of(&self, mark: &Mark) -> Option<&Sending> {
         self.sendings.get(mark.flying()?)
     }
 
-    /// The line of a step of this number, counted from 0.
+    /// Returns the line of the step of a number, counted from 0.
     pub fn line_of(&self, column: usize) -> u64 {
         match self.marks.get(column) {
             Some(mark) => mark.line,
@@ -58,11 +58,11 @@ impl Scene {
         }
     }
 
-    /// Adds what a line did, and of the frames in flight then those that it sent.
+    /// Appends what a line did, and those of the frames in flight that it sent.
     ///
     /// # Errors
     ///
-    /// [`AllocError`] where memory runs out.
+    /// [`AllocError`] if memory runs out.
     pub fn add(&mut self, mark: Mark, flights: &[Flight]) -> Result<(), AllocError> {
         let column = self.marks.len();
         if let Some((index, fate)) = turn_of(&mark, column) {
@@ -72,7 +72,7 @@ impl Scene {
         self.add_sendings(column, flights)
     }
 
-    /// Adds those of the frames in flight that the step of this number sent.
+    /// Appends those of the frames in flight that the step of this number sent.
     fn add_sendings(&mut self, column: usize, flights: &[Flight]) -> Result<(), AllocError> {
         for flight in flights {
             if flight.number > self.sendings.len() as u64 {
@@ -82,7 +82,7 @@ impl Scene {
         Ok(())
     }
 
-    /// Notes what became of a frame.
+    /// Notes the fate of a frame.
     fn turn(&mut self, index: usize, fate: Fate) {
         if let Some(sending) = self.sendings.get_mut(index) {
             sending.fate = fate;
@@ -90,7 +90,7 @@ impl Scene {
     }
 }
 
-/// What becomes of the frame that a line of this number delivers or loses, and its place.
+/// Returns the fate of the frame that the line of this number delivers or loses, and the frame's index.
 fn turn_of(mark: &Mark, column: usize) -> Option<(usize, Fate)> {
     let fate = match mark.verb {
         Verb::Lose => Fate::Lost(column),
@@ -99,7 +99,7 @@ fn turn_of(mark: &Mark, column: usize) -> Option<(usize, Fate)> {
     Some((mark.flying()?, fate))
 }
 
-/// A frame that the step of this number sent.
+/// Returns a frame that the step of this number sent.
 fn sent_by(column: usize, flight: &Flight) -> Sending {
     Sending {
         number: flight.number,

@@ -1,4 +1,4 @@
-//! What a picture is drawn of, and its parts in XML.
+//! The data that a picture is drawn from, and its parts in XML.
 
 use crate::escape::{append_escaped, append_shortened};
 use crate::scene::Scene;
@@ -7,11 +7,11 @@ use am_version_order::Moment;
 use am_wire::Text;
 use std::alloc::{AllocError, Global};
 
-/// What a picture is drawn of, but for what the members show at the end.
+/// The data that a picture is drawn from, without what the members show at the end.
 #[derive(Clone, Copy)]
 pub struct Sheet<'a> {
     pub alloc: Global,
-    /// What was played.
+    /// The schedule as it was played.
     pub scene: &'a Scene,
     /// The names of the members, by their places.
     pub names: &'a [Text],
@@ -21,12 +21,12 @@ pub struct Sheet<'a> {
     pub repeated: &'a [Option<u64>],
     /// The lines of the text.
     pub lines: &'a [&'a str],
-    /// The first moment of a clock.
+    /// The first moment that was read from a clock.
     pub first: Option<Moment>,
 }
 
 impl<'a> Sheet<'a> {
-    /// The name of the member at a place.
+    /// Returns the name of the member at a place.
     pub fn name(&self, place: Place) -> &'a str {
         match self.names.get(place as usize) {
             Some(name) => name.as_str(),
@@ -34,17 +34,17 @@ impl<'a> Sheet<'a> {
         }
     }
 
-    /// The line of the first fault of a member's calm.
+    /// Returns the line of the first fault of a member's calm.
     pub fn fault(&self, place: Place) -> Option<u64> {
         *self.faults.get(place as usize)?
     }
 
-    /// The line that a step repeats.
+    /// Returns the line that a step repeats.
     pub fn repeated_by(&self, column: usize) -> Option<u64> {
         *self.repeated.get(column)?
     }
 
-    /// The text of the line of a number, counted from 1.
+    /// Returns the text of the line of a number, counted from 1.
     pub fn line(&self, number: u64) -> &'a str {
         match number.checked_sub(1) {
             Some(index) => self.lines.get(index as usize).copied().unwrap_or(""),
@@ -53,7 +53,7 @@ impl<'a> Sheet<'a> {
     }
 }
 
-/// Two cursors.
+/// The two ends of a line.
 #[derive(Clone, Copy)]
 pub struct Stroke {
     pub x1: u64,
@@ -62,7 +62,7 @@ pub struct Stroke {
     pub y2: u64,
 }
 
-/// Appends a line between two cursors, up to what it holds.
+/// Appends a line between two positions, up to its content.
 pub fn open_stroke(out: &mut String, class: &str, stroke: &Stroke) -> Result<(), AllocError> {
     let (x1, y1, x2, y2) = (stroke.x1, stroke.y1, stroke.x2, stroke.y2);
     write!(
@@ -71,7 +71,7 @@ pub fn open_stroke(out: &mut String, class: &str, stroke: &Stroke) -> Result<(),
     )
 }
 
-/// Appends a line from one cursor to another that is the flatter the nearer it comes, up to what it holds.
+/// Appends a line from one position to another that gets flatter towards its end, up to its content.
 pub fn open_curve(out: &mut String, class: &str, stroke: &Stroke) -> Result<(), AllocError> {
     let (x1, y1, x2, y2) = (stroke.x1, stroke.y1, stroke.x2, stroke.y2);
     let (x, y) = (near(x2, x1), near(y1, y2));
@@ -81,12 +81,12 @@ pub fn open_curve(out: &mut String, class: &str, stroke: &Stroke) -> Result<(), 
     )
 }
 
-/// Three quarters of the way from a cursor to another.
+/// Returns the position three quarters of the way from one to another.
 fn near(from: u64, to: u64) -> u64 {
     to.saturating_mul(3).saturating_add(from) / 4
 }
 
-/// Appends a text at a cursor, of at most so many characters.
+/// Appends a text of at most `most` characters at a position.
 pub fn append_text(
     alloc: Global,
     out: &mut String,

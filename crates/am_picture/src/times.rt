@@ -1,15 +1,15 @@
-//! Moments as they stand in a picture.
+//! Moments as a picture writes them.
 
 use crate::scene::Scene;
 use am_version_order::Moment;
 use std::alloc::AllocError;
 
-/// 2000-01-01 in seconds since 1970. What is from then on was read from a clock.
+/// 2000-01-01 in seconds since 1970. Moments from then on were read from a clock.
 const FIRST_OF_CLOCKS: i64 = 946_684_800;
 
 const DAY: u64 = 86_400;
 
-/// The first moment of a clock that a line has.
+/// Returns the first moment among the lines that was read from a clock.
 pub fn first_of_clock(scene: &Scene) -> Option<Moment> {
     for mark in &scene.marks {
         if let Some(moment) = mark.moment {
@@ -21,8 +21,8 @@ pub fn first_of_clock(scene: &Scene) -> Option<Moment> {
     None
 }
 
-/// Appends a moment: from the first one of a clock on the time of its day in UTC, behind how many days it is later; or else
-/// the seconds since 1970.
+/// Appends a moment. From the first one that was read from a clock on, this is the number of days since that one's day, if any,
+/// and the time of day in UTC; otherwise it is the seconds since 1970.
 pub fn append_time(
     out: &mut String,
     first: Option<Moment>,

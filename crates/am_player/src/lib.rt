@@ -1,4 +1,5 @@
-//! Schedules, played and drawn for the program: how far the playing is, the file of the picture, and the faults that are printed.
+//! Schedules, played and drawn for the program: the progress of the playing, the file of the picture, and the faults that are
+//! printed.
 #![tactic(auto)]
 
 mod picture;

@@ -1,4 +1,4 @@
-//! A schedule that is played and drawn.
+//! Playing and drawing a schedule.
 
 ghost use Rattle.std.specs.Prelude.{OnOk};
 ghost use Rattle.std.specs.Io.KnownBytes.{Appends};
@@ -14,7 +14,7 @@ use am_streams::send;
 use std::fs;
 use std::io::{Read, Write};
 
-/// Plays the schedule that stands on the input, and writes its picture into a file before what it prints.
+/// Plays the schedule on the input, writes its picture into a file, and then writes what it prints.
 pub fn draw<H: Host, R: Read, W: Write>(
     rt: &H,
     input: &mut R,

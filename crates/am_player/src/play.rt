@@ -1,4 +1,4 @@
-//! A schedule that is played.
+//! Playing a schedule.
 
 ghost use Rattle.std.specs.Prelude.{OnOk};
 ghost use Rattle.am_replay.specs.Replays.{HasReplayed};
@@ -17,8 +17,8 @@ pub trait Host: AllocGlobal + Clock + Eprint + Files + HasAudience {}
 
 impl<H: AllocGlobal + Clock + Eprint + Files + HasAudience> Host for H {}
 
-/// Plays the schedule that stands on the input, and answers the exit status of the program. Where a file is named it is drawn
-/// there. How far the playing is is shown to a person on standard error.
+/// Plays the schedule on the input, and returns the exit status of the program. If a file is named, the schedule is drawn into
+/// it. The progress of the playing is shown to a person on standard error.
 pub fn run_replay<H: Host, R: Read, W: Write>(
     rt: &H,
     input: &mut R,
@@ -37,7 +37,7 @@ pub fn run_replay<H: Host, R: Read, W: Write>(
     }
 }
 
-/// Plays the schedule that stands on the input.
+/// Plays the schedule on the input.
 fn play<R: Read, W: Write, O: Onlooker>(
     alloc: Global,
     input: &mut R,

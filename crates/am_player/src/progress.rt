@@ -1,26 +1,26 @@
-//! The progress of a schedule that is played, for people.
+//! The progress of playing a schedule, for people.
 
 use crate::play::Host;
 use am_faults::Audience;
 use am_replay::Onlooker;
 use std::time::{Duration, Instant};
 
-/// For how many milliseconds nothing is shown.
+/// The time, in milliseconds, for which nothing is shown.
 const FIRST: u64 = 1_000;
 
-/// After how many more it is shown anew.
+/// The time between two updates, in milliseconds.
 const NEXT: u64 = 200;
 
-/// Shows a person on standard error how far the playing is, where it takes over a second.
+/// A display on standard error that shows a person the progress of the playing if it takes more than a second.
 #[derive(Drop)]
 pub struct Display<'a, H> {
     rt: &'a H,
-    /// When it is to be shown next, if ever.
+    /// The moment of the next update, if there is to be one.
     due: Option<Instant>,
     is_shown: bool,
 }
 
-/// So many milliseconds from now, if the clock can be read.
+/// Returns the moment that is `millis` milliseconds from now, if the clock can be read.
 fn moment_after<H: Host>(rt: &H, millis: u64) -> Option<Instant> {
     match Instant::now(rt) {
         Ok(now) => now.checked_add(Duration::from_millis(millis)),
@@ -41,7 +41,7 @@ impl<'a, H: Host> Display<'a, H> {
         }
     }
 
-    /// Takes away what is shown.
+    /// Removes what is shown.
     pub fn clear(&mut self) {
         if self.is_shown {
             let _ = eprint!(self.rt; "\r\x1b[K");
@@ -49,7 +49,7 @@ impl<'a, H: Host> Display<'a, H> {
         self.is_shown = false;
     }
 
-    /// Whether it is to be shown now.
+    /// Returns whether the display is to be updated now.
     fn is_due(&self) -> bool {
         match (self.due, Instant::now(self.rt)) {
             (Some(due), Ok(now)) => now >= due,

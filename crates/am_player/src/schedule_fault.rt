@@ -1,4 +1,4 @@
-//! What is printed where a schedule isn't played or drawn.
+//! The faults for which a schedule isn't played or drawn.
 
 ghost use Rattle.std.specs.Prelude.{◌≤◌};
 
@@ -10,24 +10,24 @@ use am_snapshot::SnapshotError;
 use std::fmt::{self, Formatter};
 use thiserror::Error;
 
-/// Why a schedule was not played or drawn.
+/// The reason that a schedule was not played or drawn.
 #[derive(Clone, Copy, Debug, Error)]
 pub enum ScheduleFault {
-    /// In the schedule, or in what was written of it.
+    /// A fault in the schedule, or in writing what it prints.
     #[error(fmt = write_replay_error)]
     Replay(#[from] ReplayError),
-    /// It has so many steps, too many for a picture.
+    /// The schedule has this many steps, too many for a picture.
     #[error("TooManySteps {steps}")]
     TooManySteps { steps: usize },
-    /// Memory ran out while it was drawn, at whatever line.
+    /// Memory ran out while the schedule was drawn, at whatever line.
     #[error("Memory 0")]
     Memory,
-    /// In the file of its picture.
+    /// A fault in the file of the picture.
     #[error(fmt = write_file_fault)]
     Picture(FileFault),
 }
 
-/// Prints a fault on standard error: its words, and to a person what it means. Gives the exit status of the program.
+/// Prints a fault on standard error: its words, and to a person its meaning. Returns the exit status of the program.
 pub fn report<R: Eprint + HasAudience>(rt: &R, fault: ScheduleFault) -> u8
     ensures { (1 ≤ result) × (result ≤ 4) }
 {
@@ -37,7 +37,7 @@ pub fn report<R: Eprint + HasAudience>(rt: &R, fault: ScheduleFault) -> u8
 }
 
 impl ScheduleFault {
-    /// What it means, as a sentence.
+    /// Returns the meaning of the fault as a sentence.
     fn meaning(&self) -> &'static str {
         match *self {
             ScheduleFault::Replay(error) => meaning_of_replay(error),
@@ -48,7 +48,7 @@ impl ScheduleFault {
         }
     }
 
-    /// The exit status of the program.
+    /// Returns the exit status of the program.
     fn status(self) -> u8
         ensures { (1 ≤ result) × (result ≤ 4) }
     {
@@ -61,7 +61,7 @@ impl ScheduleFault {
     }
 }
 
-/// The exit status where a schedule isn't played.
+/// Returns the exit status if a schedule isn't played.
 fn status_of_replay(error: ReplayError) -> u8
     ensures { (1 ≤ result) × (result ≤ 4) }
 {
@@ -86,12 +86,12 @@ fn write_file_fault<W: fmt::Write>(fault: &FileFault, f: &mut Formatter<W>) -> f
     write!(f, "Picture {}", Fault::File(*fault))
 }
 
-/// What is wrong where it might be with a row as well.
+/// Returns the meaning of a fault that a row can have as well.
 fn meaning_of_row(error: SnapshotError) -> &'static str {
     Fault::Snapshot(error).meaning()
 }
 
-/// What is wrong with a schedule.
+/// Returns the meaning of a fault in playing a schedule.
 fn meaning_of_replay(error: ReplayError) -> &'static str {
     match error {
         ReplayError::Read { at } => meaning_of_row(SnapshotError::Read { at }),
@@ -102,7 +102,7 @@ fn meaning_of_replay(error: ReplayError) -> &'static str {
     }
 }
 
-/// What is wrong with a line of a schedule.
+/// Returns the meaning of a fault in a line of a schedule.
 fn meaning_of_line(kind: FaultKind) -> &'static str {
     match kind {
         FaultKind::NotUtf8 => "the line is not UTF-8",

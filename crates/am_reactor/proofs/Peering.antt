@@ -19,7 +19,7 @@ use Rattle.am_reactor.proofs.Histories.{leads_act, leads_acts, leads_more, leads
 
 module _ {S T C : Type 0} (does : S → T → Deed → S → T → Type 0) (begins : S → T → S → Type 0) (acts : S → S → Type 0)
     (pending : T → List ℕ) (coming gone : C → Option (List ℕ)) (loses : S → ℕ → LinkFault → S → Type 0) (answers : S → ℕ → List ℕ → S → Type 0)
-    (gives : S → ℕ → Option (List ℕ) → S → Type 0) (offers asks : S → ℕ → List ℕ → S → Type 0) where
+    (gives : S → ℕ → List ℕ → Option (List ℕ) → S → Type 0) (offers asks : S → ℕ → List ℕ → S → Type 0) where
   -- ---- one step more
 
   abbrev On : S → Held T C → S → Held T C → Type 0
@@ -69,10 +69,10 @@ module _ {S T C : Type 0} (does : S → T → Deed → S → T → Type 0) (begi
 
   -- what waits in one link goes on
   pub loops_moved : (peer : ℕ) (s : S) (t : ℕ → Option (Line T C)) (l : Links C) (e : Exchanges C) (s' : S) (l' : Links C) → KeepsLinks peer l l'
-      → IsMoved gone loses gives peer s l s' l' → On s (held t l e) s' (held t l' e)
+      → IsMoved coming gone loses gives peer s l s' l' → On s (held t l e) s' (held t l' e)
   loops_moved peer s t l e s' l' others moved = loops_more (Moved peer) s (held t l e) s' (held t l' e) (others, moved, refl, refl)
 
-  moves_on : (peers : List ℕ) (s : S) (t : ℕ → Option (Line T C)) (l : Links C) (e : Exchanges C) (s' : S) (l' : Links C) → Moves gone loses gives peers s l s' l'
+  moves_on : (peers : List ℕ) (s : S) (t : ℕ → Option (Line T C)) (l : Links C) (e : Exchanges C) (s' : S) (l' : Links C) → Moves coming gone loses gives peers s l s' l'
       → On s (held t l e) s' (held t l' e)
   moves_on [] s t l e s' l' none first begun loops = loops_more Apart s (held t l e) s' (held t l' e) (
     subst (λ x. Leads does begins acts pending coming gone s t x t) (sym none.0) (leads_none does begins acts pending coming gone s t),
@@ -83,7 +83,7 @@ module _ {S T C : Type 0} (does : S → T → Deed → S → T → Type 0) (begi
       moves_on peers moves.0 t moves.1 e s' l' moves.4 first begun (loops_moved peer s t l e moves.0 moves.1 moves.2 moves.3 first begun loops)
 
   -- what waits in links goes on, one after the other
-  pub loops_moves : (s : S) (t : ℕ → Option (Line T C)) (l : Links C) (e : Exchanges C) (s' : S) (l' : Links C) → (peers : List ℕ) × Moves gone loses gives peers s l s' l'
+  pub loops_moves : (s : S) (t : ℕ → Option (Line T C)) (l : Links C) (e : Exchanges C) (s' : S) (l' : Links C) → (peers : List ℕ) × Moves coming gone loses gives peers s l s' l'
       → On s (held t l e) s' (held t l' e)
   loops_moves s t l e s' l' moves = moves_on moves.0 s t l e s' l' moves.1
 
@@ -156,12 +156,12 @@ module _ {S T C : Type 0} (does : S → T → Deed → S → T → Type 0) (begi
   asked_calls peer bytes m e s' e' (inl h) = inl h.0
   asked_calls peer bytes m e s' e' (inr h) = inr h.0
 
-  moved_calls : (peer : ℕ) (s : S) (l : Links C) (s' : S) (l' : Links C) → IsMoved gone loses gives peer s l s' l' → Calling s s'
+  moved_calls : (peer : ℕ) (s : S) (l : Links C) (s' : S) (l' : Links C) → IsMoved coming gone loses gives peer s l s' l' → Calling s s'
   moved_calls peer s l s' l' (inl none) = (0, none.2)
   moved_calls peer s l s' l' (inr (inl pushed)) = elim pushed.1.next [
     | inl p ↦ (0, p.0)
     | inr q ↦ elim q [
-      | inl more ↦ call s s' (inr (inr (inr (inl (peer, more.1.more, more.1.given)))))
+      | inl more ↦ call s s' (inr (inr (inr (inl (peer, more.3.answer, more.3.more, more.3.given)))))
       | inr h ↦ call s s' (lost peer s s' h.1)
     ]
   ]

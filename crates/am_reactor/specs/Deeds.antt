@@ -1,4 +1,4 @@
--- What a service is called for, one connection at a time.
+-- The calls of a service, one connection at a time.
 use Rattle.std.specs.Prelude.{◌≡◌, ℕ, Bool, true, false, List, [], ◌∷◌}
 use Rattle.std.specs.List.{flat_map}
 use Rattle.am_reactor.specs.declared.fault.Broken.{Broken}
@@ -20,7 +20,7 @@ abbrev pub feeds : List (List ℕ) → List Deed
 feeds [] = []
 feeds (piece ∷ pieces) = Fed piece ∷ feeds pieces
 
--- the call that tells of the end, where it was met
+-- the call that tells of the end, if the end was met
 abbrev pub ending : Bool → Bool → List Deed
 ending false true = Ended ∷ []
 ending was is = []
@@ -35,7 +35,7 @@ abbrev pub joined : List (List ℕ) → List ℕ
 joined pieces = flat_map (λ piece. piece) pieces
 
 module _ {S T : Type 0} (does : S → T → Deed → S → T → Type 0) where
-  -- what calls, one after the other, make of a service and of a session
+  -- calls, one after the other, lead from one service and session to others
   abbrev pub Did : S → T → List Deed → S → T → Type 0
   Did service session [] service' session' = (service' ≡ service) × (session' ≡ session)
   Did service session (deed ∷ deeds) service' session' =

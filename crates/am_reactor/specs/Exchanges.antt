@@ -20,14 +20,14 @@ pub record BreaksOff (old new : Option (List ℕ)) (before after : List ℕ) : T
   pub came : Consumes old new (bytes ++ dropped)
   pub behind : after ≡ before ++ bytes
 
--- bytes came over a stream that are too many behind what came before
+-- more bytes came over a stream than fit behind those that came before
 pub record IsTooMuch (most : ℕ) (old new : Option (List ℕ)) (before : List ℕ) : Type 0 where
   pub bytes : List ℕ
   pub came : Consumes old new bytes
   pub much : most < length before + length bytes
 
 module _ {C : Type 0} where
-  -- the exchange with a peer, where one is under way
+  -- the exchange with a peer, if one is under way
   abbrev pub exchange_with : Exchanges C → ℕ → Option (Exchange C)
   exchange_with exchanges peer = slice_index_or exchanges.open.items peer None
 
@@ -49,23 +49,23 @@ module _ {C : Type 0} where
   abbrev pub IsAsked : Exchanges C → ℕ → Type 0
   IsAsked exchanges peer = IfSome (exchange_with exchanges peer) (λ exchange. exchange.buffer.waiting ≡ [])
 
-  -- a peer has ended the stream of its exchange, where there is room to read, or none is under way
+  -- the peer has ended the stream of its exchange, if there is room to read, or no exchange with it is under way
   abbrev pub IsEnded : (C → Option (List ℕ)) → ℕ → Exchanges C → ℕ → Type 0
   IsEnded coming room exchanges peer = IfSome (exchange_with exchanges peer) (λ exchange. 0 < room → IsAtEnd (coming exchange.stream))
 
-  -- the exchange with a peer goes from here to there by such a step
+  -- a step leads the exchange with a peer from one state to the other
   abbrev pub Goes : (Exchange C → Exchange C → Type 0) → Exchanges C → Exchanges C → ℕ → Type 0
   Goes step old new peer = IfSome (exchange_with old peer) (λ before. IfSome (exchange_with new peer) (step before))
 
-  -- such steps are taken with one peer after the other: no exchange goes on, ends or is closed but so
+  -- such steps are taken with one peer after the other: no exchange goes on, ends or is closed in any other way
   abbrev pub OneByOne : {S : Type 0} → (ℕ → S → Exchanges C → S → Exchanges C → Type 0) → List ℕ → S → Exchanges C → S → Exchanges C → Type 0
   OneByOne step [] service old service' new = (service' ≡ service) × ((peer : ℕ) → exchange_with new peer ≡ exchange_with old peer)
   OneByOne {S} step (peer ∷ peers) service old service' new =
       (next : S) × (mid : Exchanges C) × KeepsExchanges peer old mid × step peer service old next mid × OneByOne step peers next mid service' new
 
   module _ (coming gone : C → Option (List ℕ)) where
-    -- An exchange goes on: of the bytes that are to be asked the first ones went out over its stream, and behind all of them more came back
-    -- over it, perhaps none, which is in the answer.
+    -- An exchange goes on: the first of the bytes that are to be asked went out over its stream; once all of them had, more came
+    -- back over it, perhaps nothing, and stands in the answer.
     pub record GoesOn (before after : Exchange C) : Type 0 where
       pub asked : Empties (gone before.stream) (gone after.stream) before.buffer after.buffer
       pub more : List ℕ
@@ -83,8 +83,9 @@ module _ {C : Type 0} where
       pub behind : more ++ dropped ≢ [] → after.buffer.waiting ≡ []
 
     module _ {S : Type 0} (answers : S → ℕ → List ℕ → S → Type 0) (loses : S → ℕ → LinkFault → S → Type 0) where
-      -- The service is told of all that came back of an exchange that went on from here, once all was asked and the peer has ended its
-      -- stream. From its beginning on, just the question went out over its stream, each byte once, and the answer is just what came over it.
+      -- The service is told of all that came back in an exchange that went on from here, once all was asked and the peer has ended
+      -- its stream. Since the exchange began, just the question went out over its stream, each byte once, and the answer is just
+      -- what came over it.
       pub record IsTold (room peer : ℕ) (begun : Exchange C) (service service' : S) (exchange : Exchange C) : Type 0 where
         pub asked : exchange.buffer.waiting ≡ []
         pub ended : 0 < room → IsAtEnd (coming exchange.stream)
@@ -92,29 +93,29 @@ module _ {C : Type 0} where
         pub question : (bytes : List ℕ) → IsBegun begun bytes → Appends (gone begun.stream) (gone exchange.stream) bytes
         pub answer : (bytes : List ℕ) → IsBegun begun bytes → Consumes (coming begun.stream) (coming exchange.stream) exchange.answer.items
 
-      -- An exchange with a peer that began so goes on; or it has ended, and the service is told of what came back since; or it is closed,
-      -- and the service is told that what it asked of this peer is lost.
+      -- An exchange with a peer goes on from its beginning; or it has ended, and the service is told of what came back since; or it
+      -- is closed, and the service is told that what it asked of this peer is lost.
       abbrev pub IsHeard : ℕ → ℕ → Exchange C → S → S → Option (Exchange C) → Type 0
       IsHeard room peer begun service service' then = (after : Exchange C)
           × ((GoesOn begun after × (then ≡ Some after) × (service' ≡ service))
           ⊎ ((GoesOn begun after × (then ≡ None) × IsTold room peer begun service service' after)
           ⊎ (Fails begun after × (then ≡ None) × ((fault : LinkFault) × loses service peer fault service'))))
 
-      -- so it is of the exchange that is under way with a peer, from wherever it went on; where none is, nothing is done or told
+      -- the same holds of the exchange that is under way with a peer, from wherever it began; if none is, nothing is done or told
       abbrev pub IsDriven : ℕ → ℕ → S → Exchanges C → S → Exchanges C → Type 0
       IsDriven room peer service old service' new = MatchOption (exchange_with old peer) ((exchange_with new peer ≡ None) × (service' ≡ service))
           (λ before. (begun : Exchange C) → GoesOn begun before → IsHeard room peer begun service service' (exchange_with new peer))
 
   module _ {S : Type 0} (loses : S → ℕ → LinkFault → S → Type 0) where
-    -- an exchange with a peer has begun, with which there was none, or the service is told that what it asks of this peer is lost, and one
-    -- that is under way with it is as it was
+    -- an exchange has begun with a peer with which there was none, or the service is told that what it asks of this peer is lost,
+    -- and the one that is under way with it is as it was
     abbrev pub IsAskedOf : ℕ → List ℕ → S → Exchanges C → S → Exchanges C → Type 0
     IsAskedOf peer bytes service old service' new =
         ((service' ≡ service) × (exchange_with old peer ≡ None) × IsSome (exchange_with new peer) × IfSome (exchange_with new peer) (λ exchange. IsBegun exchange bytes))
         ⊎ (((fault : LinkFault) × loses service peer fault service') × (exchange_with new peer ≡ exchange_with old peer))
 
-    -- the exchange that is under way with a peer is closed, and the service is told that what it asked of this peer is lost, since its time
-    -- is over, and how many bytes went out; where none is, nothing is told
+    -- the exchange that is under way with a peer is closed, and the service is told that what it asked of this peer is lost because
+    -- its time is over, and how many bytes went out; if none is, nothing is told
     abbrev pub IsTimedOut : ℕ → S → Exchanges C → S → Exchanges C → Type 0
     IsTimedOut peer service old service' new = (exchange_with new peer ≡ None)
         × MatchOption (exchange_with old peer) (service' ≡ service) (λ before. loses service peer (Time (length before.buffer.gone)) service')

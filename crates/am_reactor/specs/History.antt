@@ -1,4 +1,4 @@
--- What a loop did, call by call.
+-- The calls that a loop made.
 use Rattle.std.specs.Prelude.{◌≡◌, ◌⊎◌, ◌≢◌, ◌==◌, ℕ, zero, suc, Bool, true, false, List, [], ◌∷◌, ◌++◌, Option, None, Some, option_map, if◌then◌else◌}
 use Rattle.std.specs.Io.KnownBytes.{Appends, Consumes}
 use Rattle.slab.specs.Slab.{Slab, get}
@@ -10,34 +10,34 @@ use Rattle.am_reactor.specs.Deeds.{Deed, Did}
 use Rattle.am_reactor.specs.Deeds.Deed.{Fed, Sent}
 use Rattle.am_reactor.specs.Sending.{IsFirstPart}
 
--- what a connection is to its service: a session, what that goes over, and whether it is let go
+-- a connection as its service sees it: a session, its stream, and whether it is let go
 pub record Line (T C : Type 0) : Type 0 where
   pub session : T
   pub stream : C
   pub leaves : Bool
 
--- a connection in this phase is let go
+-- whether a connection in this phase is let go
 abbrev pub leaves_in : Phase → Bool
 leaves_in Open = false
 leaves_in (Lingering end) = true
 
--- what a connection is to its service
+-- the line of a connection
 abbrev pub line_of : {T C : Type 0} → Connection T C → Line T C
 line_of connection = record { session = connection.session; stream = connection.stream; leaves = leaves_in connection.phase }
 
--- what stands under each key
+-- the line under each key of a table
 abbrev pub lines : {T C : Type 0} → Slab (Connection T C) → ℕ → Option (Line T C)
 lines table key = option_map line_of (get table key)
 
--- nothing under any key
+-- the table with nothing under any key
 abbrev pub no_lines : {T C : Type 0} → ℕ → Option (Line T C)
 no_lines key = None
 
--- this under one key, and the others as they are
+-- the table with this line under one key, and the others as they are
 abbrev pub with_line : {T C : Type 0} → ℕ → Option (Line T C) → (ℕ → Option (Line T C)) → ℕ → Option (Line T C)
 with_line key line old other = if other == key then line else old other
 
--- two of these are the same under each key
+-- two tables are the same under each key
 abbrev pub AreSame : {T C : Type 0} → (ℕ → Option (Line T C)) → (ℕ → Option (Line T C)) → Type 0
 AreSame new old = (key : ℕ) → new key ≡ old key
 
@@ -52,14 +52,14 @@ pub record Throws {T C : Type 0} (coming gone : C → Option (List ℕ)) (bytes 
   pub unwritten : gone line'.stream ≡ gone line.stream
   pub leaves : line'.leaves ≡ true
 
--- nothing came or went over a connection, for the same session
+-- nothing came or went over a connection, and the session is the same
 pub record Stays {T C : Type 0} (coming gone : C → Option (List ℕ)) (line line' : Line T C) : Type 0 where
   pub session : line'.session ≡ line.session
   pub unread : coming line'.stream ≡ coming line.stream
   pub unwritten : gone line'.stream ≡ gone line.stream
   pub leaves : line'.leaves ≡ line.leaves
 
--- so it is for the connection under a key, where there is one, and the others are as they were
+-- the same holds of the connection under a key, if there is one, and the others are as they were
 abbrev pub StaysUnder : {T C : Type 0} → (C → Option (List ℕ)) → (C → Option (List ℕ)) → ℕ → (ℕ → Option (Line T C)) → (ℕ → Option (Line T C)) → Type 0
 StaysUnder {T} {C} coming gone key old new =
     AreSame new old ⊎ ((line : Line T C) × (line' : Line T C) × (old key ≡ Some line) × Stays coming gone line line' × AreSame new (with_line key (Some line') old))
@@ -76,19 +76,21 @@ out_in [] = []
 out_in (Sent piece ∷ deeds) = piece ++ out_in deeds
 out_in (_ ∷ deeds) = out_in deeds
 
--- A call that is for no session, whatever it is for: one for no peer either; one that tells of a peer that what waited for it, or was asked of it,
--- is lost, or what it answered; one that asks for more for a peer, or in which bytes were given for a peer, or were asked of it.
-abbrev pub IsCall : {S : Type 0} → (S → S → Type 0) → (S → ℕ → LinkFault → S → Type 0) → (S → ℕ → List ℕ → S → Type 0) → (S → ℕ → Option (List ℕ) → S → Type 0)
+-- A call that is for no session: one for no peer either; one that tells that what waited for a peer, or was asked of it, is lost;
+-- one that tells what a peer answered; one that asks for more for a peer; or one in which bytes were given for a peer, or were
+-- asked of it.
+abbrev pub IsCall : {S : Type 0} → (S → S → Type 0) → (S → ℕ → LinkFault → S → Type 0) → (S → ℕ → List ℕ → S → Type 0) → (S → ℕ → List ℕ → Option (List ℕ) → S → Type 0)
     → (S → ℕ → List ℕ → S → Type 0) → (S → ℕ → List ℕ → S → Type 0) → S → S → Type 0
 IsCall acts loses answers gives offers asks service service' = acts service service'
     ⊎ (((peer : ℕ) × (fault : LinkFault) × loses service peer fault service')
     ⊎ (((peer : ℕ) × (bytes : List ℕ) × answers service peer bytes service')
-    ⊎ (((peer : ℕ) × (more : Option (List ℕ)) × gives service peer more service')
+    ⊎ (((peer : ℕ) × (answer : List ℕ) × (more : Option (List ℕ)) × gives service peer answer more service')
     ⊎ (((peer : ℕ) × (bytes : List ℕ) × offers service peer bytes service')
     ⊎ ((peer : ℕ) × (bytes : List ℕ) × asks service peer bytes service')))))
 
--- What happens in a loop: a connection comes, under a key that is free, or is turned away, for which there is no place; calls for the session under a key, one after the other; bytes
--- come of a connection that is let go, and are thrown away; connections are closed; and calls that are for no session.
+-- An event in a loop: a connection comes, under a key that is free; one is turned away because there is no place for it; calls are
+-- made for the session under a key, one after the other; bytes come of a connection that is let go, and are thrown away;
+-- connections are closed; or calls are made that are for no session.
 pub data Happening : Type 0 where
   Came : ℕ → Happening
   TurnedAway : Happening
@@ -97,19 +99,19 @@ pub data Happening : Type 0 where
   Closed : Happening
   Acted : ℕ → Happening
 
--- so many calls that are for no session, one after the other
+-- this number of calls are made that are for no session, one after the other
 abbrev pub Acts : {S : Type 0} → (S → S → Type 0) → ℕ → S → S → Type 0
 Acts acts zero service service' = service' ≡ service
 Acts {S} acts (suc count) service service' = (next : S) × acts service next × Acts acts count next service'
 
--- what such calls lead to leads on
+-- from wherever such calls led to the first service, such calls lead on to the other
 abbrev pub ActsOn : {S : Type 0} → (S → S → Type 0) → S → S → Type 0
 ActsOn {S} acts service service' = (first : S) → ((count : ℕ) × Acts acts count first service) → (count : ℕ) × Acts acts count first service'
 
 module _ {S T C : Type 0} (does : S → T → Deed → S → T → Type 0) (begins : S → T → S → Type 0) (acts : S → S → Type 0)
     (pending : T → List ℕ) (coming gone : C → Option (List ℕ)) where
-  -- Calls are made for the session of a connection: what they feed came over its own stream, which isn't let go, and what they tell as
-  -- sent went out over it, the first bytes that waited.
+  -- Calls are made for the session of a connection: the bytes that they feed came over its own stream, which isn't let go, and the
+  -- bytes that they report as sent went out over it, the first of those that waited.
   pub record Calls (deeds : List Deed) (service : S) (line : Line T C) (service' : S) (line' : Line T C) : Type 0 where
     pub did : Did does service line.session deeds service' line'.session
     pub came : Consumes (coming line.stream) (coming line'.stream) (fed_in deeds)
@@ -118,7 +120,7 @@ module _ {S T C : Type 0} (does : S → T → Deed → S → T → Type 0) (begi
     pub first : IsFirstPart (out_in deeds) (pending line.session)
     pub leaves : line'.leaves ≡ line.leaves
 
-  -- what a happening makes of a service and of the connections
+  -- a happening leads from one service and its connections to others
   abbrev pub Makes : S → (ℕ → Option (Line T C)) → Happening → S → (ℕ → Option (Line T C)) → Type 0
   Makes service old (Came key) service' new =
       (line : Line T C) × (old key ≡ None) × begins service line.session service' × (line.leaves ≡ false) × AreSame new (with_line key (Some line) old)
@@ -131,23 +133,23 @@ module _ {S T C : Type 0} (does : S → T → Deed → S → T → Type 0) (begi
   Makes service old Closed service' new = (service' ≡ service) × Closes old new
   Makes service old (Acted count) service' new = Acts acts count service service' × AreSame new old
 
-  -- what happens, one after the other
+  -- happenings, one after the other, lead from one service and its connections to others
   abbrev pub Happens : S → (ℕ → Option (Line T C)) → List Happening → S → (ℕ → Option (Line T C)) → Type 0
   Happens service old [] service' new = (service' ≡ service) × AreSame new old
   Happens service old (happening ∷ happenings) service' new =
       (next : S) × (mid : ℕ → Option (Line T C)) × Makes service old happening next mid × Happens next mid happenings service' new
 
-  -- happenings lead from here to there
+  -- there are happenings that lead from one state to the other
   pub record Leads (service : S) (old : ℕ → Option (Line T C)) (service' : S) (new : ℕ → Option (Line T C)) : Type 0 where
     pub happenings : List Happening
     pub happens : Happens service old happenings service' new
 
-  -- wherever the one was led to from, happenings lead on to the other
+  -- from wherever happenings led to the first state, happenings lead on to the other
   abbrev pub LeadsOn : S → (ℕ → Option (Line T C)) → S → (ℕ → Option (Line T C)) → Type 0
   LeadsOn service old service' new =
       (first : S) (begun : ℕ → Option (Line T C)) → Leads first begun service old → Leads first begun service' new
 
-  -- so they do where just one connection is looked at, under whichever key
+  -- the same holds if just one connection is looked at, under whichever key
   abbrev pub LeadsUnder : S → Line T C → S → Line T C → Type 0
   LeadsUnder service line service' line' =
       (key : ℕ) (others : ℕ → Option (Line T C)) → LeadsOn service (with_line key (Some line) others) service' (with_line key (Some line') others)

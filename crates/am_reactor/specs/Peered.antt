@@ -1,4 +1,4 @@
--- What a loop does with its links to peers and its exchanges with them, step by step, beside what happens to its connections.
+-- The steps that a loop takes with its links to peers and its exchanges with them, beside what happens to its connections.
 use Rattle.std.specs.Prelude.{◌≡◌, ◌⊎◌, ℕ, List, [], ◌∷◌, Option}
 use Rattle.mio.specs.declared.net.stream.TcpStream.{TcpStream}
 use Rattle.am_reactor.specs.declared.exchanges.Exchanges.{Exchanges}
@@ -10,23 +10,23 @@ use Rattle.am_reactor.specs.Exchanges.{HasNoExchange, IsAskedOf, IsDriven, IsTim
 use Rattle.am_reactor.specs.History.{Leads, Line, lines, no_lines}
 use Rattle.am_reactor.specs.Links.{HasNoLink, IsHanded, IsMoved, KeepsLinks, link_to}
 
--- what a loop holds: its connections, as they are to the service, its links and its exchanges
+-- the state of a loop: its connections, as they are to the service, its links and its exchanges
 pub record Held (T C : Type 0) : Type 0 where
   pub connections : ℕ → Option (Line T C)
   pub links : Links C
   pub exchanges : Exchanges C
 
--- these connections, links and exchanges
+-- the state with these connections, links and exchanges
 abbrev pub held : {T C : Type 0} → (ℕ → Option (Line T C)) → Links C → Exchanges C → Held T C
 held connections links exchanges = record { connections = connections; links = links; exchanges = exchanges }
 
--- what a loop holds
+-- the state of a loop
 abbrev pub held_by : {T : Type 0} → Reactor T → Held T TcpStream
 held_by reactor = held (lines reactor.connections.table) reactor.links reactor.exchanges
 
--- What a loop does, one after the other: the service gives bytes for a peer, and they are handed to the link to it; what waits in the link to a
--- peer goes on; the service asks something of a peer; the exchange with a peer goes on; its time is over; or what happens is for connections, or
--- for no session and no peer, and each link and each exchange is as it was.
+-- A step of a loop: the service gives bytes for a peer, and they are handed to the link to it; what waits in the link to a peer
+-- goes on; the service asks something of a peer; the exchange with a peer goes on; its time is over; or something happens for
+-- connections, or for no session and no peer, and each link and each exchange is as it was.
 pub data PeerStep : Type 0 where
   Handed : ℕ → List ℕ → PeerStep
   Moved : ℕ → PeerStep
@@ -37,12 +37,12 @@ pub data PeerStep : Type 0 where
 
 module _ {S T C : Type 0} (does : S → T → Deed → S → T → Type 0) (begins : S → T → S → Type 0) (acts : S → S → Type 0)
     (pending : T → List ℕ) (coming gone : C → Option (List ℕ)) (loses : S → ℕ → LinkFault → S → Type 0) (answers : S → ℕ → List ℕ → S → Type 0)
-    (gives : S → ℕ → Option (List ℕ) → S → Type 0) (offers asks : S → ℕ → List ℕ → S → Type 0) where
-  -- what a step makes of a service and of what a loop holds
+    (gives : S → ℕ → List ℕ → Option (List ℕ) → S → Type 0) (offers asks : S → ℕ → List ℕ → S → Type 0) where
+  -- a step leads from one service and loop state to others
   abbrev pub Steps : S → Held T C → PeerStep → S → Held T C → Type 0
   Steps service old (Handed peer bytes) service' new = (mid : S) × offers service peer bytes mid × KeepsLinks peer old.links new.links
       × IsHanded loses peer bytes mid old.links service' new.links × (new.connections ≡ old.connections) × (new.exchanges ≡ old.exchanges)
-  Steps service old (Moved peer) service' new = KeepsLinks peer old.links new.links × IsMoved gone loses gives peer service old.links service' new.links
+  Steps service old (Moved peer) service' new = KeepsLinks peer old.links new.links × IsMoved coming gone loses gives peer service old.links service' new.links
       × (new.connections ≡ old.connections) × (new.exchanges ≡ old.exchanges)
   Steps service old (Asked peer bytes) service' new = (mid : S) × asks service peer bytes mid × KeepsExchanges peer old.exchanges new.exchanges
       × IsAskedOf loses peer bytes mid old.exchanges service' new.exchanges × (new.connections ≡ old.connections) × (new.links ≡ old.links)
@@ -53,17 +53,17 @@ module _ {S T C : Type 0} (does : S → T → Deed → S → T → Type 0) (begi
   Steps service old Apart service' new = Leads does begins acts pending coming gone service old.connections service' new.connections
       × ((peer : ℕ) → link_to new.links peer ≡ link_to old.links peer) × ((peer : ℕ) → exchange_with new.exchanges peer ≡ exchange_with old.exchanges peer)
 
-  -- what is done, one step after the other
+  -- steps, one after the other, lead from one service and loop state to others
   abbrev pub Goes : S → Held T C → List PeerStep → S → Held T C → Type 0
   Goes service old [] service' new = (service' ≡ service) × (new ≡ old)
   Goes service old (step ∷ steps) service' new = (next : S) × (mid : Held T C) × Steps service old step next mid × Goes next mid steps service' new
 
-  -- steps go from here to there
+  -- there are steps that go from one state to the other
   pub record LoopGoes (service : S) (old : Held T C) (service' : S) (new : Held T C) : Type 0 where
     pub steps : List PeerStep
     pub go : Goes service old steps service' new
 
-  -- from wherever steps went to the one, they go on to the other
+  -- from wherever steps went to the first state, they go on to the other
   abbrev pub LoopGoesOn : S → Held T C → S → Held T C → Type 0
   LoopGoesOn service old service' new = (first : S) (begun : Held T C) → LoopGoes first begun service old → LoopGoes first begun service' new
 

@@ -1,4 +1,4 @@
--- What is read, and what is told of it.
+-- Reads, and the calls that tell of them.
 use Rattle.std.specs.Prelude.{◌≡◌, ◌<◌, ◌≤◌, ℕ, true, false, List, [], ◌∷◌, ◌++◌, length, take, Option}
 use Rattle.std.specs.Io.KnownBytes.{Consumes, IsAtEnd}
 use Rattle.am_reactor.specs.declared.connection.Connection.{Connection}
@@ -8,7 +8,7 @@ use Rattle.am_reactor.specs.Deeds.{Deed, Did, ending, feeds, joined}
 use Rattle.am_reactor.specs.Deeds.Deed.{Fed, Ended}
 use Rattle.am_reactor.specs.Sending.{counted}
 
--- how many bytes a read brought
+-- the number of bytes that a read brought
 abbrev pub brought_by : ReadResult → ℕ
 brought_by (Bytes count) = count
 brought_by End = 0
@@ -16,7 +16,7 @@ brought_by Nothing = 0
 brought_by Interrupted = 0
 brought_by (Failed kind) = 0
 
--- bytes that a read brought are one at least, and stand within the piece
+-- if a read brought bytes, there is at least one, and they fit in the piece
 abbrev pub FitsPiece : List ℕ → ReadResult → Type 0
 FitsPiece piece (Bytes count) = (0 < count) × (count ≤ length piece)
 FitsPiece piece End = Unit {0}
@@ -24,11 +24,11 @@ FitsPiece piece Nothing = Unit {0}
 FitsPiece piece Interrupted = Unit {0}
 FitsPiece piece (Failed kind) = Unit {0}
 
--- the end is met only where no more comes, if there is room in the piece
+-- the end is met only if no more comes, provided that the piece has room
 abbrev pub EndsWith : Option (List ℕ) → List ℕ → ReadResult → Type 0
 EndsWith coming piece brought = brought ≡ End → 0 < length piece → IsAtEnd coming
 
--- what is told of a read: just the bytes that came, or the end
+-- the calls that tell of a read: just of the bytes that came, or of the end
 abbrev pub told_of : List ℕ → ReadResult → List Deed
 told_of piece (Bytes count) = Fed (take count piece) ∷ []
 told_of piece End = Ended ∷ []
@@ -36,9 +36,8 @@ told_of piece Nothing = []
 told_of piece Interrupted = []
 told_of piece (Failed kind) = []
 
--- Of a connection is read: just the bytes that came are fed to its own session, in pieces one after the other, each once; and then,
--- where the end is met, it is told. Nothing goes out, and the connection is the same otherwise. There is room for so many bytes
--- of each piece.
+-- A connection is read: just the bytes that came are fed to its own session, in pieces one after the other, each once; then the end
+-- is told if it is met. Nothing goes out, and the connection is the same otherwise. Each piece has the given room.
 pub record Hears {S T C : Type 0} (does : S → T → Deed → S → T → Type 0) (coming gone : C → Option (List ℕ)) (room : ℕ)
     (service : S) (connection : Connection T C) (service' : S) (connection' : Connection T C) : Type 0 where
   pub pieces : List (List ℕ)

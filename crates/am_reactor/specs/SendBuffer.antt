@@ -1,4 +1,4 @@
--- What goes over a link.
+-- The bytes that go over a link.
 use Rattle.std.specs.Prelude.{◌≡◌, ℕ, ◌+◌, ◌-◌, ◌≤◌, List, ◌++◌, length, take, drop, Option}
 use Rattle.std.specs.Io.KnownBytes.{Appends}
 
@@ -7,15 +7,15 @@ pub record Outgo : Type 0 where
   pub gone : List ℕ
   pub waiting : List ℕ
 
--- how many more bytes there is room for, where there may be so many in all
+-- the number of bytes for which there is still room, if there may be `most` in all
 abbrev pub room_in : ℕ → Outgo → ℕ
 room_in most buffer = most - (length buffer.gone + length buffer.waiting)
 
--- these bytes wait too, behind the others
+-- the buffer with these bytes waiting behind the others
 abbrev pub with_behind : Outgo → List ℕ → Outgo
 with_behind buffer bytes = record buffer { waiting = buffer.waiting ++ bytes }
 
--- so many of the bytes that waited are gone, the first ones, and the rest waits
+-- the first `count` of the bytes that waited are gone, and the rest waits
 pub record Advances (count : ℕ) (before after : Outgo) : Type 0 where
   pub within : count ≤ length before.waiting
   pub gone : after.gone ≡ before.gone ++ take count before.waiting

@@ -1,5 +1,5 @@
--- What is done for one connection in a turn.
-use Rattle.std.specs.Prelude.{◌≡◌, ℕ, Bool, true, false, List, [], Option, None, ◌⊎◌}
+-- The work for one connection in a turn.
+use Rattle.std.specs.Prelude.{◌≡◌, ℕ, Bool, true, false, List, [], Option, None, Some, ◌⊎◌}
 use Rattle.std.specs.declared.time.Instant.{Instant}
 use Rattle.am_reactor.specs.declared.connection.Connection.{Connection}
 use Rattle.am_reactor.specs.declared.fault.Broken.{Broken}
@@ -8,9 +8,13 @@ use Rattle.am_reactor.specs.Deeds.{Deed}
 use Rattle.am_reactor.specs.Reading.{Hears}
 use Rattle.am_reactor.specs.Sending.{SendsOn}
 
--- how far a connection has come, and why it is broken off
+-- the report of how far a connection has come, and why it is broken off
 abbrev pub broken_at : {T C : Type 0} → Connection T C → Failure → Broken
 broken_at connection why = record { read = connection.read; written = connection.written; why = why }
+
+-- a reply of a session waits for a moment
+abbrev pub IsDeferred : {T : Type 0} → (T → Option Instant → Type 0) → T → Type 0
+IsDeferred due session = (moment : Instant) × due session (Some moment)
 
 -- Nothing is left to be done for a session: no more is read, nothing waits to be done, for a commit or for its moment, and all is
 -- written.
@@ -23,7 +27,7 @@ pub record IsDone {T : Type 0} (over : T → Type 0) (pending : T → List ℕ) 
   pub written : pending session ≡ []
 
 module _ {S T C : Type 0} (does : S → T → Deed → S → T → Type 0) (pending : T → List ℕ) (coming gone : C → Option (List ℕ)) where
-  -- Bytes that wait in the session of a connection went out over its own stream, and nothing is read.
+  -- The first bytes that wait in the session of a connection went out over its own stream, and nothing is read.
   pub record Tells (service : S) (connection : Connection T C) (service' : S) (connection' : Connection T C) : Type 0 where
     pub sent : SendsOn does pending service connection.session service' connection'.session (gone connection.stream) (gone connection'.stream)
         connection.written connection'.written
@@ -32,7 +36,7 @@ module _ {S T C : Type 0} (does : S → T → Deed → S → T → Type 0) (pend
     pub ended : connection'.ended ≡ connection.ended
     pub phase : connection'.phase ≡ connection.phase
 
-  -- what came of a connection is told, and then what waits goes out
+  -- what came over a connection is told, and then what waits goes out
   pub record Exchanges (room : ℕ) (service : S) (connection : Connection T C) (service' : S) (connection' : Connection T C) : Type 0 where
     pub mid : S
     pub at : Connection T C

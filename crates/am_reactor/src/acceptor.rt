@@ -1,4 +1,4 @@
-//! Where connections come in.
+//! The place where connections come in.
 
 use crate::entrance::{Entrance, Entrances};
 use crate::source::Source;
@@ -8,45 +8,45 @@ use std::io::{self, ErrorKind};
 use std::net;
 use std::time::{Duration, Instant};
 
-/// For how many seconds none is accepted where the system has no descriptor or no memory for one.
+/// The number of seconds for which none is accepted after the system had no descriptor or no memory for one.
 const PAUSE: u64 = 1;
 
 /// The numbers of the system's errors that say so: ENOMEM, ENFILE, EMFILE and ENOBUFS.
 const SCARCE: [i32; 4] = [12, 23, 24, 105];
 
-/// Where connections come in.
+/// The listeners of a loop, and what is known of them.
 #[derive(Drop)]
 pub struct Acceptor {
     main: TcpListener,
-    /// The listener for peers alone, where there is one.
+    /// The listener for peers alone, if there is one.
     peers: Option<TcpListener>,
-    /// Which one is asked first next.
+    /// The listener that is asked first next.
     next: Entrance,
-    /// How many more are accepted.
+    /// The number of connections that are still accepted.
     left: u64,
-    /// Whether some may wait in the listener's queue.
+    /// True if connections may wait in a listener's queue.
     is_knocked: bool,
-    /// Until when none is accepted.
+    /// The time until which none is accepted.
     pause: Option<Instant>,
 }
 
-/// What an accept answered.
+/// The result of an accept.
 #[derive(Drop)]
 pub enum Answer {
     Came(TcpStream, Entrance),
-    /// None waits; an event tells of the next.
+    /// No connection waits; an event tells of the next.
     Nobody,
-    /// One wasn't accepted, which says nothing against the listener.
+    /// A connection wasn't accepted, for a reason that says nothing against the listener.
     Missed(ErrorKind),
     Failed(io::Error),
 }
 
 impl Acceptor {
-    /// The door of listeners, for so many connections.
+    /// Returns an acceptor at listeners, for `left` connections.
     ///
     /// # Errors
     ///
-    /// What the system says.
+    /// The system's error.
     pub fn new(registry: &Registry, entrances: Entrances, left: u64) -> io::Result<Acceptor> {
         let Entrances { main, peers } = entrances;
         let main = watched(registry, main)?;
@@ -64,7 +64,7 @@ impl Acceptor {
         })
     }
 
-    /// The system tells of nobody any more who comes.
+    /// Stops the system from telling of those who come.
     pub fn leave(&mut self, registry: &Registry) {
         let _ = registry.deregister(&mut self.main);
         if let Some(peers) = &mut self.peers {
@@ -72,12 +72,12 @@ impl Acceptor {
         }
     }
 
-    /// Some may wait in the listener's queue.
+    /// Notes that connections may wait in a listener's queue.
     pub fn set_readable(&mut self) {
         self.is_knocked = true;
     }
 
-    /// None is accepted any more.
+    /// Stops accepting connections.
     pub fn close(&mut self) {
         self.left = 0;
     }
@@ -86,7 +86,7 @@ impl Acceptor {
         self.left == 0
     }
 
-    /// When one may be accepted next, as far as is known.
+    /// Returns when a connection may be accepted next, as far as is known.
     pub fn opens_at(&self, now: Instant) -> Option<Instant> {
         if self.left == 0 || !self.is_knocked {
             return None;
@@ -94,7 +94,7 @@ impl Acceptor {
         Some(self.pause.unwrap_or(now))
     }
 
-    /// Accepts one, if one waits.
+    /// Accepts a connection if one waits.
     pub fn accept(&mut self, now: Instant) -> Answer {
         self.pause = None;
         match self.accept_by_turns() {
@@ -106,7 +106,7 @@ impl Acceptor {
         }
     }
 
-    /// Accepts one, if one waits: each listener is asked first in its turn.
+    /// Accepts a connection if one waits; the listeners take turns at being asked first.
     fn accept_by_turns(&mut self) -> io::Result<(TcpStream, Entrance)> {
         let first = self.next;
         self.next = first.other();
@@ -116,7 +116,7 @@ impl Acceptor {
         }
     }
 
-    /// Accepts one at a listener.
+    /// Accepts a connection at a listener.
     fn accept_at(&self, entrance: Entrance) -> io::Result<(TcpStream, Entrance)> {
         let (stream, _) = match (entrance, &self.peers) {
             (Entrance::Main, _) => self.main.accept()?,
@@ -126,7 +126,7 @@ impl Acceptor {
         Ok((stream, entrance))
     }
 
-    /// What an error of an accept says.
+    /// Converts an error of an accept to an answer, and notes what follows from it.
     fn refused(&mut self, error: io::Error, now: Instant) -> Answer {
         let kind = error.kind();
         if kind == ErrorKind::WouldBlock {
@@ -144,7 +144,7 @@ impl Acceptor {
     }
 }
 
-/// A listener of which the system tells who comes.
+/// Returns a listener of which the system tells who comes.
 fn watched(registry: &Registry, listener: net::TcpListener) -> io::Result<TcpListener> {
     listener.set_nonblocking(true)?;
     let mut listener = TcpListener::from_std(listener);
@@ -152,7 +152,7 @@ fn watched(registry: &Registry, listener: net::TcpListener) -> io::Result<TcpLis
     Ok(listener)
 }
 
-/// Whether a connection that isn't accepted so says nothing against the listener.
+/// Returns whether an error of an accept says nothing against the listener.
 fn is_of_client(kind: ErrorKind) -> bool {
     matches!(
         kind,
@@ -166,7 +166,7 @@ fn is_of_client(kind: ErrorKind) -> bool {
     )
 }
 
-/// Whether an error says that the system has no descriptor or no memory for a connection now.
+/// Returns whether an error says that the system has no descriptor or no memory for a connection now.
 fn is_scarce(error: &io::Error) -> bool {
     match error.raw_os_error() {
         Some(number) => SCARCE.contains(&number),

@@ -2,16 +2,16 @@
 
 use std::net::TcpListener;
 
-/// By which listener a connection came.
+/// The listener at which a connection came in.
 #[derive(Clone, Copy)]
 pub enum Entrance {
     Main,
-    /// The one that is there for peers alone.
+    /// The listener for peers alone.
     Peers,
 }
 
 impl Entrance {
-    /// The other one.
+    /// Returns the other entrance.
     pub fn other(self) -> Entrance {
         match self {
             Entrance::Main => Entrance::Peers,
@@ -24,6 +24,6 @@ impl Entrance {
 #[derive(Drop)]
 pub struct Entrances {
     pub main: TcpListener,
-    /// One for peers alone, where there is one.
+    /// The listener for peers alone, if there is one.
     pub peers: Option<TcpListener>,
 }

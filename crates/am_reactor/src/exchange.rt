@@ -1,4 +1,4 @@
-//! A connection over which a peer is asked, and answers.
+//! A connection over which a peer is asked and answers.
 
 ghost use Rattle.std.specs.Prelude.{◌≡◌, ◌<◌, ◌≤◌, [], length, Ok, IfOk, OnErr, OnOk};
 ghost use Rattle.std.specs.Io.KnownBytes.{IsAtEnd};
@@ -15,12 +15,12 @@ use std::alloc::Global;
 use std::net::{Net, SocketAddr};
 use std::time::Instant;
 
-/// A connection to a peer, what is asked over it, and what came back.
+/// A connection to a peer, the question that goes over it, and the bytes that came back.
 pub struct Exchange<C> {
     pub stream: C,
     buffer: SendBuffer,
     answer: Vec<u8>,
-    /// When its time is over.
+    /// The end of the exchange's time.
     pub end: Instant,
     is_connected: bool,
 }
@@ -39,7 +39,7 @@ impl<C: Drop> Drop for Exchange<C> {
 }
 
 impl Exchange<TcpStream> {
-    /// Begins to connect to an address, to ask this.
+    /// Begins to connect to an address, to send it a question.
     ///
     /// # Errors
     ///
@@ -68,11 +68,11 @@ impl Exchange<TcpStream> {
 }
 
 impl<C: Stream + Drop> Exchange<C> {
-    /// Whether the connection stands.
+    /// Returns whether the connection stands.
     ///
     /// # Errors
     ///
-    /// [`LinkFault::Connect`] where it was refused.
+    /// [`LinkFault::Connect`] if it was refused.
     fn connected(&mut self) -> Result<bool, LinkFault>
         ensures buffer { self.new.buffer ≡ self.old.buffer }
         ensures answer { self.new.answer ≡ self.old.answer }
@@ -82,8 +82,8 @@ impl<C: Stream + Drop> Exchange<C> {
         Ok(self.is_connected)
     }
 
-    /// Writes what is still to be asked; once all is, reads what comes back, which is at most `most` bytes. It is done once the
-    /// peer has ended its stream.
+    /// Writes the rest of the question; once all of it is written, reads what comes back, which has at most `most` bytes. The
+    /// exchange is done once the peer has ended its stream.
     ///
     /// # Errors
     ///
@@ -104,14 +104,14 @@ impl<C: Stream + Drop> Exchange<C> {
         }
     }
 
-    /// How many bytes went out.
+    /// Returns the number of bytes that went out.
     pub fn written(&self) -> u64
         ensures { result ≡ length self.now.buffer.gone }
     {
         self.buffer.written() as u64
     }
 
-    /// What came back.
+    /// Returns the bytes that came back.
     pub fn into_answer(self) -> Vec<u8>
         ensures { result ≡ self.answer }
     {

@@ -23,12 +23,12 @@ use std::time::Instant;
 /// The exchanges with the peers, one at a time with each.
 pub struct Exchanges<C> {
     alloc: Global,
-    /// At which address each peer is asked, where there is one.
+    /// The address at which each peer is asked, if there is one.
     addresses: Vec<Option<SocketAddr>>,
     open: Vec<Option<Exchange<C>>>,
-    /// The most bytes that come back over one.
+    /// The maximum number of bytes that come back over one exchange.
     most: usize,
-    /// The peers of those that are open.
+    /// The peers with which an exchange is open.
     queues: PeerQueues,
 }
 
@@ -46,7 +46,7 @@ impl<C: Drop> Drop for Exchanges<C> {
 }
 
 impl<C: Stream + Drop> Exchanges<C> {
-    /// No exchange, with peers at these addresses.
+    /// Returns a table without exchanges, for peers at these addresses.
     pub fn new(
         alloc: Global,
         addresses: &[Option<SocketAddr>],
@@ -68,17 +68,17 @@ impl<C: Stream + Drop> Exchanges<C> {
         })
     }
 
-    /// Whether no exchange is under way.
+    /// Returns whether no exchange is under way.
     pub fn is_empty(&self) -> bool {
         self.queues.by_end.is_empty()
     }
 
-    /// Whether there is more to do at once.
+    /// Returns whether there is more to do at once.
     pub fn is_busy(&self) -> bool {
         !self.queues.busy.is_empty()
     }
 
-    /// When the next time of an exchange is over.
+    /// Returns when the time of the next exchange is over.
     pub fn next_end(&self) -> Option<Instant> {
         let peer = self.queues.by_end.first()?;
         match self.open.get(peer) {
@@ -87,7 +87,7 @@ impl<C: Stream + Drop> Exchanges<C> {
         }
     }
 
-    /// A peer with which the time of the exchange is over by now.
+    /// Returns a peer whose exchange's time is over by now.
     fn overdue(&self, now: Instant) -> Option<usize> {
         match self.next_end() {
             Some(end) if end <= now => self.queues.by_end.first(),
@@ -95,7 +95,7 @@ impl<C: Stream + Drop> Exchanges<C> {
         }
     }
 
-    /// Whether an exchange with a peer is under way.
+    /// Returns whether an exchange with a peer is under way.
     fn is_open(&self, peer: usize) -> bool
         ensures open { IsTrue result → IsSome (exchange_with self.now peer) }
         ensures none { result ≡ false → exchange_with self.now peer ≡ None }
@@ -106,11 +106,11 @@ impl<C: Stream + Drop> Exchanges<C> {
         }
     }
 
-    /// Has the exchange with a peer go on as far as it can now.
+    /// Advances the exchange with a peer as far as it can go now.
     ///
     /// # Errors
     ///
-    /// Why it ends.
+    /// The fault with which the exchange ends.
     fn advance(&mut self, peer: usize, piece: &mut [u8]) -> Result<Progress, LinkFault>
         requires { IsSome (exchange_with self.old peer) }
         ensures open { IsSome (exchange_with self.new peer) }
@@ -127,7 +127,7 @@ impl<C: Stream + Drop> Exchanges<C> {
         }
     }
 
-    /// Closes the exchange with a peer, and gives it.
+    /// Closes the exchange with a peer, and returns it.
     fn close(&mut self, peer: usize) -> Option<Exchange<C>>
         ensures given { result ≡ exchange_with self.old peer }
         ensures closed { exchange_with self.new peer ≡ None }
@@ -142,12 +142,12 @@ impl<C: Stream + Drop> Exchanges<C> {
 }
 
 impl Exchanges<TcpStream> {
-    /// Begins to ask a peer, whose time is over then.
+    /// Begins an exchange with a peer, whose time is over at `end`.
     ///
     /// # Errors
     ///
-    /// [`LinkFault::Full`] where an exchange with it is under way, which goes on; [`LinkFault::NoPeer`]; and why there is no
-    /// connection.
+    /// [`LinkFault::Full`] if an exchange with it is under way, which goes on; [`LinkFault::NoPeer`]; and the reason if the
+    /// connection can't be made.
     fn begin<R: Net>(
         &mut self,
         rt: &R,
@@ -202,7 +202,7 @@ impl Exchanges<TcpStream> {
     }
 }
 
-/// Asks a peer; its time is over then. Or tells the service why what it asks is lost.
+/// Asks a peer, until its time is over at `end`, or tells the service why the question is lost.
 pub fn ask<S: Service, R: Net>(
     exchanges: &mut Exchanges<TcpStream>,
     service: &mut S,
@@ -251,8 +251,8 @@ fn lose<S: Service, C: Stream + Drop>(
     service.lost(peer, fault);
 }
 
-/// Has the exchange with a peer go on as far as it can now. Tells the service of what came back, once all did, and why it is
-/// lost, where it fails.
+/// Advances the exchange with a peer as far as it can go now. Tells the service what came back, once all of it has, or why the
+/// exchange is lost, if it fails.
 pub fn drive_exchange<S: Service, C: Stream + Drop>(
     exchanges: &mut Exchanges<C>,
     service: &mut S,
@@ -274,7 +274,7 @@ pub fn drive_exchange<S: Service, C: Stream + Drop>(
     }
 }
 
-/// Does more where there is more to do at once.
+/// Advances the exchanges for which there is more to do at once.
 pub fn hear_all<S: Service, C: Stream + Drop>(
     exchanges: &mut Exchanges<C>,
     service: &mut S,
@@ -291,7 +291,7 @@ pub fn hear_all<S: Service, C: Stream + Drop>(
     }
 }
 
-/// Closes the exchange with a peer, whose time is over.
+/// Closes the exchange with a peer whose time is over.
 fn time_out_exchange<S: Service, C: Stream + Drop>(
     exchanges: &mut Exchanges<C>,
     service: &mut S,

@@ -1,4 +1,4 @@
-//! What comes back over an exchange.
+//! The bytes that come back over an exchange.
 
 ghost use Rattle.std.specs.Prelude.{◌≡◌, ◌++◌, ◌<◌, ◌≤◌, Ok, length, IsErrOf, OnErr, OnOk};
 ghost use Rattle.std.specs.Io.KnownBytes.{Consumes, IsAtEnd};
@@ -10,12 +10,12 @@ use crate::reading::{PIECES, ReadResult, read_once};
 use crate::send_buffer::Progress;
 use crate::stream::Stream;
 
-/// Reads once, and adds what came, where that is at most `most` bytes in all.
+/// Reads once, and appends what came if the answer then has at most `most` bytes.
 ///
 /// # Errors
 ///
-/// [`LinkFault::TooLong`] and [`LinkFault::Memory`]; nothing is added then.
-fn read_piece<C: Stream>(
+/// [`LinkFault::TooLong`] and [`LinkFault::Memory`]; nothing is appended then.
+pub fn read_piece<C: Stream>(
     answer: &mut Vec<u8>,
     stream: &mut C,
     piece: &mut [u8],
@@ -40,11 +40,11 @@ fn read_piece<C: Stream>(
     Ok(brought)
 }
 
-/// Reads what came back, and adds it, until nothing more is there, the stream has ended or the reads of this turn are made.
+/// Reads what came back, and appends it, until nothing more is there, the stream has ended or the reads of this turn are used up.
 ///
 /// # Errors
 ///
-/// [`LinkFault::Read`]; [`LinkFault::TooLong`] where more than `most` bytes came; and [`LinkFault::Memory`].
+/// [`LinkFault::Read`]; [`LinkFault::TooLong`] if more than `most` bytes came; and [`LinkFault::Memory`].
 pub fn hear_on<C: Stream>(
     answer: &mut Vec<u8>,
     stream: &mut C,

@@ -1,4 +1,4 @@
-//! How a connection is let go: a stream that is closed with bytes unread would take the reply back.
+//! The end of a connection: a stream that is closed with bytes unread would take the reply back.
 
 ghost use Rattle.std.specs.Prelude.{◌≡◌, ◌≢◌, false, true, IsTrue};
 ghost use Rattle.am_reactor.specs.History.{Throws, line_of};
@@ -8,15 +8,15 @@ use crate::reading::{PIECES, ReadResult, read_once};
 use crate::stream::Stream;
 use std::time::{Duration, Instant};
 
-/// For how many milliseconds a connection that has ended stays open while nothing comes.
+/// The number of milliseconds for which a connection that has ended stays open while nothing comes.
 const QUIET: u64 = 200;
 
-/// Until when nothing may come, from now on.
+/// Returns the end of a quiet time that begins now.
 fn quiet_from(now: Instant) -> Instant {
     now.checked_add(Duration::from_millis(QUIET)).unwrap_or(now)
 }
 
-/// Says that nothing more is written. Answers whether something may still come.
+/// Shuts the connection down for writing. Returns whether something may still come.
 pub fn shutdown_write<T, C: Stream>(connection: &mut Connection<T, C>, now: Instant) -> bool
     ensures session { connection.new.session ≡ connection.old.session }
     ensures unwritten { C.gone connection.new.stream ≡ C.gone connection.old.stream }
@@ -31,7 +31,7 @@ pub fn shutdown_write<T, C: Stream>(connection: &mut Connection<T, C>, now: Inst
     true
 }
 
-/// Throws away what came, and begins the quiet time anew where something did. `None` where nothing more can come.
+/// Throws away what came, and begins the quiet time anew if something did. Returns `None` if nothing more can come.
 pub fn drain<T, C: Stream>(
     connection: &mut Connection<T, C>,
     piece: &mut [u8],

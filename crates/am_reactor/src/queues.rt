@@ -1,29 +1,30 @@
-//! What is to be done for connections and for peers, and in which order.
+//! The queues of what is to be done for connections and for peers.
 
 use crate::queue::Queue;
 use std::alloc::{AllocError, Global};
 
-/// The connections, by their keys.
+/// The queues of connections, by their keys.
 #[derive(Drop)]
 pub struct ConnectionQueues {
-    /// Those whose time counts, in the order in which it is over.
+    /// The connections whose time counts, in the order in which it is over.
     pub by_end: Queue,
-    /// Those that leave, in the order in which their quiet time is over.
+    /// The connections that leave, in the order in which their quiet time is over.
     pub by_quiet: Queue,
-    /// Those for which there is more to do at once.
+    /// The connections for which there is more to do at once.
     pub busy: Queue,
-    /// Those whose session waits, the one that waits longest first.
+    /// The connections whose session waits, the one that waits longest first.
     pub waiting: Queue,
-    /// Those of which a reply waits for the next commit.
+    /// The connections of which a reply waits for the next commit.
     pub held_back: Queue,
-    /// Those of which a reply waits for its moment, in the order in which they began to. Their time doesn't count.
+    /// The connections of which a reply waits for its moment, in the order in which they began to wait. Their time doesn't count.
+    /// Some of them wait for something expensive, too.
     pub deferred: Queue,
-    /// Those whose session waits for nothing, the one on which nothing has moved for longest first.
+    /// The connections whose session waits for nothing, the one on which nothing has moved for longest first.
     pub by_motion: Queue,
 }
 
 impl ConnectionQueues {
-    /// No connection, and room for those with the keys below a number.
+    /// Returns empty queues with room for the keys below a number.
     pub fn new(alloc: Global, keys: u16) -> Result<ConnectionQueues, AllocError> {
         Ok(ConnectionQueues {
             by_end: Queue::new(alloc, keys)?,
@@ -36,7 +37,7 @@ impl ConnectionQueues {
         })
     }
 
-    /// Takes a connection out of all of them.
+    /// Removes a connection from all queues.
     pub fn remove_everywhere(&mut self, key: usize) {
         self.by_end.remove(key);
         self.by_quiet.remove(key);
@@ -48,17 +49,17 @@ impl ConnectionQueues {
     }
 }
 
-/// The peers to which something is open.
+/// The queues of peers to which a link or an exchange is open.
 #[derive(Drop)]
 pub struct PeerQueues {
-    /// All of them, in the order in which the time of what is open is over.
+    /// All of them, in the order in which the time of their link or exchange is over.
     pub by_end: Queue,
-    /// Those for which there is more to do at once.
+    /// The peers for which there is more to do at once.
     pub busy: Queue,
 }
 
 impl PeerQueues {
-    /// No peer, and room for so many.
+    /// Returns empty queues with room for a number of peers.
     pub fn new(alloc: Global, peers: u16) -> Result<PeerQueues, AllocError> {
         Ok(PeerQueues {
             by_end: Queue::new(alloc, peers)?,
@@ -66,7 +67,7 @@ impl PeerQueues {
         })
     }
 
-    /// Takes a peer out of both.
+    /// Removes a peer from both queues.
     pub fn remove_everywhere(&mut self, peer: usize) {
         self.by_end.remove(peer);
         self.busy.remove(peer);

@@ -1,4 +1,4 @@
-//! What comes of a connection.
+//! The bytes that come over a connection.
 
 ghost use Rattle.std.specs.Prelude.{◌≡◌, length, take};
 ghost use Rattle.std.specs.Io.KnownBytes.{Consumes};
@@ -12,17 +12,17 @@ use crate::service::Service;
 use crate::stream::Stream;
 use std::io::ErrorKind;
 
-/// How many pieces of one connection are read in a turn.
+/// The number of pieces that are read of one connection in a turn.
 pub const PIECES: u32 = 16;
 
-/// What one read brought.
+/// The result of one read.
 #[derive(Clone, Copy)]
 pub enum ReadResult {
-    /// So many bytes, at least one.
+    /// This number of bytes came, at least one.
     Bytes(usize),
-    /// The end of the input.
+    /// The input has ended.
     End,
-    /// Nothing yet; an event tells of more.
+    /// Nothing has come yet; an event tells of more.
     Nothing,
     /// A signal came in between.
     Interrupted,
@@ -80,7 +80,7 @@ fn read_piece<S: Service, C: Stream>(
 ///
 /// # Errors
 ///
-/// A read that failed.
+/// The error of a read that failed.
 pub fn read_available<S: Service, C: Stream>(
     connection: &mut Connection<S::Session, C>,
     service: &mut S,

@@ -1,4 +1,4 @@
-//! What goes over a link.
+//! The bytes that go over a link.
 
 ghost use Rattle.std.specs.Prelude.{◌≡◌, ◌↔◌, ◌<◌, [], ◌++◌, ◌⊎◌, length, Ok, IfOk, IfErr, IsErrOf, OnOk, OnErr};
 ghost use Rattle.am_reactor.specs.SendBuffer.{room_in, with_behind, Empties};
@@ -11,11 +11,11 @@ use std::alloc::{AllocError, Global};
 use std::io::ErrorKind;
 use std::marker::Model;
 
-/// What goes over a link: bytes that went out, and those that wait behind them.
+/// The bytes that go over a link: those that went out, and those that wait behind them.
 #[derive(Drop)]
 pub struct SendBuffer {
     bytes: Vec<u8>,
-    /// How many of the bytes went out.
+    /// The number of bytes that went out.
     written: usize,
 }
 
@@ -30,7 +30,7 @@ impl Model for SendBuffer {
     ghost invariant = { λ o. o.written ≤ vec_len o.bytes };
 }
 
-/// How far what goes over a link is.
+/// The progress of what goes over a link.
 #[derive(Clone, Copy)]
 pub enum Progress {
     /// Something is still to be written.
@@ -40,7 +40,7 @@ pub enum Progress {
 }
 
 impl SendBuffer {
-    /// A greeting, and bytes behind it.
+    /// Returns a buffer of a greeting, with bytes behind it.
     pub fn new(alloc: Global, greeting: &[u8], bytes: &[u8]) -> Result<SendBuffer, AllocError>
         ensures gone { IfOk result (λ buffer. buffer.gone ≡ []) }
         ensures greeted { IfOk result (λ buffer. buffer.waiting ≡ greeting.now ++ bytes.now) }
@@ -53,14 +53,19 @@ impl SendBuffer {
         })
     }
 
-    /// How many bytes went out.
+    /// Returns the number of bytes that went out.
     pub fn written(&self) -> usize
         ensures { result ≡ length self.now.gone }
     {
         self.written
     }
 
-    /// Adds bytes behind those that wait, where there are at most so many then, with those that went out.
+    /// Returns whether nothing waits.
+    pub fn is_empty(&self) -> bool {
+        self.written == self.bytes.len()
+    }
+
+    /// Appends bytes behind those that wait, if the buffer then has at most `most` bytes, including those that went out.
     ///
     /// # Errors
     ///
@@ -78,7 +83,7 @@ impl SendBuffer {
         Ok(())
     }
 
-    /// Begins anew with these bytes, where all before went out.
+    /// Begins anew with these bytes, after all before them went out.
     pub fn begin_anew(&mut self, bytes: Vec<u8>)
         requires emptied { self.old.waiting ≡ [] }
         ensures gone { self.new.gone ≡ [] }
@@ -87,7 +92,7 @@ impl SendBuffer {
         *self = SendBuffer { bytes, written: 0 };
     }
 
-    /// Writes once of what waits.
+    /// Writes once of the bytes that wait.
     fn write_once<C: Stream>(&mut self, stream: &mut C) -> WriteResult
         ensures out { Empties (C.gone stream.old) (C.gone stream.new) self.old self.new }
         ensures all { (result ≡ WriteResult.All) ↔ (self.old.waiting ≡ []) }
@@ -100,7 +105,7 @@ impl SendBuffer {
         wrote
     }
 
-    /// Writes what waits, until no more is taken or the writes of this turn are made.
+    /// Writes the bytes that wait, until no more is taken or the writes of this turn are used up.
     ///
     /// # Errors
     ///

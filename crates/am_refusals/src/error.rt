@@ -1,4 +1,4 @@
-//! Why a configuration or a step is refused.
+//! Reasons for refusing a configuration or a step.
 
 ghost use Rattle.std.specs.Prelude.{◌≡◌};
 
@@ -8,16 +8,16 @@ use am_wire::WireError;
 use std::alloc::{AllocError, AllocFailed};
 use thiserror::Error;
 
-/// Why names make no configuration: the first of these that applies, in their order.
+/// The first reason, in this order, for which names make no configuration.
 #[derive(Clone, Copy, Debug, PartialEq, Eq, Error)]
 pub enum ConfigError {
-    /// A member's name has no byte.
+    /// A member's name is empty.
     #[error("EmptyName")]
     EmptyName,
-    /// Over 255 bytes.
+    /// A member's name has more than 255 bytes.
     #[error("LongName")]
     LongName,
-    /// Two members have one name.
+    /// Two members have the same name.
     #[error("SameName")]
     SameName,
     #[error("Memory")]
@@ -44,16 +44,16 @@ impl<T: Drop> From<AllocFailed<T>> for ConfigError {
     }
 }
 
-/// Why a step is refused: the first of these that applies, in their order.
+/// The first reason, in this order, for which a step is refused.
 #[derive(Clone, Copy, Debug, PartialEq, Eq, Error)]
 pub enum StepError {
     /// The moment is before that of the last event.
     #[error("MomentBack {} {}", .last.parts().0, .last.parts().1)]
     MomentBack { last: Moment },
-    /// The event names a place that is no member's, or the own one.
+    /// The event names a place that belongs to no member, or to the member itself.
     #[error("UnknownPeer")]
     UnknownPeer,
-    /// A fault in the rows of a frame, of which none is taken; or the entry of a notification is too large.
+    /// A row of a frame is at fault, and none of them is taken; or the entry of a notification is too large.
     #[error("Frame {0}")]
     Frame(FrameError),
     /// The first `taken` versions of the event were taken, and its moment counts. Nothing is sent.
@@ -71,7 +71,7 @@ impl From<AllocError> for StepError {
     }
 }
 
-/// A fault in a row of a frame.
+/// A fault in a row of a frame is a fault of the step.
 impl From<WireError> for StepError {
     ghost use Rattle.am_refusals.specs.Refusals.{step_fault};
 

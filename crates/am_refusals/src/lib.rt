@@ -1,4 +1,4 @@
-//! Why a configuration or a step is refused, and the places of members.
+//! Reasons for refusing a configuration or a step, and the places of members.
 #![tactic(auto)]
 
 mod error;

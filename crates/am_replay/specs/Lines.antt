@@ -1,4 +1,4 @@
--- What a line of a schedule does to a cluster, and what it prints.
+-- The effect of a line of a schedule on a cluster, and the text that it prints.
 use Rattle.std.specs.Prelude.{◌≡◌, ◌↔◌, ℕ, Bool, List, ◌++◌, length, Some, Result, IsTrue}
 use Rattle.std.specs.List.{flat_map}
 use Rattle.am_instance.specs.declared.reply.Reply.{Reply}
@@ -12,7 +12,7 @@ use Rattle.am_cluster.specs.Steps.{IsStepped}
 use Rattle.am_cluster.specs.Worlds.{World}
 use Rattle.am_replay.specs.Texts.{flight_text, settle_text, step_text, timely_text}
 
--- A step and a settle are made, and memory didn't run out. What is asked of the run so far changes nothing.
+-- A line is played: a step or a settle is made, and memory didn't run out. A question about the run so far changes nothing.
 abbrev pub IsPlayed : World → Line → ℕ → List ℕ → World → Type 0
 IsPlayed old (kinds.Step action) number text new =
     (result : Result Reply ClusterError) × IsStepped old action number result new × (step_text action result ≡ Some text)
@@ -23,7 +23,7 @@ IsPlayed old (kinds.Timely spread flight) number text new =
     × (text ≡ timely_text answer) × (new ≡ old)
 IsPlayed old kinds.Frames number text new = (text ≡ flat_map (flight_text old) old.flights) × (new ≡ old)
 
--- a line was played, and printed behind what stood there before
+-- A line was played, and its text was appended to what was printed before.
 pub record Plays (old : World) (line : Line) (number : ℕ) (new : World) (before after : List ℕ) : Type 0 where
   pub text : List ℕ
   pub played : IsPlayed old line number text new

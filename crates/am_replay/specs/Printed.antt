@@ -15,12 +15,12 @@ use Rattle.am_replay.specs.declared.refusal.Refusal.TheVariants as refusals
 use Rattle.am_replay.specs.declared.line.OutputLine.{OutputLine}
 use Rattle.am_replay.specs.declared.line.OutputLine.TheVariants as lines
 
--- the word of an answer
+-- the word for a yes-or-no answer
 abbrev pub yes_or_no : Bool → List ℕ
 yes_or_no true = codes "yes"
 yes_or_no false = codes "no"
 
--- why a group is notified, or that it isn't
+-- the reason for which a group is notified, or that it isn't
 abbrev pub decision_word : Decision → List ℕ
 decision_word Skip = codes "Skip"
 decision_word (Notify First) = codes "First"
@@ -29,14 +29,14 @@ decision_word (Notify AllResolved) = codes "AllResolved"
 decision_word (Notify NewResolved) = codes "NewResolved"
 decision_word (Notify Repeat) = codes "Repeat"
 
--- a kind of frame by its name
+-- the name of a kind of frame
 abbrev pub kind_word : FrameKind → List ℕ
 kind_word kinds.Delta = codes "Delta"
 kind_word kinds.Push = codes "Push"
 kind_word kinds.Pull = codes "Pull"
 kind_word kinds.Tick = codes "Tick"
 
--- a kind of refusal by its name
+-- the name of a kind of refusal
 abbrev pub refusal_word : Refusal → List ℕ
 refusal_word refusals.NotFound = codes "NotFound"
 refusal_word refusals.NoMatcher = codes "NoMatcher"
@@ -56,7 +56,7 @@ refusal_word refusals.Stopped = codes "Stopped"
 refusal_word refusals.Running = codes "Running"
 refusal_word refusals.NoFrame = codes "NoFrame"
 
--- what is printed in a line
+-- the text of a printed line
 unfoldable pub line_text : OutputLine → List ℕ
 line_text (lines.Posted name id) = word_of name.now ++ codes " posted " ++ word_of id.now
 line_text (lines.Expired name id) = word_of name.now ++ codes " expired " ++ word_of id.now

@@ -4,7 +4,7 @@ use Rattle.am_silence.specs.declared.error.SilenceError.TheVariants as errors
 use Rattle.am_replay.specs.declared.refusal.Refusal.{Refusal}
 use Rattle.am_replay.specs.declared.refusal.Refusal.TheVariants as refusals
 
--- the kind of a refused post or end
+-- the kind of a refusal to post or end a silence
 abbrev pub kind_of : SilenceError → Refusal
 kind_of errors.NotFound = refusals.NotFound
 kind_of errors.NoMatcher = refusals.NoMatcher

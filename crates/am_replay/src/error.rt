@@ -1,4 +1,4 @@
-//! Why a schedule was not played.
+//! The reasons that a schedule was not played.
 
 ghost use Rattle.std.specs.Prelude.{◌≡◌};
 
@@ -6,7 +6,7 @@ use am_schedule::{FaultKind, ScheduleError};
 use std::alloc::AllocError;
 use thiserror::Error;
 
-/// Why a schedule was not played, or its output not written: the first fault that stands.
+/// The reason that a schedule was not played, or its output not written: the first fault that occurs.
 #[derive(Clone, Copy, Debug, Error)]
 pub enum ReplayError {
     #[error("a read failed after {at} bytes")]
@@ -16,8 +16,8 @@ pub enum ReplayError {
     Schedule(ScheduleError),
     #[error("the schedule is too large")]
     TooLarge,
-    /// Memory ran out at this line of the schedule; 0 where it was at none: while the schedule was read, before its
-    /// first line was played, or behind its last.
+    /// Memory ran out at this line of the schedule. The line is 0 if it ran out while the schedule was read, before its first
+    /// line was played, or after its last.
     #[error("out of memory at line {line}")]
     Memory { line: u64 },
     #[error("a write failed after {written} bytes")]

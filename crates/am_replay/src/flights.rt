@@ -10,7 +10,7 @@ use am_cluster::{Cluster, Flight};
 use am_instance::{Config, Place};
 use std::alloc::AllocError;
 
-/// The name that a configuration has for the member at a place, which there is.
+/// Returns a configuration's name for the member at a place, which must exist.
 fn name_in(config: &Config, place: Place) -> &str
     ensures { result.now ≡ unwrap_or (slice_get config.now.members place) [] }
 {
@@ -20,7 +20,7 @@ fn name_in(config: &Config, place: Place) -> &str
     }
 }
 
-/// The name of the member at a place, which there is.
+/// Returns the name of the member at a place, which must exist.
 fn name_at(cluster: &Cluster, place: Place) -> &str
     ensures { result.now ≡ name_at cluster.now place }
 {
@@ -44,7 +44,7 @@ fn tell_flight(out: &mut String, cluster: &Cluster, flight: &Flight) -> Result<(
     tell(out, &line)
 }
 
-/// Appends all frames in flight, by their numbers.
+/// Appends all frames in flight, in the order of their numbers.
 pub fn tell_flights(out: &mut String, cluster: &Cluster) -> Result<(), AllocError>
     ensures { OnOk result (string_bytes out.new ≡ string_bytes out.old ++ flat_map (flight_text cluster.now) cluster.now.flights) }
 {

@@ -9,15 +9,15 @@ use am_streams::{Stop, fill};
 use std::alloc::Global;
 use std::io::Read;
 
-/// The most bytes of a schedule.
+/// The maximum size of a schedule in bytes.
 const MOST_BYTES: usize = 16_777_216;
 
 /// Reads the whole input.
 ///
 /// # Errors
 ///
-/// [`ReplayError::Read`] at the first read that fails, which is not tried again; [`ReplayError::TooLarge`] once byte
-/// 16,777,217 came; [`ReplayError::Memory`] with line 0.
+/// [`ReplayError::Read`] at the first read that fails, which is not tried again; [`ReplayError::TooLarge`] once byte 16,777,217
+/// has come; [`ReplayError::Memory`] with line 0.
 pub fn read_input<R: Read>(alloc: Global, reader: &mut R) -> Result<Vec<u8>, ReplayError>
     ensures all { IfOk result (λ bytes. Consumes (R.remaining reader.old) (R.remaining reader.new) bytes.items) }
     ensures end { OnOk result (IsAtEnd (R.remaining reader.new)) }

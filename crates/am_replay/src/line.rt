@@ -1,4 +1,4 @@
-//! The lines that are printed beside views.
+//! The printed lines other than those of views.
 
 ghost use Rattle.std.specs.Prelude.{◌≡◌, ◌++◌, OnOk, codes, string_bytes};
 ghost use Rattle.am_replay.specs.Printed.{line_text};
@@ -12,7 +12,7 @@ use am_wire::Text;
 use std::alloc::AllocError;
 use std::fmt::{self, Display};
 
-/// A line that a player prints. Members are told by their names.
+/// A line that a player prints. Members are given by their names.
 #[derive(Clone, Copy)]
 pub enum OutputLine<'a> {
     /// A silence was made or updated.
@@ -25,17 +25,17 @@ pub enum OutputLine<'a> {
         name: &'a str,
         id: &'a str,
     },
-    /// Whether the entry of a notification changed the log.
+    /// The entry of a notification was logged, and changed the log or not.
     Logged {
         name: &'a str,
         changed: bool,
     },
-    /// Whether a group is notified.
+    /// The decision whether a group is notified was made.
     Decided {
         name: &'a str,
         decision: Decision,
     },
-    /// Which silences mute a label set, and which are broken.
+    /// The silences that mute a label set, and those that are broken, were found.
     Muted {
         name: &'a str,
         ids: &'a [Text],
@@ -43,7 +43,7 @@ pub enum OutputLine<'a> {
     },
     /// All members agree.
     Settled,
-    /// Whether the run is timely so far.
+    /// The run is timely so far, or not.
     Timely {
         is_timely: bool,
     },
@@ -54,7 +54,7 @@ pub enum OutputLine<'a> {
         addressee: &'a str,
         kind: FrameKind,
     },
-    /// A step was refused, of a member or of none.
+    /// A step was refused, by a member or by none.
     Refused {
         name: Option<&'a str>,
         refusal: Refusal,
@@ -63,7 +63,7 @@ pub enum OutputLine<'a> {
     Calm {
         name: &'a str,
     },
-    /// They were not, from the step of this line on.
+    /// A member's events were calm only before the step of this line.
     Uncalm {
         name: &'a str,
         line: u64,
@@ -110,7 +110,7 @@ impl Display for OutputLine<'_> {
     }
 }
 
-/// A text as a word.
+/// Returns a text as a word.
 fn word(text: &str) -> Word<'_>
     ensures { result.0.now ≡ text.now }
 {
@@ -121,7 +121,7 @@ fn word(text: &str) -> Word<'_>
 ///
 /// # Errors
 ///
-/// [`AllocError`] where memory runs out.
+/// [`AllocError`] if memory runs out.
 pub fn append_line(out: &mut String, line: &OutputLine<'_>) -> Result<(), AllocError>
     ensures appended { OnOk result (string_bytes out.new ≡ string_bytes out.old ++ line_text line.now ++ codes "\n") }
 {

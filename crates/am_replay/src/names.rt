@@ -1,4 +1,4 @@
-//! How answers are named in a line.
+//! The names of answers in a line.
 
 ghost use Rattle.std.specs.Prelude.{◌≡◌};
 ghost use Rattle.am_replay.specs.Printed.{decision_word, kind_word, refusal_word, yes_or_no};
@@ -13,7 +13,7 @@ pub fn yes_or_no(answer: bool) -> &'static str
     if answer { "yes" } else { "no" }
 }
 
-/// Why a group is notified, or that it isn't.
+/// Returns the reason for which a group is notified, or that it isn't.
 pub fn decision_name(decision: Decision) -> &'static str
     ensures { result.now ≡ decision_word decision }
 {
@@ -38,7 +38,7 @@ pub fn kind_name(kind: FrameKind) -> &'static str
     }
 }
 
-/// The name of a kind of refusal.
+/// Returns the name of a kind of refusal.
 pub fn refusal_name(refusal: Refusal) -> &'static str
     ensures { result.now ≡ refusal_word refusal }
 {

@@ -1,4 +1,4 @@
-//! Who looks on while a schedule is played.
+//! Onlookers, which watch while a schedule is played.
 
 use crate::refusal::Refusal;
 use am_cluster::Cluster;
@@ -7,10 +7,10 @@ use am_instance::Reply;
 use am_schedule::Line;
 use std::alloc::AllocError;
 
-/// What came of a line, in a word.
+/// The outcome of a line, as a word.
 #[derive(Clone, Copy)]
 pub enum Answer {
-    /// Nothing that a word tells.
+    /// No word says what came of the line.
     Nothing,
     /// Whether a notification changed the log, a silence mutes, or the run is timely.
     Is(bool),
@@ -30,16 +30,17 @@ impl Answer {
     }
 }
 
-/// Looks on while a schedule is played. What is played and printed doesn't depend on it, but that want of memory ends both.
+/// An onlooker that watches while a schedule is played. It has no influence on what is played and printed, except that both end
+/// if it runs out of memory.
 pub trait Onlooker {
-    /// So many of so many lines are played.
+    /// Notes that `lines` of all lines are played.
     fn is_at(&mut self, lines: usize, all: usize);
 
-    /// The line of this number was played. The cluster is as it is then.
+    /// Notes that the line of this number was played, which left the cluster as it is given.
     ///
     /// # Errors
     ///
-    /// [`AllocError`] where memory runs out.
+    /// [`AllocError`] if memory runs out.
     fn saw(
         &mut self,
         _cluster: &Cluster,
@@ -50,17 +51,17 @@ pub trait Onlooker {
         Ok(())
     }
 
-    /// All lines were played. The cluster is as it is then.
+    /// Notes that all lines were played, which left the cluster as it is given.
     ///
     /// # Errors
     ///
-    /// [`AllocError`] where memory runs out.
+    /// [`AllocError`] if memory runs out.
     fn saw_end(&mut self, _cluster: &Cluster) -> Result<(), AllocError> {
         Ok(())
     }
 }
 
-/// Nobody looks on.
+/// An onlooker that ignores everything.
 #[derive(Clone, Copy)]
 pub struct Nobody;
 

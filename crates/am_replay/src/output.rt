@@ -16,8 +16,8 @@ pub fn tell(out: &mut String, line: &OutputLine<'_>) -> Result<(), AllocError>
     append_line(out, line)
 }
 
-/// Appends that a step was refused, of a member or of none, and gives that. Want of memory, which is no kind of refusal, stays
-/// one.
+/// Appends that a step was refused, by a member or by none, and returns that as the answer. If memory ran out, which is no kind
+/// of refusal, an error is returned.
 #[tactic(auto, unfolding(crate::specs::Printed::line_text))]
 pub fn tell_refusal(
     out: &mut String,

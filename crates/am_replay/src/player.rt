@@ -24,7 +24,7 @@ use am_version_order::Moment;
 use am_wire::Text;
 use std::alloc::{AllocError, Global};
 
-/// Makes a step, and appends what it prints. Gives what came of it, as do the next ones.
+/// Makes a step, appends what it prints, and returns its outcome. So do the functions below.
 fn play_step(
     cluster: &mut Cluster,
     step: &Step,
@@ -42,7 +42,7 @@ fn play_step(
     }
 }
 
-/// The kind of a settle's refusal, which want of memory is none.
+/// Returns the kind of a settle's refusal, or `None` if memory ran out.
 fn refusal_of(error: SettleError) -> Option<Refusal>
     ensures { result ≡ settle_refusal error }
 {
@@ -57,7 +57,7 @@ fn refusal_of(error: SettleError) -> Option<Refusal>
 ///
 /// # Errors
 ///
-/// [`AllocError`] also where it was refused for want of memory.
+/// [`AllocError`], also if the settle was refused because memory ran out.
 fn tell_settled(out: &mut String, settled: Result<(), SettleError>) -> Result<Answer, AllocError>
     ensures { OnOk result (Prints (settle_text settled) (string_bytes out.old) (string_bytes out.new)) }
 {
@@ -107,7 +107,7 @@ fn play_line(
     }
 }
 
-/// Plays a line, appends what it prints, and shows it to who looks on.
+/// Plays a line, appends what it prints, and shows it to the onlooker.
 fn show_line<O: Onlooker>(
     cluster: &mut Cluster,
     line: &Line,
@@ -145,7 +145,7 @@ fn play_lines<O: Onlooker>(
     Ok(())
 }
 
-/// Copies of words, as texts.
+/// Copies words as texts.
 fn texts(alloc: Global, words: &[Word]) -> Result<Vec<Text>, AllocError>
     ensures { IfOk result (λ texts. texts.items ≡ words.now) }
 {
@@ -156,23 +156,23 @@ fn texts(alloc: Global, words: &[Word]) -> Result<Vec<Text>, AllocError>
     Ok(texts)
 }
 
-/// The cluster of a schedule, before its first line.
+/// Returns the cluster of a schedule, before its first line.
 fn newborn(alloc: Global, schedule: &Schedule) -> Result<Cluster, AllocError>
     ensures { IfOk result (AreNewborn schedule.now.names schedule.now.retention schedule.now.peer_timeout) }
 {
     let names = texts(alloc, schedule.names.as_slice())?;
     match Cluster::new(alloc, names, schedule.retention, schedule.peer_timeout) {
         Ok(cluster) => Ok(cluster),
-        // The names of a schedule that was read are distinct and have 1 to 255 bytes, so it is for want of memory.
+        // The names of a schedule that was read are distinct and have 1 to 255 bytes, so only memory can have run out.
         Err(_) => Err(AllocError),
     }
 }
 
-/// Plays a schedule: all that it prints.
+/// Plays a schedule, and returns everything that it prints.
 ///
 /// # Errors
 ///
-/// [`ReplayError::Memory`] with the line at which memory ran out, or 0 before the first line and behind the last.
+/// [`ReplayError::Memory`] with the line at which memory ran out, or 0 before the first line and after the last.
 pub fn play<O: Onlooker>(
     alloc: Global,
     schedule: &Schedule,

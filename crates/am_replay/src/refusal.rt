@@ -1,4 +1,4 @@
-//! Why a step of a schedule was refused.
+//! The reasons that a step of a schedule is refused.
 
 use am_silence::SilenceError;
 

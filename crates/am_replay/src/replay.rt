@@ -12,12 +12,12 @@ use am_streams::send;
 use std::alloc::Global;
 use std::io::{Read, Write};
 
-/// Reads a schedule of at most 16,777,216 bytes, plays it, and then writes all that it prints.
+/// Reads a schedule of at most 16,777,216 bytes, plays it, and then writes everything that it prints.
 ///
 /// # Errors
 ///
-/// The first [`ReplayError`] that stands. Where it is [`ReplayError::Write`], a write failed or took nothing: exactly the
-/// first `written` bytes of the output went out, and it is not tried again. Nothing is written at any other.
+/// The first [`ReplayError`] that occurs. If it is [`ReplayError::Write`], a write failed or took nothing: exactly the first
+/// `written` bytes of the output went out, and the write is not tried again. With any other error nothing is written.
 pub fn run<R: Read, W: Write>(
     alloc: Global,
     reader: &mut R,
@@ -30,7 +30,7 @@ pub fn run<R: Read, W: Write>(
     run_shown(alloc, reader, writer, &mut Nobody)
 }
 
-/// Does as [`run`] does, while somebody looks on.
+/// Does as [`run`] does while an onlooker watches.
 ///
 /// # Errors
 ///

@@ -1,4 +1,4 @@
-//! What a step prints.
+//! The lines that a step prints.
 
 ghost use Rattle.std.specs.Prelude.{◌≡◌, ◌++◌, OnOk, string_bytes};
 ghost use Rattle.std.specs.Option.{option_copied};
@@ -16,7 +16,7 @@ use am_report::append_shown;
 use am_schedule::{Action, LineEvent};
 use std::alloc::AllocError;
 
-/// Appends that the silence was ended whose end the event asks for.
+/// Appends that the silence whose end an event asks for was ended.
 #[tactic(auto, unfolding(crate::specs::Printed::line_text))]
 fn tell_ended(out: &mut String, name: &str, event: &LineEvent) -> Result<(), AllocError>
     ensures { OnOk result (string_bytes out.new ≡ string_bytes out.old ++ ended_text name.now event.now) }
@@ -33,7 +33,7 @@ fn tell_ended(out: &mut String, name: &str, event: &LineEvent) -> Result<(), All
     }
 }
 
-/// Appends which silences mute a label set.
+/// Appends the silences that mute a label set, and those that are broken.
 #[tactic(auto, unfolding(crate::specs::Printed::line_text))]
 fn tell_mutes(out: &mut String, name: &str, mutes: &Mutes) -> Result<(), AllocError>
     ensures { OnOk result (string_bytes out.new ≡ string_bytes out.old ++ muted_text name.now mutes.now) }
@@ -46,7 +46,7 @@ fn tell_mutes(out: &mut String, name: &str, mutes: &Mutes) -> Result<(), AllocEr
     tell(out, &line)
 }
 
-/// Appends what is printed of the reply of the member of a name to an event.
+/// Appends what is printed for the reply of the member of a name to an event.
 #[tactic(auto, unfolding(crate::specs::Printed::line_text))]
 fn tell_reply(
     out: &mut String,
@@ -92,7 +92,7 @@ fn tell_reply(
     }
 }
 
-/// Appends what is printed of a step that was answered.
+/// Appends what is printed for a step that was answered.
 pub fn tell_answer(out: &mut String, action: &Action, reply: &Reply) -> Result<(), AllocError>
     ensures { OnOk result (string_bytes out.new ≡ string_bytes out.old ++ answer_text action.now reply.now) }
 {
@@ -103,7 +103,7 @@ pub fn tell_answer(out: &mut String, action: &Action, reply: &Reply) -> Result<(
     }
 }
 
-/// The member that a step names.
+/// Returns the name of the member that a step names.
 fn owner_of(action: &Action) -> Option<&str>
     ensures { option_copied result ≡ owner_of action.now }
 {
@@ -115,7 +115,7 @@ fn owner_of(action: &Action) -> Option<&str>
     }
 }
 
-/// The kind of a refusal, which want of memory is none.
+/// Returns the kind of a refusal, or `None` if memory ran out.
 fn refusal_of(error: ClusterError) -> Option<Refusal>
     ensures { result ≡ step_refusal error }
 {
@@ -129,11 +129,11 @@ fn refusal_of(error: ClusterError) -> Option<Refusal>
     }
 }
 
-/// Appends that a step was refused, and gives that.
+/// Appends that a step was refused, and returns that as the answer.
 ///
 /// # Errors
 ///
-/// [`AllocError`] also where it was refused for want of memory.
+/// [`AllocError`], also if the step was refused because memory ran out.
 pub fn tell_refused(
     out: &mut String,
     action: &Action,

@@ -178,20 +178,20 @@ module _ {K X C : Type 0} (seen : X → Version K) (cmp : K → K → Ordering) 
 
 -- ---- the lines
 
-module _ {K X : Type 0} (seen : X → Version K) (cmp : K → K → Ordering) (compared : Compared) (now : ℕ) (begins : K → List ℕ) (told : X → List ℕ) (more : X → X → List ℕ) where
-  pub all_lines : (all : List (Side X)) (start text : List ℕ) (found : Bool) → AreAllTold seen cmp compared now (difference_lines seen begins told more) all start text found
-      → (lines : List ℕ) × AreLines seen cmp begins told more compared now (map rest_of all) found lines × (text ≡ start ++ lines)
+module _ {K X : Type 0} (seen : X → Version K) (cmp : K → K → Ordering) (compared : Compared) (now : ℕ) (begins : K → List ℕ) (told : X → List ℕ) (more by : X → X → List ℕ) where
+  pub all_lines : (all : List (Side X)) (start text : List ℕ) (found : Bool) → AreAllTold seen cmp compared now (difference_lines seen begins told more by) all start text found
+      → (lines : List ℕ) × AreLines seen cmp begins told more by compared now (map rest_of all) found lines × (text ≡ start ++ lines)
   all_lines all start text found are = (
-    flat_map (difference_lines seen begins told more) are.differences,
+    flat_map (difference_lines seen begins told more by) are.differences,
     record { differences = are.differences; all = are.are; any = are.any; text = refl },
     are.text_is,
   )
 
   pub one_text : IsKeyOrder cmp → (sources : List (Source X)) (found other_found : Bool) (lines others : List ℕ)
-      → AreLines seen cmp begins told more compared now sources found lines → AreLines seen cmp begins told more compared now sources other_found others
+      → AreLines seen cmp begins told more by compared now sources found lines → AreLines seen cmp begins told more by compared now sources other_found others
       → (found ≡ other_found) × (lines ≡ others)
   one_text keys sources found other_found lines others are also =
       let same = one_list seen cmp keys compared now sources are.differences also.differences are.all also.all in (
         are.any ∙ ap is_any same ∙ sym also.any,
-        are.text ∙ ap (λ ds. flat_map (difference_lines seen begins told more) ds) same ∙ sym also.text,
+        are.text ∙ ap (λ ds. flat_map (difference_lines seen begins told more by) ds) same ∙ sym also.text,
       )

@@ -90,29 +90,29 @@ module _ {K X : Type 0} (seen : X → Version K) where
 
   -- ---- the whole difference
 
-  module _ (begins : K → List ℕ) (told : X → List ℕ) (more : X → X → List ℕ) (holdings : List (Holding X)) (greatest : X) where
+  module _ (begins : K → List ℕ) (told : X → List ℕ) (more by : X → X → List ℕ) (holdings : List (Holding X)) (greatest : X) where
     lines_by : (key : K) (versions : List X) → versions ≡ greatest ∷ drop 1 versions
-        → version_lines seen begins told more key holdings versions
-        ≡ greatest_line seen begins told more key holdings greatest ++ flat_map (behind_line seen begins told more key holdings greatest) (drop 1 versions)
-    lines_by key versions is = ap (version_lines seen begins told more key holdings) is
+        → version_lines seen begins told more by key holdings versions
+        ≡ greatest_line seen begins told more key holdings greatest ++ flat_map (behind_line seen begins told more by key holdings greatest) (drop 1 versions)
+    lines_by key versions is = ap (version_lines seen begins told more by key holdings) is
 
     pub difference_is : (start first second third : List ℕ) → Some greatest ≡ greatest_within seen None holdings
         → first ≡ start ++ greatest_line seen begins told more (seen greatest).key holdings greatest
-        → second ≡ first ++ flat_map (behind_line seen begins told more (seen greatest).key holdings greatest) (drop 1 (ranked seen holdings))
+        → second ≡ first ++ flat_map (behind_line seen begins told more by (seen greatest).key holdings greatest) (drop 1 (ranked seen holdings))
         → third ≡ second ++ missing_line seen begins (seen greatest).key holdings
-        → (key : K) → IsKeyOf seen holdings key → third ≡ start ++ difference_lines seen begins told more (record { key = key; holdings = holdings })
+        → (key : K) → IsKeyOf seen holdings key → third ≡ start ++ difference_lines seen begins told more by (record { key = key; holdings = holdings })
     unfolding difference_lines
     difference_is start first second third is one others missing key own =
         let same : own.greatest ≡ greatest = (let both : Some own.greatest ≡ Some greatest = sym own.held ∙ sym is in cc) in
         let key_is : (seen greatest).key ≡ key = ap (λ v. (seen v).key) (sym same) ∙ own.own in
         let head = greatest_line seen begins told more (seen greatest).key holdings greatest in
-        let tail = flat_map (behind_line seen begins told more (seen greatest).key holdings greatest) (drop 1 (ranked seen holdings)) in
+        let tail = flat_map (behind_line seen begins told more by (seen greatest).key holdings greatest) (drop 1 (ranked seen holdings)) in
         let last = missing_line seen begins (seen greatest).key holdings in
         missing
         ∙ ap (λ text. text ++ last) (others ∙ ap (λ text. text ++ tail) one ∙ append_assoc start head tail)
         ∙ append_assoc start (head ++ tail) last
         ∙ ap (λ text. start ++ (text ++ last)) (sym (lines_by (seen greatest).key (ranked seen holdings) (greatest_is_first holdings greatest (sym is))))
-        ∙ ap (λ k. start ++ (version_lines seen begins told more k holdings (ranked seen holdings) ++ missing_line seen begins k holdings)) key_is
+        ∙ ap (λ k. start ++ (version_lines seen begins told more by k holdings (ranked seen holdings) ++ missing_line seen begins k holdings)) key_is
 
   pub nothing_held : (holdings : List (Holding X)) (key : K) → None ≡ greatest_within seen None holdings → IsKeyOf seen holdings key → ⊥
   nothing_held holdings key none own = let never : None ≡ Some own.greatest = none ∙ own.held in cc

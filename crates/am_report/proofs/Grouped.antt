@@ -18,23 +18,23 @@ use Rattle.am_silence_json.proofs.Bodies.{chain}
 use Rattle.am_report.specs.Json.Groups.{behind_data, greatest_data, groups_data, missing_data, missing_group, sources_data, version_groups}
 
 module _ {K X : Type 0} (seen : X → Version K) (holdings : List (Holding X)) (greatest : X) where
-  module _ (name : List ℕ) (value : X → Data) where
+  module _ (name : List ℕ) (value : X → Data) (by : X → X → List ℕ) where
     abbrev others : List Data
-    others = map (behind_data seen name value holdings greatest) (drop 1 (ranked seen holdings))
+    others = map (behind_data seen name value by holdings greatest) (drop 1 (ranked seen holdings))
 
     groups_are : greatest_within seen None holdings ≡ Some greatest
         → data_tokens (greatest_data seen name value holdings greatest) ++ (row_tokens others ++ row_tokens (missing_group seen holdings))
-        ≡ row_tokens (groups_data seen name value holdings)
+        ≡ row_tokens (groups_data seen name value by holdings)
     groups_are is =
         let first = data_tokens (greatest_data seen name value holdings greatest) in
         let last = row_tokens (missing_group seen holdings) in
         sym (append_assoc first (row_tokens others) last)
-        ∙ ap (λ versions. row_tokens (version_groups seen name value holdings versions) ++ last) (sym (greatest_is_first seen holdings greatest is))
-        ∙ sym (flat_map-append data_tokens (version_groups seen name value holdings (ranked seen holdings)) (missing_group seen holdings))
+        ∙ ap (λ versions. row_tokens (version_groups seen name value by holdings versions) ++ last) (sym (greatest_is_first seen holdings greatest is))
+        ∙ sym (flat_map-append data_tokens (version_groups seen name value by holdings (ranked seen holdings)) (missing_group seen holdings))
 
     pub groups_added : {a b d e : Written} → greatest_within seen None holdings ≡ Some greatest
         → Adds a b (data_tokens (greatest_data seen name value holdings greatest)) → Adds b d (row_tokens others) → Adds d e (row_tokens (missing_group seen holdings))
-        → Adds a e (row_tokens (groups_data seen name value holdings))
+        → Adds a e (row_tokens (groups_data seen name value by holdings))
     groups_added {a} {b} {d} {e} is one behind missing = subst (λ ts. Adds a e ts) (groups_are is) (chain one (chain behind missing))
 
   -- the key of a difference is that of the greatest version

@@ -13,6 +13,8 @@ pub mod Naming
 pub mod GroupLines
 pub mod Whole
 pub mod Differing
+pub mod FieldNumbers
+pub mod Unknown
 pub mod Adding
 pub mod OneValue
 pub mod Named

@@ -43,6 +43,11 @@ pub numbers_none : (ns : List ℕ) → ns ≡ [] → codes "-" ≡ numbers_word 
 unfolding numbers_word
 numbers_none ns none = rw none refl
 
+pub no_numbers : (ns : List ℕ) → length ns ≡ 0 → codes "-" ≡ numbers_word ns
+unfolding numbers_word
+no_numbers [] none = refl
+no_numbers (n ∷ ns) none = absurd cc
+
 pub texts_none : (texts : List (List ℕ)) → length texts ≡ 0 → codes "-" ≡ texts_word texts
 unfolding texts_word
 texts_none [] none = refl

@@ -1,4 +1,4 @@
--- The groups of a difference: the versions that are held, greatest first, and by what each is less than the greatest.
+-- The groups of a difference: the versions that are held, greatest first, and the parts by which each is less than the greatest.
 use Rattle.std.specs.Prelude.{◌≡◌, ◌<◌, List, true, Option, Some, None, fold, Contains, nat_lt, if◌then◌else◌, All, AllPairs}
 use Rattle.std.specs.declared.cmp.Ordering.TheVariants.{Less}
 use Rattle.std.specs.Ordering.{nat_cmp}
@@ -10,28 +10,28 @@ use Rattle.am_report.specs.Differences.{is_same}
 use Rattle.am_report.specs.declared.part.Part.{Part}
 use Rattle.am_report.specs.declared.part.Part.TheVariants.{Update, Expiry, Bytes}
 
--- v is less than w by this part of the order, and the same in those before it
+-- v is less than w by this part of the order, and equal in the parts before it
 abbrev pub IsLessBy : {K : Type 0} → Part → Version K → Version K → Type 0
 IsLessBy Update v w = v.updated < w.updated
 IsLessBy Expiry v w = (v.updated ≡ w.updated) × (v.expires < w.expires)
 IsLessBy Bytes v w = (v.updated ≡ w.updated) × (v.expires ≡ w.expires) × (slice_cmp nat_cmp v.content w.content ≡ Less)
 
--- the first part in which two versions differ; the last where they differ in none before it
+-- the first part in which two versions differ, or the last part if they differ in none before it
 abbrev pub part_between : {K : Type 0} → Version K → Version K → Part
 part_between v w = if nat_lt v.updated w.updated then Update else (if nat_lt v.expires w.expires then Expiry else Bytes)
 
 module _ {K X : Type 0} (seen : X → Version K) where
-  -- the version, where it is below the bound or there is none
+  -- the version, if it is below the bound or there is no bound
   abbrev pub within : Option X → Option X → Option X
   within bound None = None
   within None (Some v) = Some v
   within (Some above) (Some v) = if is_below (seen v) (seen above) then Some v else None
 
-  -- the greatest version below the bound; of those that tie, the first
+  -- the greatest version below the bound, or the first of those that tie
   abbrev pub greatest_within : Option X → List (Holding X) → Option X
   greatest_within bound holdings = fold (λ best holding. greater_of seen best (within bound holding.here)) None holdings
 
-  -- the versions that are held, each once, greatest first
+  -- the versions are those that are held, each once, greatest first
   pub record AreRanked (holdings : List (Holding X)) (versions : List X) : Type 0 where
     pub order : AllPairs (λ one other. is_below (seen other) (seen one) ≡ true) versions
     pub held : All (λ v. (holding : Holding X) × Contains holdings holding × (holding.here ≡ Some v)) versions

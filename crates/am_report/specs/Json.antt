@@ -1,4 +1,4 @@
--- What is told in JSON.
+-- Reports in JSON.
 pub mod Values
 pub mod Views
 pub mod Groups

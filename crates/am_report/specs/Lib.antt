@@ -9,6 +9,8 @@ pub mod WordLaws
 pub mod Later
 pub mod Texts
 pub mod Ranked
+pub mod UnknownFields
+pub mod Less
 pub mod ReportLine
 pub mod Long
 pub mod Versions

@@ -1,14 +1,13 @@
--- The lines of a difference: one for each group of sources that hold the same there, greatest first.
--- X is the type of versions, `seen` is what the merge sees of one, `begins` are the words of a key with which each of its
--- lines begins, `told` are the words of a version, and `more` is what stands below the line of a version, of which there is a greatest.
+-- The lines of a difference: one for each group of sources that hold the same there, greatest first. X is the type of
+-- versions, `seen` is what the merge sees of one, `begins` are the words of a key with which each of its lines
+-- begins, `told` are the words of a version, `more` is the text below the line of a version that is compared with
+-- the greatest, and `by` says by what one is less than the greatest.
 use Rattle.std.specs.Prelude.{◌≡◌, ℕ, List, [], ◌∷◌, ◌++◌, Bool, true, false, Option, Some, None, map, filter, codes, if◌then◌else◌}
 use Rattle.std.specs.List.{flat_map, join_with_byte, list_any}
 use Rattle.am_version_order.specs.Versions.{Version}
 use Rattle.am_report.specs.Sources.{Holding}
 use Rattle.am_report.specs.Differences.{Difference, is_same}
-use Rattle.am_report.specs.Groups.{greatest_within, part_between}
-use Rattle.am_report.specs.declared.part.Part.{Part}
-use Rattle.am_report.specs.declared.part.Part.TheVariants.{Update, Expiry, Bytes}
+use Rattle.am_report.specs.Groups.{greatest_within}
 use Rattle.am_report.specs.Words.{listed_word_of}
 use Rattle.am_report.specs.Ranked.{ranked}
 
@@ -17,21 +16,11 @@ abbrev pub is_any : {D : Type 0} → List D → Bool
 is_any [] = false
 is_any (difference ∷ differences) = true
 
--- a part of the order by its name
-abbrev pub part_word : Part → List ℕ
-part_word Update = codes "update"
-part_word Expiry = codes "expiry"
-part_word Bytes = codes "bytes"
-
--- by which part a version is less than a greater one
-unfoldable pub less_word : {K : Type 0} → Version K → Version K → List ℕ
-less_word v greatest = part_word (part_between v greatest)
-
 -- names with commas between them, each as a word of a list
 abbrev pub names_word : List (List ℕ) → List ℕ
 names_word names = join_with_byte 44 (map listed_word_of names)
 
--- a name behind others, or the first one
+-- the words that a name adds to a list: after a comma unless it is the first one
 abbrev pub next_name : Bool → List ℕ → List ℕ
 next_name is_first name = if is_first then listed_word_of name else 44 ∷ listed_word_of name
 
@@ -46,7 +35,7 @@ module _ {K X : Type 0} (seen : X → Version K) where
   abbrev pub holders : Option X → List (Holding X) → List (List ℕ)
   holders here holdings = map (λ holding. holding.name) (filter (λ holding. is_same seen holding.here here) holdings)
 
-  -- KEY missing NAMES, where some hold nothing
+  -- KEY missing NAMES, if some hold nothing
   abbrev pub missing_line : (K → List ℕ) → K → List (Holding X) → List ℕ
   missing_line begins key holdings =
       if list_any (λ holding. is_same seen holding.here None) holdings
@@ -65,23 +54,24 @@ module _ {K X : Type 0} (seen : X → Version K) where
       greatest_line key holdings greatest =
           group_words (codes "greatest") key holdings greatest ++ codes "\n" ++ more greatest greatest
 
-      -- KEY behind NAMES VERSION by WHAT
-      abbrev pub behind_line : K → List (Holding X) → X → X → List ℕ
-      behind_line key holdings greatest v =
-          group_words (codes "behind") key holdings v ++ codes " by " ++ less_word (seen v) (seen greatest) ++ codes "\n"
-          ++ more v greatest
+      module _ (by : X → X → List ℕ) where
+        -- KEY behind NAMES VERSION by WHAT
+        abbrev pub behind_line : K → List (Holding X) → X → X → List ℕ
+        behind_line key holdings greatest v =
+            group_words (codes "behind") key holdings v ++ codes " by " ++ by v greatest ++ codes "\n"
+            ++ more v greatest
 
-      -- the lines of these versions, which are all that are held
-      abbrev pub version_lines : K → List (Holding X) → List X → List ℕ
-      version_lines key holdings [] = []
-      version_lines key holdings (greatest ∷ others) =
-          greatest_line key holdings greatest ++ flat_map (behind_line key holdings greatest) others
+        -- the lines of all versions that are held, given in their order
+        abbrev pub version_lines : K → List (Holding X) → List X → List ℕ
+        version_lines key holdings [] = []
+        version_lines key holdings (greatest ∷ others) =
+            greatest_line key holdings greatest ++ flat_map (behind_line key holdings greatest) others
 
-      -- the lines of a difference
-      unfoldable pub difference_lines : Difference K X → List ℕ
-      difference_lines difference =
-          version_lines difference.key difference.holdings (ranked seen difference.holdings) ++ missing_line begins difference.key difference.holdings
+        -- the lines of a difference
+        unfoldable pub difference_lines : Difference K X → List ℕ
+        difference_lines difference =
+            version_lines difference.key difference.holdings (ranked seen difference.holdings) ++ missing_line begins difference.key difference.holdings
 
-      -- the lines of all differences
-      abbrev pub lines_of : List (Difference K X) → List ℕ
-      lines_of differences = flat_map difference_lines differences
+        -- the lines of all differences
+        abbrev pub lines_of : List (Difference K X) → List ℕ
+        lines_of differences = flat_map difference_lines differences

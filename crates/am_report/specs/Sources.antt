@@ -1,4 +1,4 @@
--- Sources, and what is left of each on a walk over all of them in the order of the keys.
+-- Sources, and the rest of each on a walk over all of them in the order of the keys.
 use Rattle.std.specs.Prelude.{ℕ, ◌+◌, Bool, false, List, [], ◌∷◌, Option, Some, None, length, if◌then◌else◌}
 use Rattle.std.specs.declared.cmp.Ordering.{Ordering}
 use Rattle.std.specs.Ordering.{eq_by_cmp}
@@ -9,12 +9,12 @@ pub record Source (X : Type 0) : Type 0 where
   pub name : List ℕ
   pub held : List X
 
--- what a source holds at a key
+-- the version that a source holds at a key, if there is one, with the name of the source
 pub record Holding (X : Type 0) : Type 0 where
   pub name : List ℕ
   pub here : Option X
 
--- a source on a walk: what it holds at the key where the walk is, and what comes behind
+-- a source on a walk: what it holds at the key that the walk has reached, and what comes behind
 pub record Side (X : Type 0) : Type 0 where
   pub name : List ℕ
   pub here : Option X
@@ -31,12 +31,12 @@ rest_of side = record { name = side.name; held = side.left }
 abbrev pub side_of : {X : Type 0} → Source X → Side X
 side_of source = record { name = source.name; here = None; left = source.held }
 
--- how many versions are left of all
+-- the number of versions that are left of all
 abbrev pub left_of_all : {X : Type 0} → List (Side X) → ℕ
 left_of_all [] = 0
 left_of_all (side ∷ sides) = length side.left + left_of_all sides
 
--- a version with those behind it; nothing is behind none
+-- a version with those behind it, or nothing if there is none
 abbrev pub front_of : {X : Type 0} → Option X → List X → List X
 front_of None rest = []
 front_of (Some v) rest = v ∷ rest
@@ -47,12 +47,12 @@ module _ {K X : Type 0} (seen : X → Version K) (cmp : K → K → Ordering) wh
   begins_at key [] = false
   begins_at key (v ∷ rest) = eq_by_cmp cmp (seen v).key key
 
-  -- the first version, where it has the key
+  -- the first version, if it has the key
   abbrev pub first_at : K → List X → Option X
   first_at key [] = None
   first_at key (v ∷ rest) = if eq_by_cmp cmp (seen v).key key then Some v else None
 
-  -- the versions behind it
+  -- the versions behind the first one, if that has the key
   abbrev pub behind : K → List X → List X
   behind key [] = []
   behind key (v ∷ rest) = if eq_by_cmp cmp (seen v).key key then rest else v ∷ rest

@@ -1,16 +1,16 @@
--- The text of a moment as API v2 shows it, as a function of the moment: that of the date whose day number the moment's day
--- has, and of the time of day.
+-- The text of a moment as API v2 shows it, as a function of the moment: that of the date of the moment's day number, and of the
+-- time of day.
 use Rattle.std.specs.Prelude.{ℕ, zero, suc, ◌+◌, ◌/◌, ◌%◌, ◌==◌, ◌&&◌, nat_le, Bool, List, pos, if◌then◌else◌}
 use Rattle.jiff_core.specs.Calendar.{days_in_month, day_count}
 use Rattle.am_silence_json.specs.declared.moments.clock.Clock.{Clock}
 use Rattle.am_silence_json.specs.Written.{written_text}
 
--- the greatest number below n that passes, or 0 where none does
+-- the greatest number below n that passes the test, or 0 if none does
 unfoldable pub greatest_below : ℕ → (ℕ → Bool) → ℕ
 greatest_below zero test = zero
 greatest_below (suc n) test = if test n then n else greatest_below n test
 
--- what a clock shows at a place of the calendar, where each year has 13 months of 32 days from 0 on, and at a second of the day
+-- the clock at a place of the calendar, in which each year has 13 months of 32 days from 0 on, and at a second of the day
 abbrev pub clock_of : ℕ → ℕ → Clock
 clock_of place second = record {
   year = place / 416;
@@ -21,14 +21,14 @@ clock_of place second = record {
   second = second % 60;
 }
 
--- a date of the calendar is at the place, so many days behind 1 January of the year -10000
+-- whether a date of the calendar is at the place, this number of days after 1 January of the year -10000
 abbrev pub is_date_of : ℕ → ℕ → Bool
 is_date_of days place =
     let clock = clock_of place 0 in
     nat_le 1 clock.month && nat_le clock.month 12 && nat_le 1 clock.day && nat_le clock.day (days_in_month (pos clock.year) clock.month)
     && (day_count (pos clock.year) clock.month clock.day == days)
 
--- 1 January of the year 1, the day of the first moment, is 3,652,791 days behind that of the year -10000
+-- the day number of a moment: 1 January of the year 1, the day of the first moment, is 3,652,791 days after that of the year -10000
 abbrev pub days_of : ℕ → ℕ
 days_of moment = moment / 86_400_000_000_000 + 3_652_791
 

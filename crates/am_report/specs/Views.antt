@@ -1,4 +1,4 @@
--- What is printed of the view of two maps at a moment: the held versions that are live, a line for each.
+-- The text of the view of two maps at a moment: the held versions that are live, a line for each.
 use Rattle.std.specs.Prelude.{◌≡◌, ℕ, ◌<◌, List, [], ◌++◌, length, take, Option, Some, None, codes}
 use Rattle.std.specs.Io.KnownBytes.{Appends}
 use Rattle.std.specs.List.{flat_map}
@@ -15,18 +15,18 @@ use Rattle.am_snapshot.specs.declared.error.SnapshotError.TheVariants.{Write, Me
 use Rattle.am_report.specs.Words.{word_of}
 use Rattle.am_report.specs.Lists.{numbers_word}
 
--- each line begins with the name of the instance, where one is given
+-- the name of the instance with which each line begins, if one is given
 abbrev pub owner_words : Option (List ℕ) → List ℕ
 owner_words None = []
 owner_words (Some name) = word_of name ++ codes " "
 
--- a state by its name
+-- the name of a state
 abbrev pub state_word : State → List ℕ
 state_word Pending = codes "pending"
 state_word Active = codes "active"
 state_word Expired = codes "expired"
 
--- NAME shows S L: how many silences and how many entries are in view, where a name is given
+-- NAME shows S L: how many silences and how many entries are in view, if a name is given
 unfoldable pub shows_line : Option (List ℕ) → ℕ → ℕ → List ℕ
 shows_line None silences entries = []
 shows_line (Some name) silences entries = word_of name ++ codes " shows " ++ decimal silences ++ codes " " ++ decimal entries ++ codes "\n"
@@ -47,11 +47,11 @@ entry_line name m =
     owner_words name ++ codes "nfl " ++ key_words m.entry.key ++ codes " " ++ numbers_word m.entry.firing_alerts
     ++ codes " " ++ numbers_word m.entry.resolved_alerts ++ codes "\n"
 
--- the silences in view by id, with their states at the moment
+-- the lines of the silences in view by id, with their states at the moment
 abbrev pub silence_lines : Option (List ℕ) → ℕ → List Mesh → List ℕ
 silence_lines name now silences = flat_map (λ m. silence_line name m (state_of m.silence now)) (swept mesh_version now silences)
 
--- the entries in view by key
+-- the lines of the entries in view by key
 abbrev pub entry_lines : Option (List ℕ) → ℕ → List LogMesh → List ℕ
 entry_lines name now log = flat_map (entry_line name) (swept entry_version now log)
 
@@ -61,7 +61,7 @@ view_text name now silences log =
     shows_line name (length (swept mesh_version now silences)) (length (swept entry_version now log))
     ++ silence_lines name now silences ++ entry_lines name now log
 
--- silences with their states, as they are shown
+-- the lines of silences with their states, as they are shown
 abbrev pub state_lines : Option (List ℕ) → List (Mesh × State) → List ℕ
 state_lines name silences = flat_map (λ shown. silence_line name shown.0 shown.1) silences
 

@@ -1,4 +1,4 @@
--- Where a walk over several sources goes next: to the least of the keys that are left.
+-- The next key of a walk over several sources: the least of those that are left.
 use Rattle.std.specs.Prelude.{◌≡◌, ◌≢◌, List, [], ◌∷◌, Option, Some, None, All, fold, true, if◌then◌else◌}
 use Rattle.std.specs.List.{list_any}
 use Rattle.std.specs.declared.cmp.Ordering.{Ordering}
@@ -17,7 +17,7 @@ abbrev pub IsNothingLeft : {X : Type 0} → List (Side X) → Type 0
 IsNothingLeft sides = All (λ side. side.left ≡ []) sides
 
 module _ {K X : Type 0} (seen : X → Version K) (cmp : K → K → Ordering) where
-  -- of two versions, or one, that with the lesser key; of one key, the first
+  -- the version with the lesser key, or the only one; the first if they have one key
   abbrev pub lesser_of : Option X → Option X → Option X
   lesser_of None w = w
   lesser_of (Some v) None = Some v

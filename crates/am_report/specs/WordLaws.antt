@@ -1,7 +1,7 @@
--- What holds of words.
+-- Laws of words.
 use Rattle.std.specs.Prelude.{◌≢◌, ℕ, ◌<◌, ◌≤◌, List, All}
 
--- the numbers of a text's bytes
+-- the text's numbers are bytes
 abbrev pub AreBytes : List ℕ → Type 0
 AreBytes text = All (λ byte. byte < 256) text
 

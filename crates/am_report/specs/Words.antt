@@ -4,23 +4,23 @@ use Rattle.std.specs.List.{flat_map}
 use Rattle.std.specs.Str.{bytes_eq}
 use Rattle.percent_encoding.specs.Percent.{percent_encode_byte, percent_decode}
 
--- the bytes that stand for themselves in a word: `!` to `~`, but not `%`
+-- whether a byte stands for itself in a word: `!` to `~`, but not `%`
 abbrev pub is_plain : ℕ → Bool
 is_plain byte = nat_le 33 byte && nat_le byte 126 && not (byte == 37)
 
--- where words are parted by commas, a comma is none of them
+-- whether a byte stands for itself in a list, in which words have commas between them: a comma doesn't
 abbrev pub is_plain_in_list : ℕ → Bool
 is_plain_in_list byte = is_plain byte && not (byte == 44)
 
--- at the end of a line a blank may stand for itself, too
+-- whether a byte stands for itself at the end of a line: a blank does, too
 abbrev pub is_plain_at_end : ℕ → Bool
 is_plain_at_end byte = nat_le 32 byte && nat_le byte 126 && not (byte == 37)
 
--- each other byte is `%` and its two upper-case hexadecimal digits
+-- the spelling of a text: each byte that doesn't stand for itself is `%` and its two upper-case hexadecimal digits
 abbrev pub spelled : (ℕ → Bool) → List ℕ → List ℕ
 spelled plain text = flat_map (λ byte. if plain byte then byte ∷ [] else percent_encode_byte byte) text
 
--- the empty text is `-`, and so the text `-` is `%2D`
+-- the word of a text: the empty text is `-`, and so the text `-` is `%2D`
 abbrev pub word_by : (ℕ → Bool) → List ℕ → List ℕ
 word_by plain [] = codes "-"
 word_by plain text = if bytes_eq text (codes "-") then codes "%2D" else spelled plain text
@@ -29,11 +29,11 @@ word_by plain text = if bytes_eq text (codes "-") then codes "%2D" else spelled 
 unfoldable pub word_of : List ℕ → List ℕ
 word_of text = word_by is_plain text
 
--- its word in a list that has commas between the words
+-- the word of a text in a list that has commas between the words
 unfoldable pub listed_word_of : List ℕ → List ℕ
 listed_word_of text = word_by is_plain_in_list text
 
--- what stands for it at the end of a line
+-- the spelling of a text at the end of a line
 unfoldable pub tail_of : List ℕ → List ℕ
 tail_of text = word_by is_plain_at_end text
 

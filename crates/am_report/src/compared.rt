@@ -1,10 +1,10 @@
-//! What is compared.
+//! The two ways to compare sources.
 
-/// What is compared of what sources hold.
+/// The part of what sources hold that is compared.
 #[derive(Clone, Copy)]
 pub enum Compared {
-    /// What they show at the moment: what is live.
+    /// The versions that are live at the moment, which the sources show.
     Shown,
-    /// All that they hold.
+    /// All versions that the sources hold.
     Held,
 }

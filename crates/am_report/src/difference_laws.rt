@@ -1,4 +1,4 @@
-//! What holds of the differences of sources.
+//! Laws of the differences of sources.
 
 ghost use Rattle.std.specs.Prelude.{◌≡◌, ◌↔◌, ℕ, List, [], ◌∷◌, true, map, All, Contains};
 ghost use Rattle.std.specs.List.{flat_map};
@@ -13,8 +13,8 @@ ghost use Rattle.am_report.specs.declared.part.Part.{Part};
 
 use am_version_order::Version;
 
-/// Nothing is different exactly where all sources show the same at the moment, and of all that is held where all hold the
-/// same.
+/// States that nothing is different exactly if all sources show the same at the moment, or, if all that is held is compared, if all
+/// sources hold the same.
 pub fn nothing_is_different_where_all_is_the_same<V: Version>()
     ensures shown { (sources : List (Source V)) (now : ℕ) →
         All (λ source. IsMap V.seen V.Key.cmp source.held) sources → All (λ source. All V.is_value source.held) sources →
@@ -26,8 +26,8 @@ pub fn nothing_is_different_where_all_is_the_same<V: Version>()
         ↔ ((one other : Source V) → Contains sources one → Contains sources other → one.held ≡ other.held)) }
 {}
 
-/// The first of the versions at a key is the one that counts: no version of that key that any source holds is greater, so
-/// it is the one that a fold of all sources holds there.
+/// States that the first of the versions at a key is the one that counts: no version of that key that any source holds is greater,
+/// so it is the one that a fold of all sources holds there.
 pub fn the_greatest_is_best<V: Version>()
     ensures { (sources : List (Source V)) (key : V.Key) (greatest : V) (others : List V) →
         All (λ source. IsMap V.seen V.Key.cmp source.held) sources →
@@ -35,7 +35,7 @@ pub fn the_greatest_is_best<V: Version>()
         IsBest V.seen (flat_map (λ source. source.held) sources) greatest }
 {}
 
-/// A version that is less by a part of the order is less.
+/// States that a version that is less by a part of the order is less.
 pub fn a_part_is_less<V: Version>()
     ensures { (part : Part) (v w : V) → IsLessBy part (V.seen v) (V.seen w) → is_below (V.seen v) (V.seen w) ≡ true }
 {}

@@ -11,7 +11,7 @@ use crate::compared::Compared;
 use crate::side::Side;
 use am_version_order::{Moment, Version};
 
-/// Of two versions, or one, that with the lesser key.
+/// Returns the version with the lesser key, or the only one.
 fn lesser<'a, V: Version>(one: Option<&'a V>, other: Option<&'a V>) -> Option<&'a V>
     ensures { option_copied result ≡ lesser_of V.seen V.Key.cmp (option_copied one.entry) (option_copied other.entry) }
 {
@@ -25,7 +25,7 @@ fn lesser<'a, V: Version>(one: Option<&'a V>, other: Option<&'a V>) -> Option<&'
     }
 }
 
-/// A version whose key is the least that is left.
+/// Returns a version whose key is the least that is left.
 #[tactic(auto, using(crate::proofs::Loops::least_more))]
 fn least<'a, V: Version>(sides: &[Side<'a, V>]) -> Option<&'a V>
     ensures { option_copied result ≡ least_of V.seen V.Key.cmp sides.now }
@@ -37,7 +37,7 @@ fn least<'a, V: Version>(sides: &[Side<'a, V>]) -> Option<&'a V>
     least
 }
 
-/// Goes on to a key with each source.
+/// Advances each source to a key.
 #[tactic(auto, using(crate::proofs::Loops::come_more))]
 fn come_to<V: Version>(sides: &mut [Side<'_, V>], key: &V::Key)
     ensures { sides.new ≡ map (come_to V.seen V.Key.cmp key.now) sides.old }
@@ -47,7 +47,7 @@ fn come_to<V: Version>(sides: &mut [Side<'_, V>], key: &V::Key)
     }
 }
 
-/// Whether two versions, or none, are one to the order.
+/// Returns whether two versions are one to the order, or there is none on either side.
 pub fn is_same<V: Version>(one: Option<&V>, other: Option<&V>) -> bool
     ensures { result ≡ is_same V.seen (option_copied one.entry) (option_copied other.entry) }
 {
@@ -58,7 +58,7 @@ pub fn is_same<V: Version>(one: Option<&V>, other: Option<&V>) -> bool
     }
 }
 
-/// Whether not all sources are the same at the key where the walk is.
+/// Returns whether the sources differ at the key that the walk has reached.
 fn is_different<V: Version>(sides: &[Side<'_, V>], compared: Compared, now: Moment) -> bool
     ensures { result ≡ is_different V.seen compared now (map holding_of sides.now) }
 {
@@ -74,7 +74,7 @@ fn is_different<V: Version>(sides: &[Side<'_, V>], compared: Compared, now: Mome
     false
 }
 
-/// Goes on to the next key at which sources differ, and says whether there is one. It takes no memory.
+/// Advances to the next key at which sources differ, and returns whether there is one. It takes no memory.
 pub fn next_difference<V: Version>(
     sides: &mut [Side<'_, V>],
     compared: Compared,

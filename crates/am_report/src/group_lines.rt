@@ -1,40 +1,19 @@
-//! The lines of a difference.
+//! The lines of the groups of a difference.
 
 ghost use Rattle.std.specs.Prelude.{◌≡◌, ◌++◌, true, map, OnOk, string_bytes};
 ghost use Rattle.am_version_order.specs.Versions.{is_below};
 ghost use Rattle.am_report.specs.Sources.{holding_of};
-ghost use Rattle.am_report.specs.ReportLine.{behind_line, greatest_line, group_words, less_word, missing_line, part_word};
+ghost use Rattle.am_report.specs.ReportLine.{behind_line, greatest_line, group_words, missing_line};
+ghost use Rattle.am_report.specs.Less.{less_word};
 
-use crate::groups::is_behind_by;
+use crate::less::less_by;
 use crate::manner::Manner;
 use crate::names::{append_names, is_held, nothing};
-use crate::part::Part;
 use crate::report_line::ReportLine;
 use crate::side::Side;
-use am_version_order::Version;
 use std::alloc::AllocError;
 
-/// By which part of the order a version is less than a greater one, by its name. It takes no memory.
-#[tactic(auto, unfolding(crate::specs::ReportLine::less_word))]
-pub fn less_by<V: Version>(version: &V, greatest: &V) -> &'static str
-    requires { is_below (V.seen version.now) (V.seen greatest.now) ≡ true }
-    ensures { result.now ≡ less_word (V.seen version.now) (V.seen greatest.now) }
-{
-    part_name(is_behind_by(version, greatest))
-}
-
-/// The name of a part of the order.
-fn part_name(part: Part) -> &'static str
-    ensures { result.now ≡ part_word part }
-{
-    match part {
-        Part::Update => "update",
-        Part::Expiry => "expiry",
-        Part::Bytes => "bytes",
-    }
-}
-
-/// Appends what a line says of the sources that have this version, in their relation to the others.
+/// Appends the words of a line about the sources that have this version, in their relation to the others.
 fn append_group<V: ReportLine>(
     out: &mut String,
     sides: &[Side<'_, V>],
@@ -68,7 +47,7 @@ pub fn append_greatest<V: ReportLine>(
     greatest.append_more(out, greatest, manner)
 }
 
-/// Appends the line of the sources that have a version that is less.
+/// Appends the line of the sources that have a lesser version.
 pub fn append_behind<V: ReportLine>(
     out: &mut String,
     sides: &[Side<'_, V>],
@@ -78,15 +57,15 @@ pub fn append_behind<V: ReportLine>(
 ) -> Result<(), AllocError>
     requires { is_below (V.seen version.now) (V.seen greatest.now) ≡ true }
     ensures { OnOk result (string_bytes out.new ≡ string_bytes out.old
-        ++ behind_line V.seen V.begins (V.told manner.now) (V.more manner.now) (V.seen greatest.now).key (map holding_of sides.now) greatest.now version.now) }
+        ++ behind_line V.seen V.begins (V.told manner.now) (V.more manner.now) (less_word V.seen V.unknown_of V.known_of) (V.seen greatest.now).key (map holding_of sides.now) greatest.now version.now) }
 {
-    let part = less_by(version, greatest);
+    let part = less_by(*out.allocator(), version, greatest)?;
     append_group(out, sides, greatest.key(), "behind", version, manner)?;
     writeln!(out, " by {part}")?;
     version.append_more(out, greatest, manner)
 }
 
-/// Appends the line of the sources that hold nothing, where there are some.
+/// Appends the line of the sources that hold nothing, if there are any.
 pub fn append_missing<V: ReportLine>(
     out: &mut String,
     sides: &[Side<'_, V>],

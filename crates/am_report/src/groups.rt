@@ -1,4 +1,4 @@
-//! Which of the versions at a key are how great.
+//! The versions at a key, by how great they are.
 
 ghost use Rattle.std.specs.Prelude.{◌≡◌, None, Some, true, map};
 ghost use Rattle.std.specs.Option.{option_copied};
@@ -11,7 +11,7 @@ use crate::part::Part;
 use crate::side::Side;
 use am_version_order::Version;
 
-/// The greater of two versions, or the only one; of two that tie, the first.
+/// Returns the greater of two versions, or the only one; the first if they tie.
 #[tactic(auto, unfolding(am_version_order::specs::Versions::is_below))]
 fn greater<'a, V: Version>(one: Option<&'a V>, other: Option<&'a V>) -> Option<&'a V>
     ensures { option_copied result ≡ greater_of V.seen (option_copied one.entry) (option_copied other.entry) }
@@ -26,7 +26,7 @@ fn greater<'a, V: Version>(one: Option<&'a V>, other: Option<&'a V>) -> Option<&
     }
 }
 
-/// The version, where it is below the bound.
+/// Returns the version if it is below the bound.
 #[tactic(auto, unfolding(am_version_order::specs::Versions::is_below))]
 fn below<'a, V: Version>(version: Option<&'a V>, bound: &V) -> Option<&'a V>
     ensures { option_copied result ≡ within V.seen (Some bound.now) (option_copied version.entry) }
@@ -39,7 +39,7 @@ fn below<'a, V: Version>(version: Option<&'a V>, bound: &V) -> Option<&'a V>
     }
 }
 
-/// The greatest version that a source holds at the key where the walk is.
+/// Returns the greatest version that a source holds at the key that the walk has reached.
 pub fn greatest_of<'a, V: Version>(sides: &[Side<'a, V>]) -> Option<&'a V>
     ensures { option_copied result ≡ greatest_within V.seen None (map holding_of sides.now) }
 {
@@ -50,7 +50,7 @@ pub fn greatest_of<'a, V: Version>(sides: &[Side<'a, V>]) -> Option<&'a V>
     best
 }
 
-/// The greatest version that a source holds there and that is less than this one.
+/// Returns the greatest version that a source holds there and that is less than this one.
 pub fn next_below<'a, V: Version>(sides: &[Side<'a, V>], above: &V) -> Option<&'a V>
     ensures { option_copied result ≡ greatest_within V.seen (Some above.now) (map holding_of sides.now) }
 {
@@ -61,7 +61,7 @@ pub fn next_below<'a, V: Version>(sides: &[Side<'a, V>], above: &V) -> Option<&'
     best
 }
 
-/// By which part of the order a version is less than a greater one of its key. It takes no memory.
+/// Returns the part of the order by which a version is less than a greater one of its key. It takes no memory.
 #[tactic(auto, using(crate::proofs::Parts::less_by_part))]
 pub fn is_behind_by<V: Version>(version: &V, greatest: &V) -> Part
     requires { is_below (V.seen version.now) (V.seen greatest.now) ≡ true }

@@ -1,4 +1,4 @@
-//! What is told of silences and of entries of the log, in JSON: the view of a map, and the differences of several.
+//! Reports on silences and on entries of the log in JSON: the view of a map, and the differences of several.
 
 mod difference;
 mod entry;

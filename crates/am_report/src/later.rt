@@ -1,4 +1,4 @@
-//! Whether what is held was updated after a moment.
+//! Versions that were updated after a moment.
 
 ghost use Rattle.std.specs.Prelude.{◌≡◌};
 ghost use Rattle.am_report.specs.Later.{has_later, has_later_source};
@@ -7,7 +7,7 @@ use crate::replica::Replica;
 use am_merge::Held;
 use am_version_order::{Moment, Version};
 
-/// Whether a version was updated after the moment. It takes no memory.
+/// Returns whether a version was updated after the moment. It takes no memory.
 pub fn has_later<V: Version>(held: &Held<V>, now: Moment) -> bool
     ensures { result ≡ has_later V.seen now held.now }
 {
@@ -18,7 +18,7 @@ pub fn has_later<V: Version>(held: &Held<V>, now: Moment) -> bool
     found
 }
 
-/// Whether a version of a source was updated after the moment. It takes no memory.
+/// Returns whether a version of a source was updated after the moment. It takes no memory.
 pub fn has_later_source<V: Version>(replicas: &[Replica<'_, V>], now: Moment) -> bool
     ensures { result ≡ has_later_source V.seen now replicas.now }
 {

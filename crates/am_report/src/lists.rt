@@ -10,7 +10,7 @@ use am_nflog::HashIter;
 use am_wire::Text;
 use std::fmt::{self, Display};
 
-/// Numbers that are printed as a word: in decimal with commas between them, or `-` for none.
+/// Numbers that are displayed as a word: in decimal with commas between them, or `-` if there are none.
 #[derive(Drop)]
 pub struct Numbers<'a>(pub HashIter<'a>);
 
@@ -40,7 +40,36 @@ fn write_numbers<W: fmt::Write>(numbers: HashIter<'_>, f: &mut fmt::Formatter<W>
     Ok(())
 }
 
-/// Texts that are printed as a word: each as a [`ListedWord`], with commas between them, or `-` for none.
+/// Numbers of fields that are displayed as a word, like [`Numbers`].
+#[derive(Clone, Copy)]
+pub struct FieldNumbers<'a>(pub &'a [u32]);
+
+impl Display for FieldNumbers<'_> {
+    ghost use Rattle.std.specs.Prelude.{Some};
+    ghost use Rattle.am_report.specs.Lists.{numbers_word};
+
+    ghost output = { λ numbers. Some (numbers_word numbers.0.now) };
+
+    fn fmt<W: fmt::Write>(&self, f: &mut fmt::Formatter<W>) -> fmt::Result {
+        let Some((first, rest)) = self.0.split_first() else {
+            return f.write_str("-");
+        };
+        write!(f, "{first}")?;
+        write_field_numbers(rest, f)
+    }
+}
+
+/// Writes numbers of fields, each behind a comma.
+fn write_field_numbers<W: fmt::Write>(numbers: &[u32], f: &mut fmt::Formatter<W>) -> fmt::Result
+    ensures { WritesOnOk W.write_str_gives f.old result (behind_commas decimal numbers.now) f.new }
+{
+    for number in numbers {
+        write!(f, ",{number}")?;
+    }
+    Ok(())
+}
+
+/// Texts that are displayed as a word: each as a [`ListedWord`], with commas between them, or `-` if there are none.
 #[derive(Clone, Copy)]
 pub struct Texts<'a>(pub &'a [Text]);
 
@@ -59,7 +88,7 @@ impl Display for Texts<'_> {
     }
 }
 
-/// A text as a word of a list.
+/// Returns a text as a word of a list.
 fn listed(text: &Text) -> ListedWord<'_>
     ensures { result.0.now ≡ text.now }
 {

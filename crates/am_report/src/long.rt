@@ -1,19 +1,21 @@
-//! What stands below the line of a version in long lines.
+//! The details below the line of a version in long lines.
 
 ghost use Rattle.std.specs.Prelude.{◌≡◌, ◌++◌, IfOk, OnOk, string_bytes};
 ghost use Rattle.am_report.specs.Lists.{behind_commas};
-ghost use Rattle.am_report.specs.Long.{about_lines, change_line, field_line, long_key, long_silence, matcher_word, matchers_word};
+ghost use Rattle.am_report.specs.Long.{about_lines, change_line, field_line, fields_change, fields_line, long_key, long_silence, matcher_word, matchers_word};
 ghost use Rattle.am_report.specs.Long.{moment_change, moment_changes, sign_of, text_change, text_changes};
 ghost use Rattle.am_report.specs.Words.{word_of};
 
+use crate::less::differing_text;
 use crate::moments::shown_moment;
+use crate::with_unknown::WithUnknown;
 use crate::words::{ListedWord, Tail, Word};
 use am_nflog::LogKey;
 use am_silence::{MatcherIter, MatcherKind, MatcherRef, MeshSilence};
 use am_version_order::Moment;
 use std::alloc::{AllocError, Global};
 
-/// The sign between a label's name and what its value is compared with.
+/// Returns the sign between a label's name and the pattern with which its value is compared.
 fn sign_of(kind: MatcherKind) -> &'static str
     ensures { result.now ≡ sign_of kind }
 {
@@ -46,7 +48,7 @@ fn append_matchers(out: &mut String, matchers: MatcherIter<'_>) -> Result<(), Al
     Ok(())
 }
 
-/// Matchers as a word.
+/// Converts matchers to a word.
 fn matchers_text(alloc: Global, matchers: MatcherIter<'_>) -> Result<String, AllocError>
     ensures { IfOk result (λ text. string_bytes text ≡ matchers_word matchers.entry) }
 {
@@ -61,7 +63,7 @@ fn matchers_text(alloc: Global, matchers: MatcherIter<'_>) -> Result<String, All
     Ok(text)
 }
 
-/// A text as a word.
+/// Converts a text to a word.
 fn word_text(alloc: Global, text: &str) -> Result<String, AllocError>
     ensures { IfOk result (λ word. string_bytes word ≡ word_of text.now) }
 {
@@ -117,7 +119,7 @@ fn append_text_change(
     append_change(out, field, from.as_str(), to.as_str())
 }
 
-/// Appends what a silence is about, and who says why.
+/// Appends the matchers of a silence, its author and its comment.
 fn append_about(alloc: Global, out: &mut String, silence: &MeshSilence) -> Result<(), AllocError>
     ensures { OnOk result (string_bytes out.new ≡ string_bytes out.old ++ about_lines silence.now.silence) }
 {
@@ -169,11 +171,38 @@ fn append_text_changes(
     append_text_change(alloc, out, "comment", silence.comment(), greatest.comment())
 }
 
-/// Appends more of a silence, and what changed from it to the greatest version.
+/// Appends the line of the numbers of fields that changed, if there are any.
+fn append_fields(out: &mut String, numbers: &str) -> Result<(), AllocError>
+    ensures { OnOk result (string_bytes out.new ≡ string_bytes out.old ++ fields_line numbers.now) }
+{
+    if numbers.is_empty() {
+        return Ok(());
+    }
+    writeln!(out, "  changed fields {numbers}")
+}
+
+/// Appends the line of the unknown fields that changed, if any did.
 ///
 /// # Errors
 ///
-/// [`AllocError`] where memory runs out. A part of the lines may be left.
+/// [`AllocError`] if memory runs out. A part of the line may be left.
+#[tactic(auto, unfolding(crate::specs::Long::fields_change))]
+pub fn append_fields_change<V: WithUnknown>(
+    out: &mut String,
+    version: &V,
+    greatest: &V,
+) -> Result<(), AllocError>
+    ensures { OnOk result (string_bytes out.new ≡ string_bytes out.old ++ fields_change (V.unknown_of version.now) (V.unknown_of greatest.now)) }
+{
+    let numbers = differing_text(*out.allocator(), version, greatest)?;
+    append_fields(out, numbers.as_str())
+}
+
+/// Appends the details of a silence, and what changed from it to the greatest version.
+///
+/// # Errors
+///
+/// [`AllocError`] if memory runs out. A part of the lines may be left.
 #[tactic(auto, unfolding(crate::specs::Long::long_silence))]
 pub fn append_long_silence(
     out: &mut String,
@@ -186,14 +215,15 @@ pub fn append_long_silence(
     let alloc = *out.allocator();
     append_about(alloc, out, silence)?;
     append_moment_changes(out, silence, greatest, has_expiries)?;
-    append_text_changes(alloc, out, silence, greatest)
+    append_text_changes(alloc, out, silence, greatest)?;
+    append_fields_change(out, silence, greatest)
 }
 
 /// Appends the receiver and the group of an entry.
 ///
 /// # Errors
 ///
-/// [`AllocError`] where memory runs out. A part of the lines may be left.
+/// [`AllocError`] if memory runs out. A part of the lines may be left.
 #[tactic(auto, unfolding(crate::specs::Long::long_key))]
 pub fn append_long_key(out: &mut String, key: &LogKey) -> Result<(), AllocError>
     ensures { OnOk result (string_bytes out.new ≡ string_bytes out.old ++ long_key key.now) }

@@ -1,14 +1,15 @@
-//! How differences are told in lines.
+//! The manner in which lines tell differences.
 
 use am_version_order::Moment;
 
-/// How versions are told in the lines of differences.
+/// The manner in which the lines of differences tell versions.
 #[derive(Clone, Copy)]
 pub struct Manner {
-    /// At which they have their states.
+    /// The moment of the states that are shown.
     pub moment: Moment,
-    /// The sources say when a version may be forgotten, which is `gone` then. API v2 doesn't: what has ended is `expired`.
+    /// True if the sources say when a version may be forgotten, which is then `gone`. API v2 doesn't: whatever has ended is
+    /// `expired`.
     pub has_expiries: bool,
-    /// Below the line of a version stands more of it.
+    /// True if details follow below the line of a version.
     pub is_long: bool,
 }

@@ -7,7 +7,7 @@ use am_silence_json::moments::laws::texts_are_unique;
 use am_silence_json::moments::{MomentText, write_moment};
 use am_version_order::Moment;
 
-/// The text of a moment as API v2 shows it: UTC, cut to milliseconds.
+/// Returns the text of a moment as API v2 shows it: UTC, cut to milliseconds.
 pub fn shown_moment(moment: Moment) -> MomentText
     ensures { result ≡ moment_text moment }
 {

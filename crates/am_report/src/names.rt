@@ -13,14 +13,14 @@ use crate::words::ListedWord;
 use am_version_order::Version;
 use std::alloc::AllocError;
 
-/// No version, of those that the sources may hold.
+/// Returns no version, with the type of those that the sources hold.
 pub fn nothing<'a, V: Version>(_sides: &[Side<'a, V>]) -> Option<&'a V>
     ensures { option_copied result ≡ None }
 {
     None
 }
 
-/// Whether a source holds this there.
+/// Returns whether a source holds this at the key that the walk has reached.
 pub fn is_held<V: Version>(sides: &[Side<'_, V>], here: Option<&V>) -> bool
     ensures { result ≡ list_any (λ holding. is_same V.seen holding.here (option_copied here.entry)) (map holding_of sides.now) }
 {
@@ -32,7 +32,7 @@ pub fn is_held<V: Version>(sides: &[Side<'_, V>], here: Option<&V>) -> bool
     false
 }
 
-/// Appends a name as a word of a list, behind a comma unless it is the first one.
+/// Appends a name as a word of a list, after a comma unless it is the first one.
 fn append_name(out: &mut String, name: &str, is_first: bool) -> Result<(), AllocError>
     ensures { OnOk result (string_bytes out.new ≡ string_bytes out.old ++ next_name is_first name.now) }
 {
@@ -44,7 +44,7 @@ fn append_name(out: &mut String, name: &str, is_first: bool) -> Result<(), Alloc
     }
 }
 
-/// Appends the name of a source that holds this there, and answers whether the next name is still the first one.
+/// Appends the name of a source if it holds this there, and returns whether the next name is still the first one.
 fn append_holder<V: Version>(
     out: &mut String,
     side: &Side<'_, V>,
@@ -66,7 +66,7 @@ fn append_holder<V: Version>(
 ///
 /// # Errors
 ///
-/// [`AllocError`] where memory runs out. A part of the names may be left.
+/// [`AllocError`] if memory runs out. A part of the names may be left.
 pub fn append_names<V: Version>(
     out: &mut String,
     sides: &[Side<'_, V>],

@@ -1,12 +1,12 @@
 //! The parts of the order of versions.
 
-/// By which of the three parts of the order one version is less than another.
+/// The part of the order, of three, by which one version is less than another.
 #[derive(Clone, Copy)]
 pub enum Part {
     /// The update moment.
     Update,
-    /// The expiry; the update moments are the same.
+    /// The expiry; the update moments are equal.
     Expiry,
-    /// The canonical bytes; both moments are the same.
+    /// The canonical bytes; both moments are equal.
     Bytes,
 }

@@ -1,4 +1,4 @@
-//! A held map with its name.
+//! A source: a map with its name.
 
 ghost use Rattle.std.specs.Prelude.{◌≡◌, map, All, IfOk};
 ghost use Rattle.am_merge.specs.Maps.{IsMap};
@@ -26,21 +26,21 @@ impl<'a, V: Version> Model for Replica<'a, V> {
 }
 
 impl<'a, V: Version> Replica<'a, V> {
-    /// The source of this name that holds this map.
+    /// Returns the source of this name that holds this map.
     pub fn new(name: &'a str, held: Held<V>) -> Self
         ensures { result ≡ record { name = name.now; held = held } }
     {
         Replica { name, held }
     }
 
-    /// Its name.
+    /// Returns the name of the source.
     pub fn name(&self) -> &'a str
         ensures { result.now ≡ self.now.name }
     {
         self.name
     }
 
-    /// The map that it holds.
+    /// Returns the map that the source holds.
     pub fn held(&self) -> &Held<V>
         ensures { result.now ≡ self.now.held }
     {
@@ -48,11 +48,11 @@ impl<'a, V: Version> Replica<'a, V> {
     }
 }
 
-/// The sources before the first of their keys.
+/// Returns the sources before the first of their keys.
 ///
 /// # Errors
 ///
-/// [`AllocError`] where memory runs out.
+/// [`AllocError`] if memory runs out.
 pub fn sides_of<'a, 'n, V: Version>(
     alloc: Global,
     replicas: &'a [Replica<'n, V>],

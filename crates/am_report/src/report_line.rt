@@ -1,14 +1,15 @@
-//! What is told of versions.
+//! The words of versions in a report.
 
 ghost use Rattle.std.specs.Prelude.{◌≡◌, ℕ, List, ◌++◌, OnOk, string_bytes};
 ghost use Rattle.am_report.specs.Versions.{shown_state};
 ghost use Rattle.am_report.specs.declared.manner.Manner.{Manner};
 
 use crate::lists::Numbers;
-use crate::long::{append_long_key, append_long_silence};
+use crate::long::{append_fields_change, append_long_key, append_long_silence};
 use crate::manner::Manner;
 use crate::moments::shown_moment;
 use crate::view_lines::{Key, state_name};
+use crate::with_unknown::WithUnknown;
 use crate::words::Word;
 use am_nflog::{LogKey, MeshEntry};
 use am_silence::MeshSilence;
@@ -16,22 +17,22 @@ use am_version_order::Version;
 use am_wire::Text;
 use std::alloc::AllocError;
 
-/// A version that is told in a line.
-pub trait ReportLine: Version {
+/// A version that a line can tell.
+pub trait ReportLine: WithUnknown {
     /// The words with which each line of a key begins.
     ghost begins: { Self.Key → List ℕ };
 
     /// The words of a version.
     ghost told: { Manner → Self → List ℕ };
 
-    /// What stands below the line of a version, of which there is a greatest.
+    /// The text below the line of a version that is compared with the greatest of its key.
     ghost more: { Manner → Self → Self → List ℕ };
 
     /// Appends the words with which each line of a key begins.
     ///
     /// # Errors
     ///
-    /// [`AllocError`] where memory runs out. A part of the words may be left.
+    /// [`AllocError`] if memory runs out. A part of the words may be left.
     fn append_key(out: &mut String, key: &Self::Key) -> Result<(), AllocError>
         ensures { OnOk result (string_bytes out.new ≡ string_bytes out.old ++ begins key.now) };
 
@@ -39,15 +40,15 @@ pub trait ReportLine: Version {
     ///
     /// # Errors
     ///
-    /// [`AllocError`] where memory runs out. A part of the words may be left.
+    /// [`AllocError`] if memory runs out. A part of the words may be left.
     fn append_told(&self, out: &mut String, manner: &Manner) -> Result<(), AllocError>
         ensures { OnOk result (string_bytes out.new ≡ string_bytes out.old ++ told manner.now self.now) };
 
-    /// Appends what stands below the line of a version, with what changed from it to the greatest of its key.
+    /// Appends the text below the line of a version, with what changed from it to the greatest of its key.
     ///
     /// # Errors
     ///
-    /// [`AllocError`] where memory runs out. A part of the lines may be left.
+    /// [`AllocError`] if memory runs out. A part of the lines may be left.
     fn append_more(
         &self,
         out: &mut String,
@@ -57,7 +58,7 @@ pub trait ReportLine: Version {
         ensures { OnOk result (string_bytes out.new ≡ string_bytes out.old ++ more manner.now self.now greatest.now) };
 }
 
-/// The state of a silence, and `gone` where its version isn't live.
+/// Returns the state of a silence, or `gone` if its version isn't live.
 fn shown_state(silence: &MeshSilence, manner: &Manner) -> &'static str
     ensures { result.now ≡ shown_state manner.now silence.now }
 {
@@ -130,12 +131,13 @@ impl ReportLine for MeshEntry {
     fn append_more(
         &self,
         out: &mut String,
-        _greatest: &Self,
+        greatest: &Self,
         manner: &Manner,
     ) -> Result<(), AllocError> {
         if !manner.is_long {
             return Ok(());
         }
-        append_long_key(out, self.key())
+        append_long_key(out, self.key())?;
+        append_fields_change(out, self, greatest)
     }
 }

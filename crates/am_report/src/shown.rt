@@ -1,4 +1,4 @@
-//! What an instance shows, in lines.
+//! The lines of what an instance shows.
 
 ghost use Rattle.std.specs.Prelude.{◌≡◌, ◌++◌, OnOk, string_bytes};
 ghost use Rattle.std.specs.List.{flat_map};
@@ -35,11 +35,11 @@ fn append_entries(out: &mut String, owner: Owner<'_>, log: &[MeshEntry]) -> Resu
 }
 
 /// Appends what an instance shows, in the lines of a view: its silences with their states, and its entries of the log, in
-/// their order. Where the instance is named, each line begins with the name, and a line with the two counts comes first.
+/// their order. If the instance is named, each line begins with the name, and a line with the two counts comes first.
 ///
 /// # Errors
 ///
-/// [`AllocError`] where memory runs out; a part of the lines may have been appended then.
+/// [`AllocError`] if memory runs out; a part of the lines may have been appended then.
 pub fn append_shown(
     out: &mut String,
     silences: &[(MeshSilence, State)],

@@ -8,7 +8,7 @@ use am_merge::{Held, Iter};
 use am_version_order::{Moment, Version};
 use std::marker::Model;
 
-/// A source on a walk: what it holds at the key where the walk is, and what comes behind.
+/// A source on a walk: what it holds at the key that the walk has reached, and what comes behind.
 #[derive(Drop)]
 pub struct Side<'a, V: Version> {
     name: &'a str,
@@ -36,7 +36,7 @@ impl<'a, V: Version> Side<'a, V> {
     ghost use Rattle.am_report.specs.Walks.{head_of};
     ghost use Rattle.am_merge.specs.Maps.{IsMap};
 
-    /// A source before the first of its keys.
+    /// Returns a source before the first of its keys.
     #[tactic(auto, using(crate::proofs::Loops::front_is))]
     pub fn new(name: &'a str, held: &'a Held<V>) -> Self
         ensures start { result ≡ record { name = name.now; here = None; left = held.now } }
@@ -52,21 +52,21 @@ impl<'a, V: Version> Side<'a, V> {
         }
     }
 
-    /// The source's name.
+    /// Returns the source's name.
     pub fn name(&self) -> &'a str
         ensures { result.now ≡ self.now.name }
     {
         self.name
     }
 
-    /// What it holds at the key where the walk is.
+    /// Returns what the source holds at the key that the walk has reached.
     pub fn here(&self) -> Option<&'a V>
         ensures { option_copied result ≡ self.now.here }
     {
         self.here
     }
 
-    /// What is compared of what it holds there.
+    /// Returns what the source holds there, if it is compared.
     pub fn compared(&self, compared: Compared, now: Moment) -> Option<&'a V>
         ensures { option_copied result ≡ compared_of V.seen compared now self.now.here }
     {
@@ -78,7 +78,7 @@ impl<'a, V: Version> Side<'a, V> {
         }
     }
 
-    /// The first version that is left.
+    /// Returns the first version that is left.
     #[tactic(auto, using(crate::proofs::Loops::head_is))]
     pub fn next_version(&self) -> Option<&'a V>
         ensures { option_copied result ≡ head_of self.now.left }
@@ -86,7 +86,7 @@ impl<'a, V: Version> Side<'a, V> {
         self.next
     }
 
-    /// Whether the first version that is left has the key.
+    /// Returns whether the first version that is left has the key.
     fn begins_at(&self, key: &V::Key) -> bool
         ensures { result ≡ begins_at V.seen V.Key.cmp key.now self.now.left }
     {
@@ -96,7 +96,7 @@ impl<'a, V: Version> Side<'a, V> {
         }
     }
 
-    /// Goes on to a key that is not behind the first one that is left.
+    /// Advances to a key that isn't behind the first one that is left.
     #[tactic(auto, using(crate::proofs::Loops::front_is, crate::proofs::Loops::at_key, crate::proofs::Loops::not_at_key))]
     pub fn come_to(&mut self, key: &V::Key)
         ensures { self.new ≡ come_to V.seen V.Key.cmp key.now self.old }

@@ -1,4 +1,4 @@
-//! The view of two maps, written.
+//! The view of two maps as text.
 
 ghost use Rattle.std.specs.Prelude.{◌≡◌, ◌++◌, length, IfOk, IfErr, OnOk, string_bytes};
 ghost use Rattle.std.specs.Io.KnownBytes.{Appends};
@@ -16,11 +16,11 @@ use am_version_order::{Moment, Version};
 use std::alloc::{AllocError, Global};
 use std::io::Write;
 
-/// How many of the held versions are live.
+/// Returns how many of the held versions are live.
 fn live_count<V: Version>(held: &Held<V>, now: Moment) -> usize
     ensures { result ≡ length (swept V.seen now held.now) }
 {
-    // Of all that are held, less those that are not.
+    // Starts from all that are held, and takes off those that are not live.
     let mut count = held.len();
     for version in held.iter() {
         if now >= version.expires() {
@@ -65,12 +65,12 @@ fn append_log(
 }
 
 /// Appends the view of two maps at a moment, a line for each held version that is live: the silences by id with their
-/// states, and the entries of the log by key. Where an instance is named, each line begins with the name, and a line
+/// states, and the entries of the log by key. If an instance is named, each line begins with the name, and a line
 /// with the two counts comes first.
 ///
 /// # Errors
 ///
-/// [`AllocError`] where memory runs out; a part of the lines may have been appended then.
+/// [`AllocError`] if memory runs out; a part of the lines may have been appended then.
 pub fn append_view(
     out: &mut String,
     silences: &Held<MeshSilence>,
@@ -87,12 +87,12 @@ pub fn append_view(
     append_log(out, owner, log, now)
 }
 
-/// Writes the view of two maps at a moment, in the lines of [`append_view`]. Answers how many bytes went out.
+/// Writes the view of two maps at a moment, in the lines of [`append_view`]. Returns how many bytes went out.
 ///
 /// # Errors
 ///
-/// [`SnapshotError::Write`] where a write fails or takes nothing: exactly the first `written` bytes of the lines went
-/// out, and it is not tried again. [`SnapshotError::Memory`] where memory runs out, before a byte goes out.
+/// [`SnapshotError::Write`] if a write fails or takes nothing: exactly the first `written` bytes of the lines went
+/// out, and it is not tried again. [`SnapshotError::Memory`] if memory runs out, before a byte goes out.
 pub fn write_view<W: Write>(
     alloc: Global,
     silences: &Held<MeshSilence>,

@@ -12,7 +12,7 @@ use am_version_order::Version;
 use std::alloc::AllocError;
 use std::fmt::{self, Display};
 
-/// The instance whose view it is, as each line begins with it, where one is named.
+/// The instance with whose name each line of its view begins, if it is named.
 #[derive(Clone, Copy)]
 pub struct Owner<'a>(pub Option<&'a str>);
 
@@ -30,7 +30,7 @@ impl Display for Owner<'_> {
     }
 }
 
-/// The key of an entry as words: the group key, the group name, the integration and the index.
+/// The key of an entry, displayed as words: the group key, the group name, the integration and the index.
 #[derive(Clone, Copy)]
 pub struct Key<'a>(pub &'a LogKey);
 
@@ -50,7 +50,7 @@ impl Display for Key<'_> {
     }
 }
 
-/// How a state is printed.
+/// Returns the printed name of a state.
 pub fn state_name(state: State) -> &'static str
     ensures { result.now ≡ state_word state }
 {
@@ -61,7 +61,7 @@ pub fn state_name(state: State) -> &'static str
     }
 }
 
-/// Appends how many silences and how many entries are in view, where an instance is named.
+/// Appends how many silences and how many entries are in view, if an instance is named.
 #[tactic(auto, unfolding(crate::specs::Views::shows_line))]
 pub fn append_shows(
     out: &mut String,

@@ -1,10 +1,10 @@
-//! What holds of words.
+//! Laws of words.
 
 ghost use Rattle.std.specs.Prelude.{◌≡◌, ℕ, List};
 ghost use Rattle.am_report.specs.WordLaws.{AreBytes, AreGlyphs, HasNoComma};
 ghost use Rattle.am_report.specs.Words.{listed_word_of, text_of_word, word_of};
 
-/// A word is read as its text, in a list too; so no two texts have one word.
+/// States that a word is read as its text, in a list too; so no two texts have one word.
 pub fn a_word_is_read_in_one_way()
     // PROMISE: A word on a line stands for one text.
     ensures read { (text : List ℕ) → AreBytes text → text_of_word (word_of text) ≡ text }
@@ -14,7 +14,7 @@ pub fn a_word_is_read_in_one_way()
         text ≡ other }
 {}
 
-/// A word has no blank and no end of a line, and in a list no comma.
+/// States that a word has no blank and no end of a line, and in a list no comma.
 pub fn a_word_stays_one_word()
     ensures glyphs { (text : List ℕ) → AreGlyphs (word_of text) }
     ensures listed_glyphs { (text : List ℕ) → AreGlyphs (listed_word_of text) }

@@ -11,13 +11,13 @@ use std::fmt::{self, Display};
 /// The bytes of ASCII that don't stand for themselves in a word.
 const SPELLED: AsciiSet = ascii_set!(CONTROLS.add(b' ').add(b'%'));
 
-/// Those that don't in a word of a list.
+/// The bytes of ASCII that don't stand for themselves in a word of a list.
 const SPELLED_IN_LIST: AsciiSet = ascii_set!(SPELLED.add(b','));
 
-/// Those that don't at the end of a line.
+/// The bytes of ASCII that don't stand for themselves at the end of a line.
 const SPELLED_AT_END: AsciiSet = ascii_set!(CONTROLS.add(b'%'));
 
-/// A text that is printed as a word: bytes from `!` to `~` but `%` as they are, each other byte as `%` and two
+/// A text that is displayed as a word: bytes from `!` to `~` except `%` as they are, each other byte as `%` and two
 /// upper-case hexadecimal digits; the empty text as `-`, and the text `-` as `%2D`.
 #[derive(Clone, Copy)]
 pub struct Word<'a>(pub &'a [u8]);
@@ -37,7 +37,7 @@ impl Display for Word<'_> {
     }
 }
 
-/// A text that is printed as a word of a list, whose words have commas between them: as a [`Word`], and a comma as
+/// A text that is displayed as a word of a list, whose words have commas between them: like a [`Word`], with a comma as
 /// `%2C`.
 #[derive(Clone, Copy)]
 pub struct ListedWord<'a>(pub &'a [u8]);
@@ -57,7 +57,7 @@ impl Display for ListedWord<'_> {
     }
 }
 
-/// A text that is printed at the end of a line: as a [`Word`], but that a blank stands for itself.
+/// A text that is displayed at the end of a line: like a [`Word`], but a blank stands for itself.
 #[derive(Clone, Copy)]
 pub struct Tail<'a>(pub &'a [u8]);
 
@@ -76,7 +76,7 @@ impl Display for Tail<'_> {
     }
 }
 
-/// The word of a text that is not spelled byte by byte.
+/// Returns the word of a text that isn't spelled byte by byte.
 fn fixed_word(text: &[u8]) -> Option<&'static str>
     ensures { (kept : ℕ → Bool) → word_by kept text.now ≡ unwrap_or (option_copied result) (spelled kept text.now) }
 {
@@ -90,21 +90,21 @@ fn fixed_word(text: &[u8]) -> Option<&'static str>
     }
 }
 
-/// A text byte by byte.
+/// Spells a text byte by byte.
 fn plain(text: &[u8]) -> PercentEncode<'_>
     ensures { encoded_text result ≡ spelled is_plain text.now }
 {
     percent_encode(text, SPELLED)
 }
 
-/// A text byte by byte, as it is spelled in a list.
+/// Spells a text byte by byte, as in a list.
 fn plain_in_list(text: &[u8]) -> PercentEncode<'_>
     ensures { encoded_text result ≡ spelled is_plain_in_list text.now }
 {
     percent_encode(text, SPELLED_IN_LIST)
 }
 
-/// A text byte by byte, as it is spelled at the end of a line.
+/// Spells a text byte by byte, as at the end of a line.
 fn plain_at_end(text: &[u8]) -> PercentEncode<'_>
     ensures { encoded_text result ≡ spelled is_plain_at_end text.now }
 {

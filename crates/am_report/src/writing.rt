@@ -1,10 +1,11 @@
-//! All differences in lines.
+//! The lines of all differences.
 
 ghost use Rattle.std.specs.Prelude.{◌≡◌, ◌++◌, ℕ, List, map, All, IfOk, IfErr, string_bytes};
 ghost use Rattle.std.specs.Io.KnownBytes.{Appends};
 ghost use Rattle.am_merge.specs.Maps.{IsMap};
 ghost use Rattle.am_report.specs.Sources.{rest_of};
 ghost use Rattle.am_report.specs.Written.{AreLines, StopsLines};
+ghost use Rattle.am_report.specs.Less.{less_word};
 
 use crate::compared::Compared;
 use crate::difference::append_difference;
@@ -18,7 +19,7 @@ use am_streams::send;
 use std::alloc::{AllocError, Global};
 use std::io::Write;
 
-/// Appends the lines of what is left of all differences on a walk.
+/// Appends the lines of all differences that are left on a walk.
 fn append_left<V: ReportLine>(
     out: &mut String,
     sides: &mut [Side<'_, V>],
@@ -27,7 +28,7 @@ fn append_left<V: ReportLine>(
 ) -> Result<bool, AllocError>
     requires order { All (λ side. IsMap V.seen V.Key.cmp side.left) sides.old }
     ensures { IfOk result (λ found. (lines : List ℕ) ×
-        AreLines V.seen V.Key.cmp V.begins (V.told manner.now) (V.more manner.now) compared manner.now.moment (map rest_of sides.old) found lines ×
+        AreLines V.seen V.Key.cmp V.begins (V.told manner.now) (V.more manner.now) (less_word V.seen V.unknown_of V.known_of) compared manner.now.moment (map rest_of sides.old) found lines ×
         (string_bytes out.new ≡ string_bytes out.old ++ lines)) }
 {
     let mut found = false;
@@ -40,11 +41,11 @@ fn append_left<V: ReportLine>(
 
 /// Appends the lines of all differences of these sources: for each key at which not all of them show the same at the moment,
 /// or not all hold the same, in the order of the keys, a line for each group of them that hold the same there, the group of
-/// the greatest version first. Answers whether there is a difference.
+/// the greatest version first. Returns whether there is a difference.
 ///
 /// # Errors
 ///
-/// [`AllocError`] where memory runs out. A part of the lines may have been appended then.
+/// [`AllocError`] if memory runs out. A part of the lines may have been appended then.
 pub fn append_differences<V: ReportLine>(
     alloc: Global,
     out: &mut String,
@@ -53,20 +54,20 @@ pub fn append_differences<V: ReportLine>(
     manner: &Manner,
 ) -> Result<bool, AllocError>
     ensures { IfOk result (λ found. (lines : List ℕ) ×
-        AreLines V.seen V.Key.cmp V.begins (V.told manner.now) (V.more manner.now) compared manner.now.moment replicas.now found lines ×
+        AreLines V.seen V.Key.cmp V.begins (V.told manner.now) (V.more manner.now) (less_word V.seen V.unknown_of V.known_of) compared manner.now.moment replicas.now found lines ×
         (string_bytes out.new ≡ string_bytes out.old ++ lines)) }
 {
     let mut sides = sides_of(alloc, replicas)?;
     append_left(out, &mut sides, compared, manner)
 }
 
-/// Writes the lines of all differences of these sources, as [`append_differences`] appends them. Answers whether there is a
+/// Writes the lines of all differences of these sources, as [`append_differences`] appends them. Returns whether there is a
 /// difference.
 ///
 /// # Errors
 ///
-/// [`SnapshotError::Write`] where a write fails or takes nothing: exactly the first `written` bytes of the lines went out,
-/// and it is not tried again. [`SnapshotError::Memory`] where memory runs out, before a byte goes out.
+/// [`SnapshotError::Write`] if a write fails or takes nothing: exactly the first `written` bytes of the lines went out,
+/// and it is not tried again. [`SnapshotError::Memory`] if memory runs out, before a byte goes out.
 pub fn write_differences<V: ReportLine, W: Write>(
     alloc: Global,
     replicas: &[Replica<'_, V>],
@@ -75,10 +76,10 @@ pub fn write_differences<V: ReportLine, W: Write>(
     writer: &mut W,
 ) -> Result<bool, SnapshotError>
     ensures lines { IfOk result (λ found. (lines : List ℕ) ×
-        AreLines V.seen V.Key.cmp V.begins (V.told manner.now) (V.more manner.now) compared manner.now.moment replicas.now found lines ×
+        AreLines V.seen V.Key.cmp V.begins (V.told manner.now) (V.more manner.now) (less_word V.seen V.unknown_of V.known_of) compared manner.now.moment replicas.now found lines ×
         Appends (W.contents writer.old) (W.contents writer.new) lines) }
 
-    ensures stopped { IfErr result (StopsLines V.seen V.Key.cmp V.begins (V.told manner.now) (V.more manner.now) compared manner.now.moment replicas.now
+    ensures stopped { IfErr result (StopsLines V.seen V.Key.cmp V.begins (V.told manner.now) (V.more manner.now) (less_word V.seen V.unknown_of V.known_of) compared manner.now.moment replicas.now
         W.contents writer.old writer.new) }
 {
     let mut text = String::new(alloc);

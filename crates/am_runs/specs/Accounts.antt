@@ -1,4 +1,4 @@
--- What a run keeps beside its steps.
+-- The account that a run keeps beside its steps.
 -- X is the type of versions, and `seen` is what the merge sees of one.
 use Rattle.std.specs.Prelude.{ℕ, List, All}
 use Rattle.std.specs.declared.cmp.Ordering.{Ordering}
@@ -8,7 +8,7 @@ use Rattle.am_runs.specs.Runs.{IsRun}
 use Rattle.am_runs.specs.Standings.{AreStandings}
 use Rattle.am_runs.specs.Steps.{RunStep, delivered_in}
 
--- the steps are a run, what was delivered in them are values, and what stands of each member is so after them
+-- the steps are a run, the versions delivered in them are values, and each member's standing is right after them
 pub record IsAccount {K X : Type 0} (seen : X → Version K) (cmp : K → K → Ordering) (is_value : X → Type 0)
     (members : ℕ) (steps : List (RunStep X)) (standings : List (Standing X K)) : Type 0 where
   pub run : IsRun seen cmp members steps

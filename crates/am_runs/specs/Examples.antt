@@ -1,23 +1,23 @@
--- Worked runs, which show what the definitions mean. There is one key, and moments are whole numbers.
+-- Worked runs, which show the meaning of the definitions. There is one key, and moments are whole numbers.
 use Rattle.std.specs.Prelude.{ℕ, List, [], ◌∷◌}
 use Rattle.am_version_order.specs.Versions.{Version}
 use Rattle.am_runs.specs.declared.step.Source.TheVariants.{Made, Written, Arrived}
 use Rattle.am_runs.specs.Steps.{RunStep}
 use Rattle.am_runs.specs.Steps.RunStep.{Took, Ticked, Stopped, Started}
 
--- a version of one key, of these moments
+-- a version of the one key, with these moments
 abbrev pub version : ℕ → ℕ → Version ℕ
 version updated expires = record { key = 0; updated = updated; expires = expires; content = [] }
 
--- the greater one goes sooner
+-- the greater version, which expires sooner
 abbrev pub greater : Version ℕ
 greater = version 6 10
 
--- the lesser one stays longer
+-- the lesser version, which lives longer
 abbrev pub lesser : Version ℕ
 lesser = version 3 100
 
--- member 0 takes the greater one, collects it, and then takes the lesser one; member 1 takes both before it collects
+-- member 0 takes the greater version, collects it, and then takes the lesser one; member 1 takes both before it collects
 abbrev pub forgotten : List (RunStep (Version ℕ))
 forgotten =
     Took 0 7 (Written 6) (greater ∷ []) []
@@ -32,7 +32,7 @@ forgotten =
 abbrev pub spreading : Version ℕ
 spreading = version 10 200
 
--- member 0 restarts from nothing after the version came to both
+-- member 0 restarts from nothing after the version has come to both members
 abbrev pub restarted : List (RunStep (Version ℕ))
 restarted =
     Took 0 10 (Written 10) (spreading ∷ []) []
@@ -41,7 +41,7 @@ restarted =
     ∷ (Started 0 11
     ∷ [])))
 
--- and it acts when the version should have come to it
+-- the same run, in which member 0 acts when the version should have come to it
 abbrev pub behind : List (RunStep (Version ℕ))
 behind =
     Took 0 10 (Written 10) (spreading ∷ []) []
@@ -51,7 +51,7 @@ behind =
     ∷ (Took 0 15 Made [] []
     ∷ []))))
 
--- a version that expires soon after it was made
+-- a version that expires soon after it is made
 abbrev pub passing : Version ℕ
 passing = version 10 20
 

@@ -1,4 +1,4 @@
--- A run as contracts see it.
+-- Runs as contracts see them.
 use Rattle.std.specs.Prelude.{ℕ, List, map}
 use Rattle.am_runs.specs.declared.step.RunStep.{RunStep as Kept}
 use Rattle.am_runs.specs.declared.step.RunStep.TheVariants.{Took as KeptTook, Ticked as KeptTicked, Back as KeptBack}
@@ -12,7 +12,7 @@ use Rattle.am_runs.specs.Tests.{Lasts, Tops, Watched}
 use Rattle.am_runs.specs.Steps.{RunStep}
 use Rattle.am_runs.specs.Steps.RunStep.{Took, Ticked, Back, Refused, Saved, Stopped, Started}
 
--- a step without where its versions lie in memory
+-- a step, without the places of its versions in memory
 abbrev pub step_of : {X : Type 0} → Kept X → RunStep X
 step_of (KeptTook place now source versions frames) = Took place now source versions.items (map (λ frame. frame.items) frames.items)
 step_of (KeptTicked place now) = Ticked place now
@@ -22,20 +22,20 @@ step_of (KeptSaved place) = Saved place
 step_of (KeptStopped place) = Stopped place
 step_of (KeptStarted place now) = Started place now
 
--- how many members there are, the steps so far, and for how many more steps there is room
+-- the number of members, the steps so far, and the number of further steps for which there is room
 pub record Record (X : Type 0) : Type 0 where
   pub members : ℕ
   pub steps : List (RunStep X)
   pub room : ℕ
 
--- what the tests of calm go on with
+-- the last collections, for the tests of calm
 abbrev pub lasts_seen : KeptLasts → Lasts
 lasts_seen l = record { last = l.last; saved = l.saved }
 
--- of one key
+-- the greatest versions of one key, for the tests of calm
 abbrev pub tops_seen : {X : Type 0} → KeptTops X → Tops X
 tops_seen t = record { top = option_copied t.top; saved = option_copied t.saved }
 
--- what the test of a version's spread goes on with
+-- the state of the test of a version's spread
 abbrev pub watch_seen : Watch → Watched
 watch_seen w = record { runs = w.runs; has = w.has; saved = w.saved }

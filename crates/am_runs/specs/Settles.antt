@@ -1,4 +1,4 @@
--- The maps of a settle. A map is here the function from a key to its version.
+-- The maps of a settle. A map, here, is the function from a key to its version.
 -- X is the type of versions, and `seen` is what the merge sees of one.
 use Rattle.std.specs.Prelude.{ℕ, Option, None}
 use Rattle.std.proofs.Common.{zero, suc}

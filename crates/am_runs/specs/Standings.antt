@@ -1,4 +1,4 @@
--- What stands of members.
+-- The standings of members.
 -- X is the type of versions, and `seen` is what the merge sees of one.
 use Rattle.std.specs.Prelude.{◌≡◌, ℕ, List, Bool, true, Option, Some, None, IsTrue, ◌↔◌, MatchOption, if◌then◌else◌, slice_get}
 use Rattle.std.specs.declared.cmp.Ordering.{Ordering}
@@ -10,24 +10,24 @@ use Rattle.am_runs.specs.Steps.{RunStep, EachStep, IsFirstWithout}
 use Rattle.am_runs.specs.Steps.RunStep.{Took, Back}
 use Rattle.am_runs.specs.Tests.{Tops, last_from, lasts_from, runs_from, topped, tops_from, top_among, in_time, StaysCalm}
 
--- the first fault once a step of this number is made, with which the member stays calm or not
+-- the first fault after the step with this number, which the member stays calm with or not
 abbrev pub fault_after : Option ℕ → Bool → ℕ → Option ℕ
 fault_after (Some first) stays number = Some first
 fault_after None stays number = if stays then None else Some number
 
 module _ {K X : Type 0} (seen : X → Version K) (cmp : K → K → Ordering) where
-  -- the greatest versions that stand of a member at a key
+  -- the greatest versions of a key in a member's standing
   abbrev pub tops_at : Standing X K → K → Tops X
   tops_at standing key = record { top = at seen cmp standing.taken key; saved = at seen cmp standing.saved key }
 
-  -- with this step of the member it stays calm
+  -- the member stays calm with this step of its own
   abbrev pub Stays : Standing X K → RunStep X → Type 0
   Stays standing (Took place now source versions frames) =
       EachStep versions (λ done v. in_time seen (top_among seen cmp (seen v).key (at seen cmp standing.taken (seen v).key) done) standing.lasts.last now v ≡ true)
   Stays standing (Back place now) = ⊥
   Stays standing _ = Unit {0}
 
-  -- what a step of the member makes of what it took, and whether it stays calm
+  -- the standing after a step of the member, and whether the member stays calm
   pub record IsJudged (old new : Standing X K) (step : RunStep X) (stays : Bool) : Type 0 where
     pub calm : IsTrue stays ↔ Stays old step
     pub tops : (key : K) → tops_at new key ≡ topped seen cmp key (tops_at old key) step
@@ -36,7 +36,7 @@ module _ {K X : Type 0} (seen : X → Version K) (cmp : K → K → Ordering) wh
     pub lasts : new.lasts ≡ old.lasts
     pub fault : new.fault ≡ old.fault
 
-  -- what stands of a member after steps, where it runs at first
+  -- the standing of a member after steps, if it runs at first
   pub record IsStanding (q : ℕ) (standing : Standing X K) (steps : List (RunStep X)) : Type 0 where
     pub runs : standing.runs ≡ runs_from q true steps
     pub acted : standing.acted ≡ last_from q 0 steps
@@ -44,6 +44,6 @@ module _ {K X : Type 0} (seen : X → Version K) (cmp : K → K → Ordering) wh
     pub tops : (key : K) → tops_at standing key ≡ tops_from seen cmp q key (record { top = None; saved = None }) steps
     pub fault : MatchOption standing.fault (EachStep steps (StaysCalm seen cmp q)) (IsFirstWithout steps (StaysCalm seen cmp q))
 
-  -- what stands of the first members after steps
+  -- the standings of the first members after steps
   abbrev pub AreStandings : List (Standing X K) → List (RunStep X) → Type 0
   AreStandings standings steps = (q : ℕ) (standing : Standing X K) → slice_get standings q ≡ Some standing → IsStanding q standing steps

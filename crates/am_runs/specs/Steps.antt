@@ -1,35 +1,35 @@
--- Steps of a cluster of replicas, each as what it did to versions of one type. A run is a list of them.
+-- Steps of a cluster of replicas, each given by its effect on versions of one type. A run is a list of them.
 -- X is the type of versions.
 use Rattle.std.specs.Prelude.{◌≡◌, ℕ, List, [], ◌∷◌, ◌++◌, Bool, false, ◌==◌, Option, Some, None, map, length}
 use Rattle.std.specs.List.{flat_map}
 use Rattle.am_runs.specs.declared.step.Source.{Source}
 
--- Members are numbered from 0 on. A frame that is sent and lost is one that no later step delivers.
+-- Members are numbered from 0. A frame that is sent and lost is one that no later step delivers.
 pub data RunStep (X : Type 0) : Type 0 where
   -- an event of a member: the versions that it delivered, in order, and the versions in each frame that it sent
   Took : (place now : ℕ) (source : Source) (versions : List X) (frames : List (List X)) → RunStep X
   -- a member collected
   Ticked : (place now : ℕ) → RunStep X
-  -- refused to a member, since the moment is before that member's last one
+  -- a step was refused to a member, because its moment is before that member's last one
   Back : (place now : ℕ) → RunStep X
-  -- refused for another cause
+  -- a step was refused for another cause
   Refused : (now : ℕ) → RunStep X
   -- a member's copy was saved
   Saved : (place : ℕ) → RunStep X
   Stopped : (place : ℕ) → RunStep X
-  -- a member was started from its saved copy, or from nothing where none was saved
+  -- a member was started from its saved copy, or from nothing if none was saved
   Started : (place now : ℕ) → RunStep X
 
--- a frame in flight: when it was sent, and its versions
+-- a frame in flight: the moment of its sending, and its versions
 pub record SentFrame (X : Type 0) : Type 0 where
   pub sent : ℕ
   pub versions : List X
 
--- of each element of a list it holds, with those before it
+-- `P` holds for each element of a list, with the elements before it
 abbrev pub EachStep : {A : Type 0} → List A → (List A → A → Type 0) → Type 0
 EachStep {A} steps P = (before : List A) (step : A) (rest : List A) → before ++ step ∷ rest ≡ steps → P before step
 
--- the element of this number, counted from 0, is the first of which it doesn't hold
+-- the element with this number, counted from 0, is the first for which `P` doesn't hold
 pub record IsFirstWithout {A : Type 0} (steps : List A) (P : List A → A → Type 0) (number : ℕ) : Type 0 where
   pub before : List A
   pub step : A
@@ -39,13 +39,13 @@ pub record IsFirstWithout {A : Type 0} (steps : List A) (P : List A → A → Ty
   pub holds : EachStep before P
   pub fails : ¬ P before step
 
--- the last moment written, after a moment or none
+-- the last moment written, after one that may have none
 abbrev pub clock_after : ℕ → Option ℕ → ℕ
 clock_after clock None = clock
 clock_after clock (Some now) = now
 
 module _ {X : Type 0} where
-  -- the moment that is written in a step
+  -- the moment written in a step
   abbrev pub moment : RunStep X → Option ℕ
   moment (Took place now source versions frames) = Some now
   moment (Ticked place now) = Some now
@@ -88,7 +88,7 @@ module _ {X : Type 0} where
   abbrev pub flights_of : List (RunStep X) → List (SentFrame X)
   flights_of steps = flat_map flights_by steps
 
-  -- the step is one of this member
+  -- whether the step is one of this member
   abbrev pub is_at : ℕ → RunStep X → Bool
   is_at q (Took place now source versions frames) = place == q
   is_at q (Ticked place now) = place == q
@@ -98,7 +98,7 @@ module _ {X : Type 0} where
   is_at q (Stopped place) = place == q
   is_at q (Started place now) = place == q
 
-  -- refused to this member, since the moment is before its last one
+  -- whether the step was refused to this member because its moment is before the member's last one
   abbrev pub is_back_at : ℕ → RunStep X → Bool
   is_back_at q (Took place now source versions frames) = false
   is_back_at q (Ticked place now) = false

@@ -1,4 +1,5 @@
--- Runs that keep two times: after the spread each version has come to all members, and no frame flies for longer than the flight time.
+-- Runs that keep two times: each version comes to all members within the spread, and no frame flies for longer than the flight
+-- time.
 -- X is the type of versions, and `seen` is what the merge sees of one.
 use Rattle.std.specs.Prelude.{◌≡◌, ℕ, ◌+◌, ◌≤◌, List, true, false, IfSome, slice_get, All, Contains}
 use Rattle.am_version_order.specs.Versions.{Version, is_below}
@@ -13,7 +14,7 @@ module _ {X : Type 0} where
   abbrev pub IsOnward : List (RunStep X) → RunStep X → Type 0
   IsOnward before step = IfSome (moment step) (λ now. clock_from 0 before ≤ now)
 
-  -- versions that came in a frame came in time: what is made now, and what is lent in a settle, flies no time
+  -- versions in a frame came in time; versions made now, or lent in a settle, take no time
   abbrev pub IsSwiftFrom : ℕ → List (SentFrame X) → ℕ → Source → Type 0
   IsSwiftFrom flight flights now Made = Unit {0}
   IsSwiftFrom flight flights now (Written sent) = now ≤ sent + flight
@@ -51,5 +52,5 @@ module _ {K X : Type 0} (seen : X → Version K) where
     -- each version lives for the spread and the flight time at least
     pub lasting : All (λ v. ((seen v).updated + spread) + flight ≤ (seen v).expires) (delivered_in steps)
     pub swift : EachStep steps (IsSwift flight)
-    -- at each step with a moment, as it begins
+    -- each version is spread at the beginning of each step with a moment
     pub caught_up : EachStep steps (λ before step. IfSome (moment step) (IsSpread spread members (delivered_in steps) before))

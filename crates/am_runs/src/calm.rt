@@ -1,4 +1,4 @@
-//! Whether what a member took came in time.
+//! Tests of whether the versions that a member took came in time.
 
 ghost use Rattle.std.specs.Prelude.{◌≡◌, ℕ, [], ◌∷◌, map, IsTrue, ◌↔◌, true, MatchOption};
 ghost use Rattle.std.specs.Option.{option_copied};
@@ -14,7 +14,7 @@ ghost use Rattle.am_runs.specs.Tests.{tops_after, tops_from, last_in, comes_in_t
 use crate::step::RunStep;
 use am_version_order::{Moment, Version};
 
-/// The last collection of a member, and that of what is saved of it.
+/// The last collection of a member, and that of its saved copy.
 #[derive(Clone, Copy)]
 pub struct Lasts {
     pub last: Option<Moment>,
@@ -63,7 +63,7 @@ fn lasts_from<V>(member: usize, lasts: Lasts, steps: &[RunStep<V>]) -> Lasts
     lasts
 }
 
-/// Whether a collection had this moment or a later one.
+/// Returns whether a collection had this moment or a later one.
 fn has_reached(last: Option<Moment>, moment: Moment) -> bool
     ensures { result ≡ has_reached last moment }
 {
@@ -73,14 +73,14 @@ fn has_reached(last: Option<Moment>, moment: Moment) -> bool
     }
 }
 
-/// Of what was taken of a key, the greatest version of a member, and that of what is saved of it.
+/// The greatest version of a key taken by a member, and that of its saved copy.
 #[derive(Drop)]
 struct Tops<'a, V> {
     top: Option<&'a V>,
     saved: Option<&'a V>,
 }
 
-/// Whether the second of two versions of one key is the greater one.
+/// Returns whether the second of two versions of one key is the greater one.
 #[tactic(auto, unfolding(am_version_order::specs::Versions::is_below))]
 pub fn is_below<V: Version>(version: &V, other: &V) -> bool
     ensures { result ≡ is_below (V.seen version.now) (V.seen other.now) }
@@ -88,14 +88,14 @@ pub fn is_below<V: Version>(version: &V, other: &V) -> bool
     version.compare(other).is_lt()
 }
 
-/// Whether a version has a key.
+/// Returns whether a version has this key.
 pub fn has_key<V: Version>(key: &V::Key, version: &V) -> bool
     ensures { result ≡ eq_by_cmp V.Key.cmp (V.seen version.now).key key.now }
 {
     version.key().cmp(key).is_eq()
 }
 
-/// The greater one of two versions where the second has the key, else the first.
+/// Returns the greater one of two versions if the second has the key, or else the first.
 fn greater<'a, V: Version>(key: &V::Key, top: Option<&'a V>, version: &'a V) -> Option<&'a V>
     ensures { option_copied result
         ≡ greater_of V.seen (option_copied top.entry) (at V.seen V.Key.cmp (version.now ∷ []) key.now) }
@@ -109,7 +109,7 @@ fn greater<'a, V: Version>(key: &V::Key, top: Option<&'a V>, version: &'a V) -> 
     }
 }
 
-/// The greatest of a version and those in a list that have the key.
+/// Returns the greatest among a version and those in a list that have the key.
 fn top_among<'a, V: Version>(key: &V::Key, top: Option<&'a V>, versions: &'a [V]) -> Option<&'a V>
     ensures { option_copied result ≡ top_among V.seen V.Key.cmp key.now (option_copied top.entry) versions.now }
 {
@@ -148,7 +148,7 @@ fn tops_after<'a, V: Version>(
     }
 }
 
-/// The greatest version of a key that a member took in steps.
+/// Returns the greatest version of a key that a member took in steps.
 fn top_in<'a, V: Version>(member: usize, key: &V::Key, steps: &'a [RunStep<V>]) -> Option<&'a V>
     ensures { option_copied result ≡ top_in V.seen V.Key.cmp member key.now (map step_of steps.now) }
 {
@@ -162,7 +162,7 @@ fn top_in<'a, V: Version>(member: usize, key: &V::Key, steps: &'a [RunStep<V>]) 
     tops.top
 }
 
-/// The last collection of a member in steps.
+/// Returns the last collection of a member in steps.
 pub fn last_in<V>(member: usize, steps: &[RunStep<V>]) -> Option<Moment>
     ensures { result ≡ last_in member (map step_of steps.now) }
 {
@@ -173,7 +173,7 @@ pub fn last_in<V>(member: usize, steps: &[RunStep<V>]) -> Option<Moment>
     lasts_from(member, start, steps).last
 }
 
-/// Whether a version comes in time, by the greatest taken of its key and the last collection.
+/// Returns whether a version comes in time, given the greatest version taken of its key and the last collection.
 pub fn in_time<V: Version>(top: Option<&V>, last: Option<Moment>, now: Moment, version: &V) -> bool
     ensures { result ≡ in_time V.seen (option_copied top.entry) last now version.now }
 {
@@ -185,7 +185,7 @@ pub fn in_time<V: Version>(top: Option<&V>, last: Option<Moment>, now: Moment, v
     }
 }
 
-/// Whether a version of an event comes in time, after the steps before and the versions before it.
+/// Returns whether a version of an event comes in time, after the steps before and the versions before it.
 fn comes_in_time<V: Version>(
     member: usize,
     before: &[RunStep<V>],
@@ -200,7 +200,7 @@ fn comes_in_time<V: Version>(
     in_time(top, last_in(member, before), now, version)
 }
 
-/// Whether each version of an event does.
+/// Returns whether each version of an event comes in time.
 fn come_in_time<V: Version>(
     member: usize,
     before: &[RunStep<V>],
@@ -218,7 +218,7 @@ fn come_in_time<V: Version>(
     true
 }
 
-/// Whether a member that was calm stays so with a step.
+/// Returns whether a member that was calm stays calm with a step.
 fn stays_calm<V: Version>(member: usize, before: &[RunStep<V>], step: &RunStep<V>) -> bool
     ensures { IsTrue result ↔ StaysCalm V.seen V.Key.cmp member (map step_of before.now) (step_of step.now) }
 {
@@ -234,7 +234,7 @@ fn stays_calm<V: Version>(member: usize, before: &[RunStep<V>], step: &RunStep<V
     }
 }
 
-/// The number of the first step of a run, counted from 0, with which a member isn't calm, or `None` where it is calm.
+/// Returns the number of the first step of a run, counted from 0, after which a member isn't calm, or `None` if it is calm.
 pub fn first_fault<V: Version>(member: usize, steps: &[RunStep<V>]) -> Option<usize>
     ensures { (members : ℕ) → IsRun V.seen V.Key.cmp members (map step_of steps.now)
         → MatchOption result (IsCalmAt V.seen members member (map step_of steps.now))

@@ -1,4 +1,4 @@
-//! What holds of runs.
+//! Laws about runs.
 
 ghost use Rattle.std.specs.Prelude.{◌≡◌, ◌≢◌, ◌↔◌, ◌+◌, ◌<◌, ◌≤◌, ℕ, List, [], ◌∷◌, ◌++◌, true, false, Option, None};
 ghost use Rattle.std.specs.Prelude.{Some, All, Contains, IfSome};
@@ -16,7 +16,7 @@ ghost use Rattle.std.specs.Ordering.{nat_cmp};
 
 use am_version_order::Version;
 
-/// A run, its members and their calm go on by one step.
+/// States how one more step extends a run, its members and their calm.
 pub fn one_step_more<V: Version>()
     ensures run { (members : ℕ) (steps : List (RunStep V)) (step : RunStep V) →
         IsRun V.seen V.Key.cmp members (steps ++ step ∷ [])
@@ -28,8 +28,8 @@ pub fn one_step_more<V: Version>()
         ↔ (IsCalmAt V.seen members place steps × IsCalmStep V.seen members place steps step) }
 {}
 
-/// A calm member shows, at every key and at every moment from its last one on, what the bare set of all that it took
-/// shows there, whatever was lost, came twice or in another order, and across saves, stops and restarts.
+/// States that a calm member shows, at every key and at every moment from its last one on, the same as the bare set of all
+/// that it took, whatever was lost, repeated or reordered, and across saves, stops and restarts.
 pub fn calm_members_show_the_bare_set<V: Version>()
     ensures { (members place : ℕ) (steps : List (RunStep V)) (now : ℕ) (key : V.Key) →
         IsCalmAt V.seen members place steps →
@@ -38,7 +38,7 @@ pub fn calm_members_show_the_bare_set<V: Version>()
         IsViewAt V.seen (set_of member) now key (if_live V.seen now (map_of V.seen V.Key.cmp member.past key)) }
 {}
 
-/// Where a run keeps a spread and a flight time, every member is calm.
+/// States that every member is calm in a run that keeps a spread and a flight time.
 pub fn timely_runs_are_calm<V: Version>()
     // PROMISE: In a timely run every replica is calm, whatever was lost, repeated or restarted.
     ensures { (members spread flight : ℕ) (steps : List (RunStep V)) → 0 < spread →
@@ -46,8 +46,8 @@ pub fn timely_runs_are_calm<V: Version>()
         (place : ℕ) → IsCalmAt V.seen members place steps }
 {}
 
-/// When a step of a timely run begins, any two members that run show the same of each key of which every version
-/// delivered anywhere in the run was made a spread ago or earlier.
+/// States that when a step of a timely run begins, any two running members show the same for each key of which every version
+/// delivered anywhere in the run was made at least a spread ago.
 pub fn views_agree<V: Version>()
     // PROMISE: In a timely run, replicas show the same of each key whose versions are all old enough.
     ensures { (members spread flight now : ℕ) (before rest : List (RunStep V)) (step : RunStep V) (key : V.Key) → 0 < spread →
@@ -61,7 +61,7 @@ pub fn views_agree<V: Version>()
         ≡ if_live V.seen now (map_of V.seen V.Key.cmp (member_of members other before).past key) }
 {}
 
-/// A calm member shows nothing of a key exactly where no version of it that it took is best and live.
+/// States that a calm member shows nothing for a key exactly if no version of it that the member took is best and live.
 pub fn nothing_shown_exactly<V: Version>()
     ensures { (members place : ℕ) (steps : List (RunStep V)) (now : ℕ) (key : V.Key) →
         IsCalmAt V.seen members place steps →
@@ -71,8 +71,8 @@ pub fn nothing_shown_exactly<V: Version>()
         ↔ ((v : V) → IsInView V.seen (set_of member) now v → (V.seen v).key ≢ key) }
 {}
 
-/// When a step of a timely run begins, a member that runs shows nothing of the key of a version that was made a spread
-/// ago or earlier only where the greatest that it took of that key, at least as great as that one, isn't live any more.
+/// States that when a step of a timely run begins, a running member shows nothing for the key of a version made at least a
+/// spread ago only if the greatest version of that key that it took, at least as great as that one, isn't live any more.
 pub fn nothing_shown_after_a_spread<V: Version>()
     ensures { (members spread flight now : ℕ) (before rest : List (RunStep V)) (step : RunStep V) (v : V) → 0 < spread →
         let steps = before ++ step ∷ rest in
@@ -84,14 +84,14 @@ pub fn nothing_shown_after_a_spread<V: Version>()
         × (is_below (V.seen greatest) (V.seen v) ≡ false) × ((V.seen greatest).expires ≤ now) }
 {}
 
-/// Taking the versions of a map in an event joins what is held with that map.
+/// States that taking the versions of a map in an event joins that map to the held one.
 pub fn taking_a_map_joins_it<V: Version>()
     ensures { (past : Events V) (now : ℕ) (versions : List V) (key : V.Key) → IsMap V.seen V.Key.cmp versions →
         map_of V.seen V.Key.cmp (past ++ passes now versions) key
         ≡ greater_of V.seen (map_of V.seen V.Key.cmp past key) (at V.seen V.Key.cmp versions key) }
 {}
 
-/// What is the join of all members' maps stays so when it is joined to the map of one of them: so after a settle, in
+/// States that joining the join of all members' maps to the map of one of them gives that join again. So after a settle, in
 /// which the first member takes the maps of the others and then they take its map, all of them hold that join.
 pub fn settled<V: Version>()
     ensures { (members place : ℕ) (maps : ℕ → V.Key → Option V) (key : V.Key) →
@@ -100,9 +100,9 @@ pub fn settled<V: Version>()
         greater_of V.seen (maps place key) (join_of V.seen members maps key) ≡ join_of V.seen members maps key }
 {}
 
-/// Worked runs of two members. What a member forgot makes it uncalm, and it shows another version than one that took
-/// the same before it collected. After a restart from nothing a run is timely until that member acts while a version
-/// should have come to it again. And a version may come late in a timely run.
+/// States the results of worked runs of two members. Forgetting a version makes a member uncalm, and it shows another
+/// version than a member that took the same before it collected. After a restart from nothing a run is timely until that member
+/// acts when a version should have come to it again. And a version may come late in a timely run.
 pub fn worked_runs()
     // PROMISE: The premises can be met, and their lack makes a difference: worked runs.
     ensures forgotten { IsRun (λ v. v) nat_cmp 2 forgotten }

@@ -1,5 +1,5 @@
-//! Runs of a cluster of replicas: what each step did to the versions of one type, and what can be told from
-//! that: whether a member is calm, and whether the run keeps a spread and a flight time.
+//! Runs of a cluster of replicas: the effect of each step on the versions of one type, and answers to whether a member is calm
+//! and whether the run keeps a spread and a flight time.
 #![tactic(auto)]
 
 mod calm;

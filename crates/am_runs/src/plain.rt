@@ -1,3 +1,3 @@
-//! The question of calm as plain loops over steps: what a `Run` answers is compared with it in tests.
+//! The test of calm as plain loops over steps, with which tests compare the answers of a `Run`.
 
 pub use crate::calm::first_fault;

@@ -18,18 +18,18 @@ use am_version_order::{Interval, Moment, Version, versions_are_values};
 use std::alloc::{AllocError, Global};
 use std::marker::Model;
 
-/// What happened in a cluster so far, to the versions of one type.
+/// The history of a cluster so far, for the versions of one type.
 ///
 /// Contracts see it as the number of the members, the list of the steps, which is a run, and the room for more.
 pub struct Run<V: Version> {
     members: usize,
     steps: Vec<RunStep<V>>,
-    // (none, where memory ran out in noting a step: then the plain loops answer)
+    // Empty if memory ran out in noting a step; the plain loops answer then.
     standings: Vec<Standing<V>>,
     alloc: Global,
 }
 
-// (so that crates above cite one drop, and don't prove those of all that is inside)
+// Crates that use a run cite this one drop, and need not prove those of its parts.
 impl<V: Version> Drop for Run<V> {
     fn drop(self) {
         let Run {
@@ -59,7 +59,7 @@ impl<V: Version> Model for Run<V> {
 }
 
 impl<V: Version> Run<V> {
-    /// A run of so many members in which nothing happened yet: all of them run, and are empty. It takes no memory.
+    /// Creates a run of `members` members in which nothing has happened yet: all of them run, and are empty. This takes no memory.
     pub fn new(alloc: Global, members: usize) -> Self
         ensures members { result.members ≡ members }
         ensures steps { result.steps ≡ [] }
@@ -72,22 +72,21 @@ impl<V: Version> Run<V> {
         }
     }
 
-    /// How many members there are.
+    /// Returns the number of members.
     pub fn members(&self) -> usize
         ensures { result ≡ self.now.members }
     {
         self.members
     }
 
-    /// The steps so far, in order.
+    /// Returns the steps so far, in order.
     pub fn steps(&self) -> &[RunStep<V>]
         ensures { map step_of result.now ≡ self.now.steps }
     {
         &self.steps
     }
 
-    /// Says how the record hangs together: the steps are a run, and what was delivered in them are values of their type. It
-    /// does nothing.
+    /// States that the record is consistent: the steps are a run, and the versions delivered in them are values of their type.
     pub fn consistency(&self)
         ensures run { IsRun V.seen V.Key.cmp self.now.members self.now.steps }
         ensures values { All V.is_value (delivered_in self.now.steps) }
@@ -95,11 +94,11 @@ impl<V: Version> Run<V> {
         let _steps = &self.steps;
     }
 
-    /// Makes room for so many steps.
+    /// Makes room for `steps` more steps.
     ///
     /// # Errors
     ///
-    /// [`AllocError`] where memory runs out. There is no less room then than before.
+    /// Returns [`AllocError`] if memory runs out. There is then no less room than before.
     pub fn make_room(&mut self, steps: usize) -> Result<(), AllocError>
         ensures members { self.new.members ≡ self.old.members }
         ensures steps { self.new.steps ≡ self.old.steps }
@@ -110,7 +109,7 @@ impl<V: Version> Run<V> {
         self.steps.reserve(steps)
     }
 
-    /// Writes down what happened. Where no memory is found for what makes answers quick, they take longer.
+    /// Appends a step. If there is no memory for the indexes that make answers quick, answers take longer.
     pub fn append(&mut self, step: RunStep<V>)
         requires room { 0 < self.old.room }
         requires possible { IsPossible V.seen V.Key.cmp self.old.members self.old.steps (step_of step) }
@@ -124,7 +123,7 @@ impl<V: Version> Run<V> {
         self.steps.push_reserved(step);
     }
 
-    /// Whether a member runs. It takes no memory.
+    /// Returns whether a member runs. This takes no memory.
     pub fn runs(&self, place: usize) -> bool
         ensures { result ≡ (member_of self.now.members place self.now.steps).runs }
     {
@@ -134,7 +133,7 @@ impl<V: Version> Run<V> {
         }
     }
 
-    /// The moment of a member's last event or start, or the first moment where it had none. It takes no memory.
+    /// Returns the moment of a member's last event or start, or the first moment if it had none. This takes no memory.
     pub fn last(&self, place: usize) -> Moment
         ensures { result ≡ last_of (member_of self.now.members place self.now.steps) }
     {
@@ -144,7 +143,7 @@ impl<V: Version> Run<V> {
         }
     }
 
-    /// The number of the first step, counted from 0, with which a member is not calm, or `None` where it is calm. It
+    /// Returns the number of the first step, counted from 0, after which a member is not calm, or `None` if it is calm. This
     /// takes no memory.
     pub fn first_fault(&self, place: usize) -> Option<usize>
         ensures { MatchOption result (IsCalmAt V.seen self.now.members place self.now.steps)
@@ -156,7 +155,7 @@ impl<V: Version> Run<V> {
         }
     }
 
-    /// Whether the run keeps a spread and a flight time. It takes no memory.
+    /// Returns whether the run keeps a spread and a flight time. This takes no memory.
     pub fn timely(&self, spread: Interval, flight: Interval) -> bool
         // PROMISE: Whether a run was timely is answered exactly.
         ensures exactly { IsTrue result ↔ IsTimely V.seen spread flight self.now.members self.now.steps }

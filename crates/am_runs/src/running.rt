@@ -1,4 +1,4 @@
-//! Whether a member runs, and its moments.
+//! Tests of whether a member runs, and its moments.
 
 ghost use Rattle.std.specs.Prelude.{◌≡◌, map};
 ghost use Rattle.am_runs.specs.Records.{step_of};
@@ -7,7 +7,7 @@ ghost use Rattle.am_runs.specs.Tests.{runs_after, runs_from, last_after, last_fr
 use crate::step::RunStep;
 use am_version_order::Moment;
 
-/// Whether a member runs after a step, where it ran before that or not.
+/// Returns whether a member runs after a step, given whether it ran before.
 pub fn runs_after<V>(member: usize, runs: bool, step: &RunStep<V>) -> bool
     ensures { result ≡ runs_after member runs (step_of step.now) }
 {
@@ -18,7 +18,7 @@ pub fn runs_after<V>(member: usize, runs: bool, step: &RunStep<V>) -> bool
     }
 }
 
-/// Whether it runs after steps.
+/// Returns whether a member runs after steps, given whether it ran before.
 pub fn runs_from<V>(member: usize, runs: bool, steps: &[RunStep<V>]) -> bool
     ensures { result ≡ runs_from member runs (map step_of steps.now) }
 {
@@ -29,7 +29,7 @@ pub fn runs_from<V>(member: usize, runs: bool, steps: &[RunStep<V>]) -> bool
     runs
 }
 
-/// The moment of a member's last event or start after a step, where it was this before that.
+/// Returns the moment of a member's last event or start after a step, given that moment before it.
 pub fn last_after<V>(member: usize, last: Moment, step: &RunStep<V>) -> Moment
     ensures { result ≡ last_after member last (step_of step.now) }
 {
@@ -43,7 +43,7 @@ pub fn last_after<V>(member: usize, last: Moment, step: &RunStep<V>) -> Moment
     }
 }
 
-/// The moment of its last event or start in steps, or the first moment.
+/// Returns the moment of a member's last event or start in steps, or the first moment.
 pub fn last_from<V>(member: usize, steps: &[RunStep<V>]) -> Moment
     ensures { result ≡ last_from member 0 (map step_of steps.now) }
 {

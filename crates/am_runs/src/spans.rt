@@ -5,21 +5,21 @@ ghost use Rattle.am_version_order.specs.Moments.{greatest};
 
 use am_version_order::{Interval, Moment};
 
-/// Says that a moment is at most the last one. It does nothing.
+/// States that a moment is at most the last one.
 fn lies_in_range(moment: Moment)
     ensures { moment ≤ greatest }
 {
     let _parts = moment.parts();
 }
 
-/// Says that an interval is not empty. It does nothing.
+/// States that an interval is not empty.
 pub fn is_some_time(interval: Interval)
     ensures { 0 < interval }
 {
     let _sum = Moment::LEAST.checked_add(interval);
 }
 
-/// Whether so long after a start is at most this moment.
+/// Returns whether a start plus an interval is at most this moment.
 pub fn ends_by(start: Moment, interval: Interval, moment: Moment) -> bool
     ensures { result ≡ nat_le (start + interval) moment }
 {
@@ -30,7 +30,7 @@ pub fn ends_by(start: Moment, interval: Interval, moment: Moment) -> bool
     }
 }
 
-/// Whether a moment is at most so long after a start.
+/// Returns whether a moment is at most a start plus an interval.
 pub fn is_within(moment: Moment, start: Moment, interval: Interval) -> bool
     ensures { result ≡ nat_le moment (start + interval) }
 {
@@ -41,7 +41,7 @@ pub fn is_within(moment: Moment, start: Moment, interval: Interval) -> bool
     }
 }
 
-/// Whether two intervals after a start are at most this moment.
+/// Returns whether a start plus two intervals is at most this moment.
 pub fn both_end_by(start: Moment, first: Interval, second: Interval, moment: Moment) -> bool
     ensures { result ≡ nat_le ((start + first) + second) moment }
 {

@@ -1,4 +1,4 @@
-//! What stands of a member: what it took, its last collection, and the first step with which it isn't calm.
+//! A member's standing: the versions that it took, its last collection, and the first step after which it isn't calm.
 
 ghost use Rattle.std.specs.Prelude.{◌≡◌, ℕ, ◌++◌, ◌∷◌, [], ◌↔◌, IsTrue, true, map, IfOk, OnOk};
 ghost use Rattle.am_merge.specs.Maps.{at};
@@ -14,26 +14,26 @@ use am_merge::Held;
 use am_version_order::{Moment, Version};
 use std::alloc::{AllocError, Global};
 
-/// What stands of a member.
+/// The standing of a member.
 #[derive(Drop)]
 pub struct Standing<V: Version> {
     pub runs: bool,
-    /// The moment of its last event or start.
+    /// The moment of the member's last event or start.
     pub acted: Moment,
     pub lasts: Lasts,
-    /// The number of the first step with which it is not calm.
+    /// The number of the first step after which the member is not calm.
     pub fault: Option<usize>,
-    /// The greatest version of each key that it took; none is ever dropped.
+    /// The greatest version of each key that the member took; none is ever dropped.
     pub taken: Held<V>,
-    /// What is saved of that.
+    /// The greatest versions in the saved copy.
     pub saved: Held<V>,
 }
 
-/// Makes what stands of so many members where there is no step yet.
+/// Creates the standings of members before the first step.
 ///
 /// # Errors
 ///
-/// [`AllocError`] where memory runs out. What was made stands.
+/// Returns [`AllocError`] if memory runs out. The standings created so far are kept.
 pub fn fill_first<V: Version>(
     alloc: Global,
     standings: &mut Vec<Standing<V>>,
@@ -49,7 +49,7 @@ pub fn fill_first<V: Version>(
     fill(alloc, standings, members)
 }
 
-/// Makes what stands of so many members, of which nothing is known yet.
+/// Creates the missing standings of `members` members, of which nothing is known yet.
 fn fill<V: Version>(
     alloc: Global,
     standings: &mut Vec<Standing<V>>,
@@ -73,7 +73,7 @@ fn fill<V: Version>(
     Ok(())
 }
 
-/// Whether each version that a member takes in an event comes in time; and all of them are taken.
+/// Takes all versions of an event, and returns whether each came in time.
 fn take_all<V: Version>(
     taken: &mut Held<V>,
     last: Option<Moment>,
@@ -96,7 +96,7 @@ fn take_all<V: Version>(
     Ok(calm)
 }
 
-/// Whether a member stays calm with a step of it; and what it took, and what is saved of that, is kept.
+/// Updates a member's taken and saved versions by a step of its own, and returns whether it stays calm.
 fn judge<V: Version>(standing: &mut Standing<V>, step: &RunStep<V>) -> Result<bool, AllocError>
     ensures { IfOk result (IsJudged V.seen V.Key.cmp standing.old standing.new (step_of step.now)) }
 {
@@ -126,7 +126,7 @@ fn fault_after(fault: Option<usize>, stays: bool, number: usize) -> Option<usize
     Some(number)
 }
 
-/// Notes a step of this number, which is one of the member.
+/// Notes the step with this number, which is one of the member.
 fn update_indexes<V: Version>(
     standing: &mut Standing<V>,
     member: usize,
@@ -145,7 +145,7 @@ fn update_indexes<V: Version>(
     Ok(())
 }
 
-/// Notes a step behind those before it. Where memory runs out nothing stands of any member any more.
+/// Notes a step after those before it. If memory runs out, all standings are dropped.
 pub fn note<V: Version>(standings: &mut Vec<Standing<V>>, before: &[RunStep<V>], step: &RunStep<V>)
     ensures { AreStandings V.seen V.Key.cmp standings.old.items (map step_of before.now)
         → AreStandings V.seen V.Key.cmp standings.new.items (map step_of before.now ++ step_of step.now ∷ []) }

@@ -6,21 +6,21 @@ ghost use Rattle.am_runs.specs.Steps.{is_at, moment, delivered_by, flights_by};
 
 use am_version_order::Moment;
 
-/// Where the versions that a step delivers come from.
+/// The source of the versions that a step delivers.
 #[derive(Clone, Copy, PartialEq, Eq)]
 pub enum Source {
     /// The step made them.
     Made,
-    /// They were written into a frame that counts as sent at this moment, the least update moment of all its versions,
-    /// also of those that want of memory left out.
+    /// They were written into a frame that counts as sent at this moment, the least update moment of all its versions, including
+    /// those left out for want of memory.
     Written(Moment),
-    /// They came in the frame of this number among all that were ever sent, counted from 0.
+    /// They came in the frame with this number among all that were ever sent, counted from 0.
     Arrived(usize),
-    /// The member at this place lent them from its map as it stands.
+    /// The member at this place lent them from its current map.
     Lent(usize),
 }
 
-/// What a step did, to the versions of one type.
+/// The effect of a step on the versions of one type.
 #[derive(Drop)]
 pub enum RunStep<V> {
     /// An event of a member: the versions that it delivered, in order, and the versions in each frame that it sent.
@@ -36,12 +36,12 @@ pub enum RunStep<V> {
         place: usize,
         now: Moment,
     },
-    /// Refused to a member, since the moment is before that member's last one.
+    /// A step was refused to a member, because its moment is before that member's last one.
     Back {
         place: usize,
         now: Moment,
     },
-    /// Refused for another cause.
+    /// A step was refused for another cause.
     Refused {
         now: Moment,
     },
@@ -53,7 +53,7 @@ pub enum RunStep<V> {
     Stopped {
         place: usize,
     },
-    /// A member was started from its saved copy, or from nothing where none was saved.
+    /// A member was started from its saved copy, or from nothing if none was saved.
     Started {
         place: usize,
         now: Moment,
@@ -61,7 +61,7 @@ pub enum RunStep<V> {
 }
 
 impl<V> RunStep<V> {
-    /// Whether it is a step of this member.
+    /// Returns whether this is a step of the member.
     pub fn is_at(&self, member: usize) -> bool
         ensures { result ≡ is_at member (step_of self.now) }
     {
@@ -76,7 +76,7 @@ impl<V> RunStep<V> {
         }
     }
 
-    /// The place of the member that it is a step of.
+    /// Returns the place of the member whose step this is.
     pub fn place(&self) -> Option<usize>
         ensures { MatchOption result ((q : ℕ) → is_at q (step_of self.now) ≡ false) (λ place. (q : ℕ) →
             is_at q (step_of self.now) ≡ (place == q)) }
@@ -92,7 +92,7 @@ impl<V> RunStep<V> {
         }
     }
 
-    /// The moment that is written in it.
+    /// Returns the moment written in the step.
     pub fn moment(&self) -> Option<Moment>
         ensures { result ≡ moment (step_of self.now) }
     {
@@ -106,7 +106,7 @@ impl<V> RunStep<V> {
         }
     }
 
-    /// The versions that it delivered.
+    /// Returns the versions that the step delivered.
     pub fn versions(&self) -> &[V]
         ensures { result.now ≡ delivered_by (step_of self.now) }
     {
@@ -116,7 +116,7 @@ impl<V> RunStep<V> {
         }
     }
 
-    /// How many frames it sent.
+    /// Returns the number of frames that the step sent.
     pub fn sendings(&self) -> usize
         ensures { result ≡ length (flights_by (step_of self.now)) }
     {

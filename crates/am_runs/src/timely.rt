@@ -1,4 +1,4 @@
-//! Whether a run keeps a spread and a flight time, by plain loops.
+//! Tests of whether a run keeps a spread and a flight time, by plain loops.
 
 ghost use Rattle.std.specs.Prelude.{◌≡◌, ◌+◌, ◌<◌, ◌≤◌, ◌↔◌, IsTrue, All, true, false, map};
 ghost use Rattle.std.specs.List.{list_all, list_any};
@@ -23,7 +23,7 @@ fn is_monotone(clock: Moment, now: Option<Moment>) -> bool
     }
 }
 
-/// Whether the moments written in steps never fall.
+/// Returns whether the moments written in steps never decrease.
 fn are_monotone<V>(steps: &[RunStep<V>]) -> bool
     ensures { result ≡ are_monotone 0 (map step_of steps.now) }
 {
@@ -37,14 +37,14 @@ fn are_monotone<V>(steps: &[RunStep<V>]) -> bool
     true
 }
 
-/// Whether a version lives for the spread and the flight time at least.
+/// Returns whether a version lives at least for the spread and the flight time.
 fn is_lasting<V: Version>(version: &V, spread: Interval, flight: Interval) -> bool
     ensures { IsTrue result ↔ (((V.seen version.now).updated + spread) + flight ≤ (V.seen version.now).expires) }
 {
     both_end_by(version.updated(), spread, flight, version.expires())
 }
 
-/// Whether each of the versions lives for the spread and the flight time at least.
+/// Returns whether each of the versions lives at least for the spread and the flight time.
 fn are_lasting<V: Version>(versions: &[V], spread: Interval, flight: Interval) -> bool
     ensures { IsTrue result ↔ All (λ v. ((V.seen v).updated + spread) + flight ≤ (V.seen v).expires) versions.now }
 {
@@ -56,7 +56,7 @@ fn are_lasting<V: Version>(versions: &[V], spread: Interval, flight: Interval) -
     true
 }
 
-/// Whether each version delivered in steps does.
+/// Returns whether each version delivered in steps lives at least for the spread and the flight time.
 fn all_lasting<V: Version>(steps: &[RunStep<V>], spread: Interval, flight: Interval) -> bool
     ensures { IsTrue result ↔ All (λ v. ((V.seen v).updated + spread) + flight ≤ (V.seen v).expires)
         (delivered_in (map step_of steps.now)) }
@@ -69,7 +69,7 @@ fn all_lasting<V: Version>(steps: &[RunStep<V>], spread: Interval, flight: Inter
     true
 }
 
-/// When the frame of this number was sent.
+/// Returns the moment when the frame with this number was sent.
 fn sent_in<V>(number: usize, steps: &[RunStep<V>]) -> Option<Moment>
     ensures { result ≡ sent_in number (map step_of steps.now) }
 {
@@ -84,7 +84,7 @@ fn sent_in<V>(number: usize, steps: &[RunStep<V>]) -> Option<Moment>
     None
 }
 
-/// When the versions of a source were sent, if they were.
+/// Returns the moment when the versions of a source were sent, if they were.
 fn sent_at<V>(steps: &[RunStep<V>], source: Source) -> Option<Moment>
     ensures { result ≡ sent_at (map step_of steps.now) source }
 {
@@ -104,7 +104,7 @@ fn flies_short(flight: Interval, now: Moment, sent: Option<Moment>) -> bool
     }
 }
 
-/// Whether what a step delivered came in time.
+/// Returns whether the versions that a step delivered came in time.
 fn arrived_in_time<V>(flight: Interval, steps: &[RunStep<V>], step: &RunStep<V>) -> bool
     ensures { result ≡ arrived_in_time flight (map step_of steps.now) (step_of step.now) }
 {
@@ -114,7 +114,7 @@ fn arrived_in_time<V>(flight: Interval, steps: &[RunStep<V>], step: &RunStep<V>)
     }
 }
 
-/// Whether what each step delivered came in time.
+/// Returns whether the versions that each step delivered came in time.
 fn are_swift<V>(flight: Interval, steps: &[RunStep<V>]) -> bool
     ensures { result ≡ list_all (arrived_in_time flight (map step_of steps.now)) (map step_of steps.now) }
 {
@@ -126,7 +126,8 @@ fn are_swift<V>(flight: Interval, steps: &[RunStep<V>]) -> bool
     true
 }
 
-/// Of a member and of what is saved of it: whether it runs, and whether it has a version or a greater one of its key.
+/// The state of a test for one version: whether a member runs, and whether it, and its saved copy, have that version or a greater
+/// one of its key.
 #[derive(Clone, Copy)]
 struct Watch {
     runs: bool,
@@ -134,7 +135,7 @@ struct Watch {
     saved: bool,
 }
 
-/// Whether a version should have come by a moment, and the member runs without it.
+/// Returns whether a version should have come by a moment, and the member runs without it.
 fn is_wanting<V: Version>(spread: Interval, version: &V, watch: Watch, now: Option<Moment>) -> bool
     ensures { result ≡ is_wanting ((V.seen version.now).updated + spread) (watch_seen watch) now }
 {
@@ -144,7 +145,7 @@ fn is_wanting<V: Version>(spread: Interval, version: &V, watch: Watch, now: Opti
     }
 }
 
-/// Whether a version that was taken is this one, or a greater one of its key.
+/// Returns whether a taken version is this one, or a greater one of its key.
 fn counts_for<V: Version>(version: &V, taken: &V) -> bool
     ensures { result ≡ counts_for V.seen V.Key.cmp version.now taken.now }
 {
@@ -195,7 +196,7 @@ fn watch_after<V: Version>(member: usize, version: &V, watch: Watch, step: &RunS
     }
 }
 
-/// Whether at no step that begins when a version should have come the member runs without it.
+/// Returns whether the member never runs without a version at the beginning of a step by which it should have come.
 fn comes<V: Version>(spread: Interval, member: usize, version: &V, steps: &[RunStep<V>]) -> bool
     ensures { result ≡ comes V.seen V.Key.cmp spread member version.now
         (record { runs = true; has = false; saved = false }) (map step_of steps.now) }
@@ -214,7 +215,7 @@ fn comes<V: Version>(spread: Interval, member: usize, version: &V, steps: &[RunS
     true
 }
 
-/// Whether a version comes to each member.
+/// Returns whether a version comes to each member.
 fn comes_to_all<V: Version>(
     spread: Interval,
     members: usize,
@@ -231,7 +232,7 @@ fn comes_to_all<V: Version>(
     true
 }
 
-/// Whether each of the versions does.
+/// Returns whether each of the versions comes to each member.
 fn come_to_all<V: Version>(
     spread: Interval,
     members: usize,
@@ -248,7 +249,7 @@ fn come_to_all<V: Version>(
     true
 }
 
-/// Whether each version delivered in some of the steps does.
+/// Returns whether each version delivered in some of the steps comes to each member.
 fn all_come_to_all<V: Version>(spread: Interval, members: usize, steps: &[RunStep<V>]) -> bool
     ensures { IsTrue result ↔ All (ComesToAll V.seen V.Key.cmp spread members (map step_of steps.now))
         (delivered_in (map step_of steps.now)) }
@@ -261,7 +262,7 @@ fn all_come_to_all<V: Version>(spread: Interval, members: usize, steps: &[RunSte
     true
 }
 
-/// Whether a run of so many members keeps a spread and a flight time.
+/// Returns whether a run of `members` members keeps a spread and a flight time.
 pub fn is_timely<V: Version>(
     spread: Interval,
     flight: Interval,

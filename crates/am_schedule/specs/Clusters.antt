@@ -11,21 +11,21 @@ use Rattle.am_schedule.specs.Numbers.{seconds_in}
 use Rattle.am_schedule.specs.Lists.{are_new}
 use Rattle.am_schedule.specs.Places.{read_at, has_word}
 
--- a member's name has 1 to 255 bytes, and is no word that stands where a name could
+-- a member's name has 1 to 255 bytes, and is none of the words that may stand in a name's place
 unfoldable pub is_name : List ℕ → Bool
 is_name word = (nat_lt 0 (length word) && nat_le (length word) 255)
     && (not (bytes_eq word (codes "deliver")) && not (bytes_eq word (codes "settle")))
 
--- distinct names
+-- the words as names, if they are distinct names
 unfoldable pub names_in : List (List ℕ) → Option (List (List ℕ))
 names_in words = if list_all is_name words && are_new [] words then Some words else None
 
--- whatever is wrong inside the line makes it a wrong cluster line
+-- a result in which any fault is a wrong cluster line
 abbrev pub as_cluster : {A : Type 0} → Result A FaultKind → Result A FaultKind
 as_cluster (Ok x) = Ok x
 as_cluster (Err kind) = Err Cluster
 
--- the numbers and the 1 to 16 names
+-- the numbers and the 1 to 16 names of a cluster line
 unfoldable pub cluster_parts : List (List ℕ) → Result ClusterLine FaultKind
 cluster_parts words = do
   retention ← as_cluster (read_at seconds_in 1 words)
@@ -33,7 +33,7 @@ cluster_parts words = do
   names ← or_fault Cluster (names_in (drop 3 words))
   Ok (record { names = names; retention = retention; peer_timeout = peer_timeout })
 
--- whether a line has the verb of a cluster, and as many words as that wants
+-- whether a line has the verb of a cluster line, and as many words as that needs
 abbrev pub has_cluster_form : List (List ℕ) → Bool
 has_cluster_form words = has_word 0 (codes "cluster") words && (nat_le 4 (length words) && nat_le (length words) 19)
 

@@ -16,17 +16,17 @@ use Rattle.am_schedule.specs.Words.{is_short}
 abbrev pub is_label : List ℕ → Bool
 is_label word = nat_lt 0 (length word) && is_short word
 
--- the version of a silence, where the line is one
+-- the version of a silence, if the line is one
 abbrev pub silence_of : VersionLine → Option SilenceLine
 silence_of (Silence line) = Some line
 silence_of (Log line) = None
 
--- the version of an entry, where the line is one
+-- the version of an entry, if the line is one
 abbrev pub log_of : VersionLine → Option LogLine
 log_of (Silence line) = None
 log_of (Log line) = Some line
 
--- versions that are all of one state
+-- versions that all belong to one state
 abbrev pub of_one_state : List SilenceLine → List LogLine → Result Versions FaultKind
 of_one_state silences [] = Ok (states.Silences silences)
 of_one_state [] (line ∷ lines) = Ok (states.Log (line ∷ lines))

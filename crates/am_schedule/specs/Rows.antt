@@ -1,4 +1,4 @@
--- The table of lines: for each verb the places behind it, and what their values make.
+-- The table of lines: the places after each verb, and what their values make.
 use Rattle.std.specs.Prelude.{ℕ, ◌+◌, Bool, List, [], ◌∷◌, length, drop, Option, None, Result, Ok, ◌==◌, nat_le, ◌&&◌, codes}
 use Rattle.am_schedule.specs.declared.error.FaultKind.{FaultKind}
 use Rattle.am_schedule.specs.declared.form.Verb.{Verb}
@@ -25,62 +25,62 @@ use Rattle.am_schedule.specs.Slots.{identifier, ValueOf, value_at}
 
 -- ---- rows
 
--- what stands behind the places of a line
+-- the words after the places of a line
 pub data Rest : Type 0 where
   nothing : Rest
-  -- one label or more
+  -- one or more labels
   labels : Rest
-  -- one pair or more
+  -- one or more pairs
   pairs : Rest
 
--- a function of what stands behind the places
+-- a function of the words after the places
 abbrev pub MakesOfRest : Rest → Type 0 → Type 0
 MakesOfRest nothing R = R
 MakesOfRest labels R = Versions → R
 MakesOfRest pairs R = List Pair → R
 
--- a function of the values of places and of what stands behind them
+-- a function of the values of places and of the words after them
 abbrev pub Makes : List Slot → Rest → Type 0 → Type 0
 Makes [] rest R = MakesOfRest rest R
 Makes (slot ∷ slots) rest R = ValueOf slot → Makes slots rest R
 
--- a row of the table: places from the left, what stands behind them, and what all that makes
+-- a row of the table: the places from the left, the words after them, and what they all make
 pub record Row (R : Type 0) : Type 0 where
   pub slots : List Slot
   pub rest : Rest
   pub makes : Makes slots rest R
 
--- a row of these parts
+-- the row of these parts
 abbrev pub row : {R : Type 0} → (slots : List Slot) → (rest : Rest) → Makes slots rest R → Row R
 row slots rest makes = record { slots = slots; rest = rest; makes = makes }
 
--- whether so many words are as many as a row wants
+-- whether a line has as many words as a row needs
 abbrev pub is_count : Rest → ℕ → ℕ → Bool
 is_count nothing places count = count == places
 is_count labels places count = nat_le (places + 1) count
 is_count pairs places count = nat_le (places + 1) count
 
--- whether a line has as many words as a row wants whose places begin at a word
+-- whether a line has as many words as a row needs, if the row's places begin at the word `first`
 abbrev pub has_count : {R : Type 0} → ℕ → Row R → List (List ℕ) → Bool
 has_count first row words = is_count row.rest (first + length row.slots) (length words)
 
 -- ---- the rule of faults: word by word from the left, and the first word at fault decides
 
--- what is made with the words behind the places
+-- the result of the words after the places
 abbrev pub rest_by : {R : Type 0} → (List ℕ → Option VersionLine) → (rest : Rest) → MakesOfRest rest R → List (List ℕ) → Result R FaultKind
 rest_by version nothing makes words = Ok makes
 rest_by version labels makes words = versions_in version words >>= λ versions. Ok (makes versions)
 rest_by version pairs makes words = pairs_in words >>= λ pairs. Ok (makes pairs)
 
--- what is made of the words from a place on
+-- the result of the words from a place on
 abbrev pub read_by : {R : Type 0} → List (List ℕ) → (List ℕ → Option VersionLine) → ℕ
     → (slots : List Slot) → (rest : Rest) → Makes slots rest R → List (List ℕ) → Result R FaultKind
 read_by names version place [] rest makes words = rest_by version rest makes (drop place words)
 read_by names version place (slot ∷ slots) rest makes words =
     value_at names slot (word_at place words) >>= λ value. read_by names version (place + 1) slots rest (makes value) words
 
--- what the words of a line make by a row whose places begin at a word; `names` are the members and `version` knows
--- the labels
+-- the result of the words of a line by a row whose places begin at the word `first`; `names` are the members and `version`
+-- knows the labels
 abbrev pub by_row : {R : Type 0} → List (List ℕ) → (List ℕ → Option VersionLine) → ℕ → Row R → List (List ℕ) → Result R FaultKind
 by_row names version first row words = read_by names version first row.slots row.rest row.makes words
 
@@ -114,7 +114,7 @@ group_row = row (text ∷ text ∷ hashes ∷ hashes ∷ interval ∷ []) nothin
     (λ group receiver firing resolved repeat.
     record { group = group; receiver = receiver; firing = firing; resolved = resolved; repeat = repeat })
 
--- at T NAME VERB ..: what stands behind the verb
+-- at T NAME VERB ..: the words after the verb
 abbrev pub event_row : Verb → Row LineEvent
 event_row verbs.From = row (member ∷ []) labels (λ peer versions. events.From peer versions)
 event_row verbs.Post = row (identifier ∷ bits ∷ whole_moment ∷ whole_moment ∷ text ∷ text ∷ []) nothing
@@ -143,7 +143,7 @@ verb_word verbs.Tick = codes "tick"
 verb_word verbs.Pull = codes "pull"
 verb_word verbs.Start = codes "start"
 
--- each verb, in the order in which they are looked for
+-- each verb, in the order in which the verbs are tried
 abbrev pub all_verbs : List Verb
 all_verbs =
     verbs.From ∷ verbs.Post ∷ verbs.Expire ∷ verbs.Notified ∷ verbs.Decide ∷ verbs.Mutes ∷ verbs.Show ∷ verbs.Tick ∷ verbs.Pull
@@ -169,6 +169,6 @@ timely_row = row (interval ∷ interval ∷ []) nothing (λ spread flight. kinds
 abbrev pub frames_row : Row Line
 frames_row = row [] nothing kinds.Frames
 
--- a line begins with a word, and has as many words as its row wants
+-- a line of a row begins with its word, and has as many words as the row needs
 abbrev pub is_line : {R : Type 0} → List ℕ → ℕ → Row R → List (List ℕ) → Bool
 is_line verb first row words = has_word 0 verb words && has_count first row words

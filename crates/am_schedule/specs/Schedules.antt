@@ -1,4 +1,4 @@
--- What a text says, line by line.
+-- The meaning of a text, line by line.
 use Rattle.std.specs.Prelude.{◌≡◌, ℕ, ◌+◌, Bool, true, List, [], ◌∷◌, ◌++◌, length, Option, Some, None, Result, Ok, Err}
 use Rattle.std.specs.Prelude.{is_none, ◌&&◌, ◌==◌, if◌then◌else◌}
 use Rattle.std.specs.List.{slice_split}
@@ -22,31 +22,31 @@ use Rattle.am_schedule.specs.VersionLines.{version_in}
 use Rattle.am_schedule.specs.StepLines.{line_in}
 use Rattle.am_schedule.specs.Clusters.{has_cluster_form, cluster_in}
 
--- the parts before and behind each line feed; a text that ends in one has no part behind it
+-- the part after the last line feed, unless it is empty
 abbrev pub unless_empty : List ℕ → List (List ℕ)
 unless_empty [] = []
 unless_empty (byte ∷ bytes) = (byte ∷ bytes) ∷ []
 
--- the parts of a text but an empty last one
+-- the parts of a text without an empty last one
 abbrev pub without_empty_last : List (List ℕ) → List (List ℕ)
 without_empty_last [] = []
 without_empty_last (part ∷ []) = unless_empty part
 without_empty_last (part ∷ next ∷ parts) = part ∷ without_empty_last (next ∷ parts)
 
--- lines are ended by a line feed, which the last may lack
+-- lines end with a line feed, which the last one may lack
 unfoldable pub lines_of : List ℕ → List (List ℕ)
 lines_of text = without_empty_last (slice_split (λ b. b == 10) text)
 
--- empty lines and lines that begin with `#` are passed over
+-- empty lines and lines that begin with `#` are skipped
 abbrev pub is_passed_over : List ℕ → Bool
 is_passed_over [] = true
 is_passed_over (byte ∷ bytes) = byte == 35
 
--- the words of a line that isn't passed over
+-- the words of a line that isn't skipped
 unfoldable pub words_in : List ℕ → List (List ℕ)
 words_in line = if is_passed_over line then [] else words_of line
 
--- what was read, where nothing is at fault
+-- the value that was read, if nothing is at fault
 abbrev pub value_of : {A : Type 0} → Result A FaultKind → Option A
 value_of (Ok x) = Some x
 value_of (Err kind) = None
@@ -56,13 +56,13 @@ abbrev pub first_value : {A B : Type 0} → (A → Option B) → List A → Opti
 first_value value [] = None
 first_value value (x ∷ xs) = or_else (value x) (first_value value xs)
 
--- ---- what stands before a line
+-- ---- the lines before a line
 
--- the cluster of the first right cluster line
+-- the cluster of the first correct cluster line
 unfoldable pub cluster_of : List (List ℕ) → Option ClusterLine
 cluster_of lines = first_value (λ line. value_of (cluster_in (words_in line))) lines
 
--- the version of a line of this form, where it is one
+-- the version of a line of this form, if the line is one
 abbrev pub version_by : Option Form → List (List ℕ) → Option VersionLine
 version_by None words = None
 version_by (Some Cluster) words = None
@@ -84,41 +84,41 @@ unfoldable pub definition_in : (List ℕ → Option VersionLine) → VersionForm
 definition_in version form words =
     if is_label (word_at 1 words) && is_none (version (word_at 1 words)) then version_in form words else Err faults.Name
 
--- a line behind the cluster's
+-- a line after the cluster's
 abbrev pub line_said : List (List ℕ) → (List ℕ → Option VersionLine) → Form → List (List ℕ) → Result (Option Line) FaultKind
 line_said names version Cluster words = Err faults.Cluster
 line_said names version (Version form) words = definition_in version form words >>= λ _. Ok None
 line_said names version (Other form) words = line_in names version form words >>= λ line. Ok (Some line)
 
--- a line that isn't passed over; the first one is the cluster's
+-- a line that isn't skipped; the first one is the cluster's
 abbrev pub said_in : Option ClusterLine → (List ℕ → Option VersionLine) → List (List ℕ) → Result (Option Line) FaultKind
 said_in None version words = cluster_in words >>= λ _. Ok None
 said_in (Some cluster) version words = or_fault faults.Words (form_in words) >>= λ form. line_said cluster.names version form words
 
--- what a line says, where lines stand before it: a step or another line of the schedule, or nothing of its own
+-- the meaning of a line after other lines: a step or another line of the schedule, or nothing of its own
 unfoldable pub meaning : List (List ℕ) → List ℕ → Result (Option Line) FaultKind
 meaning before line =
     if is_utf8 line
     then (if is_passed_over line then Ok None else said_in (cluster_of before) (version_of before) (words_in line))
     else Err faults.NotUtf8
 
--- whether a line that isn't passed over has a known verb, and as many words as that wants; the first one is the cluster's
+-- whether a line that isn't skipped has a known verb, and as many words as that needs; the first one is the cluster's
 abbrev pub has_form : Option ClusterLine → List (List ℕ) → Bool
 has_form None words = has_cluster_form words
 has_form (Some cluster) words = has_form_by (form_in words) words
 
--- whether a line is a text with a known verb and as many words as that wants: memory is taken for no other line
+-- whether a line is UTF-8 with a known verb and as many words as that needs: no memory is taken for any other line
 unfoldable pub is_formed : List (List ℕ) → List ℕ → Bool
 is_formed before line = is_utf8 line && has_form (cluster_of before) (words_in line)
 
--- what each line says
+-- the meaning of each line
 abbrev pub meanings : List (List ℕ) → List (List ℕ) → List (Result (Option Line) FaultKind)
 meanings before [] = []
 meanings before (line ∷ lines) = meaning before line ∷ meanings (before ++ line ∷ []) lines
 
 -- ---- the whole
 
--- the first fault, where the lines are counted from a number on
+-- the first fault, with lines counted from a number on
 abbrev pub first_fault : {A : Type 0} → ℕ → List (Result A FaultKind) → Option ScheduleError
 first_fault number [] = None
 first_fault number (Ok x ∷ more) = first_fault (number + 1) more
@@ -146,20 +146,20 @@ pub record IsFormedAt (text : List ℕ) (number : ℕ) : Type 0 where
   pub counted : number ≡ length before + 1
   pub formed : is_formed before line ≡ true
 
--- what is said, with the numbers of the lines
+-- the lines of the schedule, with their numbers
 abbrev pub numbered : ℕ → List (Result (Option Line) FaultKind) → List (Line × ℕ)
 numbered number [] = []
 numbered number (Ok (Some line) ∷ more) = (line, number) ∷ numbered (number + 1) more
 numbered number (Ok None ∷ more) = numbered (number + 1) more
 numbered number (Err kind ∷ more) = numbered (number + 1) more
 
--- lines with no fault; where no cluster line is among them it is missing at the line behind the last
+-- lines with no fault; if there is no cluster line among them, it is missing at the line after the last
 abbrev pub whole : Option ClusterLine → ℕ → List (Line × ℕ) → Result Schedule ScheduleError
 whole None count lines = Err (record { line = count + 1; kind = faults.Cluster })
 whole (Some cluster) count lines =
     Ok (record { names = cluster.names; retention = cluster.retention; peer_timeout = cluster.peer_timeout; lines = lines })
 
--- the first fault, where there is one, and else the schedule
+-- the first fault, if there is one, or else the schedule
 abbrev pub schedule_by : Option ScheduleError → Result Schedule ScheduleError → Result Schedule ScheduleError
 schedule_by None schedule = schedule
 schedule_by (Some error) schedule = Err error

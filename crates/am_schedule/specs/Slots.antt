@@ -1,4 +1,4 @@
--- What stands in the places of a line, and what a word is there.
+-- The kinds of words in the places of a line, and how each is read.
 use Rattle.std.specs.Prelude.{ℕ, Bool, List, Option, Some, None, Result, Ok, codes, if◌then◌else◌}
 use Rattle.std.specs.Str.{bytes_eq}
 use Rattle.am_schedule.specs.declared.error.FaultKind.{FaultKind}
@@ -8,9 +8,9 @@ use Rattle.am_schedule.specs.Numbers.{count_in, seconds_in, bits_in}
 use Rattle.am_schedule.specs.Times.{moment_in, whole_moment_in}
 use Rattle.am_schedule.specs.Lists.{hashes_in, yes_or_no_in, member_in}
 
--- what a word is in its place
+-- the kind of word in a place
 pub data Slot : Type 0 where
-  -- seconds since 1970, with a fraction where there is a point
+  -- seconds since 1970, with a fraction if there is a point
   moment : Slot
   -- whole seconds since 1970
   whole_moment : Slot
@@ -30,7 +30,7 @@ pub data Slot : Type 0 where
   -- any text, or `-` for none
   identifier : Slot
 
--- the values that stand in a place
+-- the values of a kind of place
 abbrev pub ValueOf : Slot → Type 0
 ValueOf moment = ℕ
 ValueOf whole_moment = ℕ
@@ -43,12 +43,12 @@ ValueOf member = List ℕ
 ValueOf text = List ℕ
 ValueOf identifier = Option (List ℕ)
 
--- `-` is no identifier
+-- an identifier, or `-` for none
 abbrev pub id_in : List ℕ → Result (Option (List ℕ)) FaultKind
 id_in word = if bytes_eq word (codes "-") then Ok None else (text_in word >>= λ id. Ok (Some id))
 
--- What a word is in its place: `Number` where it is no such number, list, or yes or no; then `Name` where it is too
--- long or no member.
+-- The value of a word in its place: `Number` if it isn't the number, list, or yes or no that the place needs; then `Name` if
+-- it is too long or no member.
 abbrev pub value_at : List (List ℕ) → (slot : Slot) → List ℕ → Result (ValueOf slot) FaultKind
 value_at names moment word = in_place (moment_in word) word
 value_at names whole_moment word = in_place (whole_moment_in word) word

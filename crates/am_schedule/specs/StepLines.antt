@@ -1,4 +1,4 @@
--- The lines that are steps, and the other lines behind the cluster's.
+-- The lines that are steps, and the other lines after the cluster's.
 use Rattle.std.specs.Prelude.{ℕ, List, [], length, Option, Result, Ok, Err, ◌==◌, codes, if◌then◌else◌}
 use Rattle.am_schedule.specs.declared.error.FaultKind.{FaultKind}
 use Rattle.am_schedule.specs.declared.error.FaultKind.TheVariants as faults
@@ -19,15 +19,15 @@ use Rattle.am_schedule.specs.Slots.{moment, number, member, value_at}
 use Rattle.am_schedule.specs.Rows.{by_row, no_version, post_row, group_row, event_row, stop_row, save_row, lose_row, timely_row, frames_row}
 use Rattle.am_schedule.specs.Forms.{verb_in}
 
--- what a post says behind its verb
+-- the meaning of a post, after its verb
 unfoldable pub post_in : List (List ℕ) → Result PostLine FaultKind
 post_in words = by_row [] no_version 4 post_row words
 
--- what a notification or a decision says behind its verb
+-- the meaning of a notification or a decision, after its verb
 unfoldable pub group_in : List (List ℕ) → Result GroupLine FaultKind
 group_in words = by_row [] no_version 4 group_row words
 
--- what the words behind a verb are
+-- the meaning of the words after a verb
 unfoldable pub event_in : List (List ℕ) → (List ℕ → Option VersionLine) → Verb → List (List ℕ) → Result LineEvent FaultKind
 event_in names version verb words = by_row names version 4 (event_row verb) words
 
@@ -52,7 +52,7 @@ deliver_in words =
 unfoldable pub settle_in : List (List ℕ) → Result Line FaultKind
 settle_in words = if length words == 3 then (value_at [] moment (word_at 1 words) >>= λ at. Ok (kinds.Settle at)) else Err faults.Words
 
--- a line behind `at`: no member is called `deliver` or `settle`
+-- a line that begins with `at`: no member is called `deliver` or `settle`
 unfoldable pub at_line_in : List (List ℕ) → (List ℕ → Option VersionLine) → List (List ℕ) → Result Line FaultKind
 at_line_in names version words =
     if has_word 2 (codes "deliver") words then deliver_in words else

@@ -1,4 +1,4 @@
--- Values by a text.
+-- Tables of values, looked up by a text.
 use Rattle.std.specs.Prelude.{ℕ, List, Option}
 use Rattle.std.specs.Ordering.{nat_cmp}
 use Rattle.std.specs.Cmp.Lexicographic.{slice_cmp}

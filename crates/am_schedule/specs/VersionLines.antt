@@ -10,15 +10,15 @@ use Rattle.am_schedule.specs.declared.step.VersionLine.TheVariants.{Silence, Log
 use Rattle.am_schedule.specs.Readings.{◌>>=◌}
 use Rattle.am_schedule.specs.Rows.{by_row, no_version, silence_row, log_row}
 
--- the version of a silence that a line is
+-- the version of a silence in a line
 unfoldable pub silence_in : List (List ℕ) → Result SilenceLine FaultKind
 silence_in words = by_row [] no_version 2 silence_row words
 
--- the version of an entry that a line is
+-- the version of an entry in a line
 unfoldable pub log_in : List (List ℕ) → Result LogLine FaultKind
 log_in words = by_row [] no_version 2 log_row words
 
--- the version of a line behind its label
+-- the version in a line, after its label
 unfoldable pub version_in : VersionForm → List (List ℕ) → Result VersionLine FaultKind
 version_in forms.Silence words = silence_in words >>= λ line. Ok (Silence line)
 version_in forms.Log words = log_in words >>= λ line. Ok (Log line)

@@ -25,10 +25,10 @@ pub(crate) struct ClusterLine {
     pub peer_timeout: Interval,
 }
 
-/// The most bytes that a member's name has.
+/// The maximum number of bytes in a member's name.
 const MAX_NAME: usize = 255;
 
-/// Whether a word may be a member's name.
+/// Returns whether a word may be a member's name.
 #[tactic(auto, unfolding(crate::specs::Clusters::is_name))]
 fn is_name(word: &str) -> bool
     ensures value { result ≡ is_name word.now }
@@ -40,7 +40,7 @@ fn is_name(word: &str) -> bool
     word != "deliver" && word != "settle"
 }
 
-/// Distinct names, or a wrong cluster line.
+/// Returns the words as distinct names, or the fault of a wrong cluster line.
 #[tactic(auto, unfolding(crate::specs::Clusters::names_in))]
 fn names(alloc: Global, words: &[&str]) -> Result<Items<Word>, FaultKind>
     ensures { GivesUnlessMemory result (or_fault Cluster (names_in (map (λ w. w.now) words.now))) }
@@ -56,7 +56,7 @@ fn names(alloc: Global, words: &[&str]) -> Result<Items<Word>, FaultKind>
     Ok(Items::new(names))
 }
 
-/// Whether one of the names is that word.
+/// Returns whether one of the names is that word.
 fn has_name(names: &[Word], word: &str) -> bool
     ensures { result ≡ list_any (λ t. bytes_eq t word.now) names.now }
 {
@@ -68,7 +68,7 @@ fn has_name(names: &[Word], word: &str) -> bool
     false
 }
 
-/// The numbers and the names of a cluster line.
+/// Reads the numbers and the names of a cluster line.
 #[tactic(auto, unfolding(crate::specs::Clusters::cluster_parts))]
 fn cluster_parts(alloc: Global, line: &str) -> Result<ClusterLine, FaultKind>
     ensures { GivesUnlessMemory result (cluster_parts (words_of line.now)) }
@@ -84,14 +84,14 @@ fn cluster_parts(alloc: Global, line: &str) -> Result<ClusterLine, FaultKind>
     })
 }
 
-/// An interval of the cluster line.
+/// Reads an interval of the cluster line.
 fn cluster_seconds(line: &str, place: usize) -> Result<Interval, FaultKind>
     ensures { result ≡ as_cluster (read_at seconds_in place (words_of line.now)) }
 {
     seconds_at(line, place).ok().ok_or(FaultKind::Cluster)
 }
 
-/// `cluster RETENTION TIMEOUT NAME ..`
+/// Reads a line `cluster RETENTION TIMEOUT NAME ..`.
 #[tactic(auto, unfolding(crate::specs::Clusters::cluster_in))]
 pub(crate) fn cluster_line(alloc: Global, line: &str) -> Result<ClusterLine, FaultKind>
     ensures value { GivesUnlessMemory result (cluster_in (words_of line.now)) }

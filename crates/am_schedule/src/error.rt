@@ -1,4 +1,4 @@
-//! Why a schedule could not be read.
+//! Errors of reading a schedule.
 
 ghost use Rattle.std.specs.Prelude.{◌≡◌};
 ghost use Rattle.am_schedule.specs.declared.error.FaultKind.TheVariants.{Memory};
@@ -6,9 +6,8 @@ ghost use Rattle.am_schedule.specs.declared.error.FaultKind.TheVariants.{Memory}
 use std::alloc::{AllocError, AllocFailed};
 use thiserror::Error;
 
-/// What is wrong with a line. Of the kinds that fit a line, the first in this order is told; `Number` and
-/// `Name` are tested word by word from the left, and `Words` comes once more behind them, where a `from`
-/// names versions of two states.
+/// A line's fault. If several kinds fit a line, the first in this order is reported; `Number` and `Name` are tested word by
+/// word from the left, and `Words` is tested once more after them, for a `from` that names versions of two states.
 #[derive(Clone, Copy, Debug, PartialEq, Eq, Error)]
 pub enum FaultKind {
     #[error("the line is not UTF-8")]
@@ -25,7 +24,7 @@ pub enum FaultKind {
     Memory,
 }
 
-/// The first line at fault, counted from 1, and what is wrong with it.
+/// The first line at fault, counted from 1, and its fault.
 #[derive(Clone, Copy, Debug, PartialEq, Eq, Error)]
 #[error("line {line}: {kind}")]
 pub struct ScheduleError {

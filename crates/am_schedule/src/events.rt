@@ -1,4 +1,4 @@
-//! What the words behind a verb are.
+//! The words after a verb.
 
 ghost use Rattle.am_schedule.specs.Readings.{GivesUnlessMemory};
 ghost use Rattle.am_schedule.specs.Tables.{value_in};
@@ -18,7 +18,7 @@ use crate::word::{Word, behind, split_words, word_of};
 use std::alloc::Global;
 use std::collections::BTreeMap;
 
-/// `-` is no id.
+/// Reads an id, or `-` for none.
 fn id(alloc: Global, word: &str) -> Result<Option<Word>, FaultKind>
     ensures { GivesUnlessMemory result (id_in word.now) }
 {
@@ -29,7 +29,7 @@ fn id(alloc: Global, word: &str) -> Result<Option<Word>, FaultKind>
     Ok(Some(id))
 }
 
-/// `ID BITS STARTS ENDS NAME VALUE`
+/// Reads the words `ID BITS STARTS ENDS NAME VALUE`.
 #[tactic(auto, unfolding(crate::specs::StepLines::post_in))]
 fn post(alloc: Global, line: &str) -> Result<PostLine, FaultKind>
     ensures { GivesUnlessMemory result (post_in (words_of line.now)) }
@@ -50,7 +50,7 @@ fn post(alloc: Global, line: &str) -> Result<PostLine, FaultKind>
     })
 }
 
-/// `GROUP RECEIVER FIRING RESOLVED REPEAT`
+/// Reads the words `GROUP RECEIVER FIRING RESOLVED REPEAT`.
 #[tactic(auto, unfolding(crate::specs::StepLines::group_in))]
 fn group(alloc: Global, line: &str) -> Result<GroupLine, FaultKind>
     ensures { GivesUnlessMemory result (group_in (words_of line.now)) }
@@ -69,7 +69,7 @@ fn group(alloc: Global, line: &str) -> Result<GroupLine, FaultKind>
     })
 }
 
-/// What happens at a member, by the verb and the words behind it.
+/// Reads an event at a member from the verb and the words after it.
 #[tactic(auto, using(crate::proofs::EventRows::event_by))]
 pub(crate) fn event(
     alloc: Global,

@@ -1,4 +1,4 @@
-//! The forms of lines: which verb a line has, and how many words. They are told without taking memory.
+//! The forms of lines: the verb of a line and its number of words. Finding them takes no memory.
 
 ghost use Rattle.std.specs.Prelude.{◌≡◌};
 ghost use Rattle.am_schedule.specs.Words.{words_of};
@@ -6,7 +6,7 @@ ghost use Rattle.am_schedule.specs.Forms.{verb_in, form_in};
 
 use crate::word::{word_count, word_of};
 
-/// What a line asks of a member.
+/// The verb of a line for a member.
 #[derive(Clone, Copy)]
 pub(crate) enum Verb {
     From,
@@ -21,7 +21,7 @@ pub(crate) enum Verb {
     Start,
 }
 
-/// The verb behind a member's name, where the line has as many words as it wants.
+/// Returns the verb after a member's name, if the line has as many words as that verb needs.
 #[tactic(auto, unfolding(crate::specs::Forms::verb_in))]
 pub(crate) fn verb_of(line: &str) -> Option<Verb>
     ensures { result ≡ verb_in (words_of line.now) }
@@ -41,14 +41,14 @@ pub(crate) fn verb_of(line: &str) -> Option<Verb>
     }
 }
 
-/// A line that gives a version a label.
+/// The kind of a line that gives a version a label.
 #[derive(Clone, Copy)]
 pub(crate) enum VersionForm {
     Silence,
     Log,
 }
 
-/// A line that is neither the cluster's nor a version's.
+/// The kind of a line that is neither the cluster's nor a version's.
 #[derive(Clone, Copy)]
 pub(crate) enum LineForm {
     At,
@@ -59,7 +59,7 @@ pub(crate) enum LineForm {
     Frames,
 }
 
-/// What a line is, by its first word.
+/// The form of a line, by its first word.
 #[derive(Clone, Copy)]
 pub(crate) enum Form {
     Cluster,
@@ -67,7 +67,7 @@ pub(crate) enum Form {
     Other(LineForm),
 }
 
-/// The form of a line, where it has as many words as that wants.
+/// Returns the form of a line, if the line has as many words as that form needs.
 #[tactic(auto, unfolding(crate::specs::Forms::form_in))]
 pub(crate) fn form_of(line: &str) -> Option<Form>
     ensures { result ≡ form_in (words_of line.now) }

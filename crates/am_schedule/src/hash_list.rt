@@ -5,8 +5,8 @@ ghost use Rattle.std.specs.Prelude.{◌≡◌, ◌≤◌, length};
 use crate::items::Items;
 use std::marker::Model;
 
-/// The hashes of alerts in a word: at most 512, since a word has at most 1,024 bytes. Contracts see the list. Only
-/// reading a schedule makes one.
+/// The hashes of alerts in a word: at most 512, since a word has at most 1,024 bytes. Contracts see the list. Only the reading
+/// of a schedule makes one.
 #[derive(Drop)]
 pub struct HashList {
     hashes: Items<u64>,
@@ -23,7 +23,7 @@ impl Model for HashList {
 }
 
 impl HashList {
-    /// These hashes. It takes no memory.
+    /// Wraps these hashes. This takes no memory.
     pub(crate) fn new(hashes: Items<u64>) -> HashList
         requires { length hashes ≤ 512 }
         ensures { result ≡ hashes }

@@ -1,4 +1,4 @@
-//! Lists that contracts see as lists.
+//! Vectors that contracts see as lists.
 
 ghost use Rattle.std.specs.Prelude.{◌≡◌, ℕ, List, map};
 
@@ -19,7 +19,7 @@ impl<T> Model for Items<T> {
 }
 
 impl<T> Items<T> {
-    /// These values. It takes no memory.
+    /// Wraps these values. This takes no memory.
     pub fn new(items: Vec<T>) -> Items<T>
         ensures { result ≡ items.items }
     {
@@ -32,7 +32,7 @@ impl<T> Items<T> {
         self.items.as_slice()
     }
 
-    /// Gives the vector back. It takes no memory.
+    /// Returns the vector. This takes no memory.
     pub fn into_vec(self) -> Vec<T>
         ensures { result.items ≡ self }
     {

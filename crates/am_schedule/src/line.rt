@@ -1,4 +1,4 @@
-//! The lines that are steps, and the other lines behind the cluster's.
+//! The lines that are steps, and the other lines after the cluster's.
 
 ghost use Rattle.std.specs.Prelude.{◌≡◌, ◌==◌, length, is_some, IsTrue, IfErr};
 ghost use Rattle.am_schedule.specs.declared.error.FaultKind.TheVariants.{Memory};
@@ -17,7 +17,7 @@ use crate::word::{Word, word_count, word_of};
 use std::alloc::Global;
 use std::collections::BTreeMap;
 
-/// `at T deliver N`
+/// Reads a line `at T deliver N`.
 #[tactic(auto, unfolding(crate::specs::StepLines::deliver_in))]
 fn deliver_line(text: &str) -> Result<Line, FaultKind>
     ensures value { result ≡ deliver_in (words_of text.now) }
@@ -31,7 +31,7 @@ fn deliver_line(text: &str) -> Result<Line, FaultKind>
     Ok(Line::Step(Step::new(Action::Deliver { at, frame })))
 }
 
-/// `at T settle`
+/// Reads a line `at T settle`.
 #[tactic(auto, unfolding(crate::specs::StepLines::settle_in))]
 fn settle_line(text: &str) -> Result<Line, FaultKind>
     ensures value { result ≡ settle_in (words_of text.now) }
@@ -44,7 +44,7 @@ fn settle_line(text: &str) -> Result<Line, FaultKind>
     Ok(Line::Settle(at))
 }
 
-/// `at T NAME ..`
+/// Reads a line `at T NAME ..`.
 #[tactic(auto, unfolding(crate::specs::StepLines::member_line_in))]
 fn member_line(
     alloc: Global,
@@ -62,7 +62,7 @@ fn member_line(
     Ok(Line::Step(Step::new(Action::Event { at, name, event })))
 }
 
-/// A line behind `at`: no member is called `deliver` or `settle`.
+/// Reads a line that begins with `at`: no member is called `deliver` or `settle`.
 #[tactic(auto, unfolding(crate::specs::StepLines::at_line_in))]
 fn at_line(
     alloc: Global,
@@ -80,7 +80,7 @@ fn at_line(
     }
 }
 
-/// A line that is neither the cluster's nor a version's.
+/// Reads a line that is neither the cluster's nor a version's.
 #[tactic(auto, unfolding(crate::specs::StepLines::line_in))]
 pub(crate) fn line(
     alloc: Global,

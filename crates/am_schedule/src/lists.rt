@@ -16,7 +16,7 @@ use crate::table::{empty_table, look_up, set_value};
 use crate::word::{MAX_WORD, Word, split_at};
 use std::alloc::Global;
 
-/// The numbers of all words, or `Number` where one has none.
+/// Returns the numbers of all words, or `Number` if one is no number.
 fn counts(alloc: Global, words: &[&str]) -> Result<Items<u64>, FaultKind>
     ensures { GivesUnlessMemory result (or_fault Number (values count_in (map (λ w. w.now) words.now))) }
 {
@@ -30,7 +30,7 @@ fn counts(alloc: Global, words: &[&str]) -> Result<Items<u64>, FaultKind>
     Ok(Items::new(numbers))
 }
 
-/// The hashes of a list, however long its word is: `-` for none, or numbers parted by commas.
+/// Reads a list of hashes, however long its word is: `-` for none, or numbers separated by commas.
 #[tactic(auto, unfolding(crate::specs::Lists::hashes_in))]
 fn numbers_of(alloc: Global, word: &str) -> Result<Items<u64>, FaultKind>
     ensures { GivesUnlessMemory result (or_fault Number (hashes_in word.now)) }
@@ -42,7 +42,7 @@ fn numbers_of(alloc: Global, word: &str) -> Result<Items<u64>, FaultKind>
     counts(alloc, &words)
 }
 
-/// The hashes of a list. `Number` where it is none, then `Name` where it is too long.
+/// Reads a list of hashes, or returns `Number` if the word is none, then `Name` if it is too long.
 #[tactic(auto, unfolding(crate::specs::Words::in_place), using(crate::proofs::Hashes::few_hashes))]
 pub(crate) fn hashes(alloc: Global, word: &str) -> Result<HashList, FaultKind>
     ensures { GivesUnlessMemory result (in_place (hashes_in word.now) word.now) }
@@ -65,7 +65,7 @@ pub(crate) fn yes_or_no(word: &str) -> Option<bool>
     }
 }
 
-/// The member of that name.
+/// Returns the member with that name.
 #[tactic(auto, unfolding(crate::specs::Lists::member_in))]
 pub(crate) fn member(alloc: Global, names: &[Word], word: &str) -> Result<Word, FaultKind>
     ensures { GivesUnlessMemory result (member_in names.now word.now) }
@@ -78,7 +78,7 @@ pub(crate) fn member(alloc: Global, names: &[Word], word: &str) -> Result<Word, 
     Err(FaultKind::Name)
 }
 
-/// A label and its value, cut at the first `=`.
+/// Splits a word into a label and its value, at the first `=`.
 #[tactic(auto, unfolding(crate::specs::Lists::pair_in))]
 fn pair<'a>(word: &'a str) -> Option<(&'a str, &'a str)>
     ensures parts { option_map (λ p. record { name = p.0.now; value = p.1.now }) result ≡ pair_in word.now }
@@ -90,7 +90,7 @@ fn pair<'a>(word: &'a str) -> Option<(&'a str, &'a str)>
     word.split_once('=')
 }
 
-/// The pairs of words, where no name comes twice.
+/// Reads the pairs of words, in which no name may be repeated.
 #[tactic(auto, unfolding(crate::specs::Lists::pairs_in))]
 pub(crate) fn pairs(alloc: Global, words: &[&str]) -> Result<Items<Pair>, FaultKind>
     ensures { GivesUnlessMemory result (pairs_in (map (λ w. w.now) words.now)) }

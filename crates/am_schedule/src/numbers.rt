@@ -5,14 +5,14 @@ ghost use Rattle.std.specs.List.{list_all};
 ghost use Rattle.std.specs.Char.{is_ascii_digit};
 ghost use Rattle.am_schedule.specs.Numbers.{number_within, count_in, hex_digit_in, bits_in};
 
-/// Whether all bytes are ASCII digits.
+/// Returns whether all bytes are ASCII digits.
 fn are_digits(bytes: &[u8]) -> bool
     ensures { result ≡ list_all is_ascii_digit bytes.now }
 {
     bytes.iter().all(|byte| byte.is_ascii_digit())
 }
 
-/// A number below 2^64.
+/// Reads a number below 2^64.
 #[tactic(auto, unfolding(crate::specs::Numbers::count_in))]
 pub(crate) fn count(word: &str) -> Option<u64>
     ensures { result ≡ count_in word.now }
@@ -26,7 +26,7 @@ pub(crate) fn count(word: &str) -> Option<u64>
     }
 }
 
-/// A number from `least` to `most`.
+/// Reads a number from `least` to `most`.
 #[tactic(auto, unfolding(crate::specs::Numbers::number_within))]
 pub(crate) fn number_within(least: u64, most: u64, word: &str) -> Option<u64>
     ensures value { result ≡ number_within least most word.now }
@@ -39,7 +39,7 @@ pub(crate) fn number_within(least: u64, most: u64, word: &str) -> Option<u64>
     Some(number)
 }
 
-/// The value of a lower-case hexadecimal digit.
+/// Returns the value of a lower-case hexadecimal digit.
 fn hex_digit(byte: u8) -> Option<u8>
     ensures value { result ≡ hex_digit_in byte }
     ensures small { IfSome result (λ digit. digit < 16) }
@@ -51,7 +51,7 @@ fn hex_digit(byte: u8) -> Option<u8>
     }
 }
 
-/// 128 bits, as 32 hexadecimal digits.
+/// Reads 128 bits, as 32 hexadecimal digits.
 #[tactic(auto, unfolding(crate::specs::Numbers::bits_in))]
 pub(crate) fn bits(word: &str) -> Option<u128>
     ensures { result ≡ bits_in word.now }

@@ -1,4 +1,4 @@
-//! What the words of a line are read as, by their places.
+//! The words of a line, read by their places.
 
 ghost use Rattle.std.specs.Prelude.{◌≡◌};
 ghost use Rattle.am_schedule.specs.Readings.{GivesUnlessMemory};

@@ -19,7 +19,7 @@ use crate::word::{MAX_WORD, word_of};
 use std::alloc::Global;
 use std::collections::BTreeMap;
 
-/// Whether a line is empty or begins with `#`.
+/// Returns whether a line is empty or begins with `#`.
 fn is_passed_over(line: &str) -> bool
     ensures { result ≡ is_passed_over line.now }
 {
@@ -29,7 +29,7 @@ fn is_passed_over(line: &str) -> bool
     }
 }
 
-/// The version of a line, whose label has to be a new one.
+/// Reads the version of a line, whose label has to be a new one.
 #[tactic(auto, unfolding(crate::specs::Schedules::definition_in))]
 fn definition(
     alloc: Global,
@@ -46,7 +46,7 @@ fn definition(
     version_line(alloc, form, line)
 }
 
-/// What the lines that were read say.
+/// The state of the reading: what the lines read so far say.
 #[derive(Drop)]
 pub(crate) struct Reader<'a> {
     pub cluster: Option<ClusterLine>,
@@ -57,7 +57,7 @@ pub(crate) struct Reader<'a> {
 impl<'a> Reader<'a> {
     ghost use Rattle.am_schedule.specs.Readers.{Stands, Took};
 
-    /// Before the first line.
+    /// Returns the state before the first line.
     pub fn new(alloc: Global) -> Self
         ensures stands { Stands [] result }
         ensures lines { result.lines.items ≡ [] }
@@ -69,7 +69,7 @@ impl<'a> Reader<'a> {
         }
     }
 
-    /// Takes a line that isn't passed over. Its verb and the number of its words are judged before memory is taken.
+    /// Takes a line that isn't skipped. Its verb and its number of words are judged before any memory is taken.
     fn take_words(&mut self, alloc: Global, number: u64, text: &'a str) -> Result<(), FaultKind>
         ensures taken { IfOk result (λ _. (said : Option Line)
             × (said_in self.old.cluster (value_in self.old.versions) (words_of text.now) ≡ Ok said)
@@ -97,7 +97,7 @@ impl<'a> Reader<'a> {
         Ok(())
     }
 
-    /// Takes a line, or tells what is wrong with it.
+    /// Takes a line, or returns its fault.
     pub fn take(&mut self, alloc: Global, number: u64, line: &'a [u8]) -> Result<(), FaultKind>
         ensures taken { IfOk result (λ _. (before : List (List ℕ)) → Stands before self.old → (said : Option Line)
             × (meaning before line.now ≡ Ok said) × Stands (before ++ line.now ∷ []) self.new

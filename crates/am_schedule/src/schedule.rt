@@ -20,11 +20,11 @@ pub struct Schedule {
     pub names: Items<Word>,
     pub retention: Interval,
     pub peer_timeout: Interval,
-    /// The lines behind the cluster's that give no version a label, each with its number, counted from 1.
+    /// The lines after the cluster's that give no version a label, each with its number, counted from 1.
     pub lines: Items<(Line, u64)>,
 }
 
-// (so that crates above cite one drop, and don't prove those of all that is inside)
+// Crates that use a schedule cite this one drop, and need not prove those of its parts.
 impl Drop for Schedule {
     fn drop(self) {
         let Schedule {
@@ -36,12 +36,12 @@ impl Drop for Schedule {
     }
 }
 
-/// The schedule of a text.
+/// Reads the schedule in a text.
 ///
 /// # Errors
 ///
-/// The first line at fault, and what is wrong with it. `Memory` where memory runs out, with the line that is read
-/// then: it is UTF-8, its verb is known and has as many words as it wants, and no line before it is at fault.
+/// Returns the first line at fault and its fault. If memory runs out, this is `Memory` with the line being read: that line is
+/// UTF-8, its verb is known and has as many words as it needs, and no line before it is at fault.
 pub fn parse(alloc: Global, text: &[u8]) -> Result<Schedule, ScheduleError>
     // PROMISE: A schedule is read as its lines say.
     ensures read { IfOk result (λ schedule. schedule_of text.now ≡ Ok schedule) }
@@ -63,7 +63,7 @@ pub fn parse(alloc: Global, text: &[u8]) -> Result<Schedule, ScheduleError>
     schedule_from(reader, number)
 }
 
-/// The schedule of that many lines; where no cluster line is among them it is missing at the next line.
+/// Returns the schedule of `count` lines; if there is no cluster line among them, it is missing at the next line.
 fn schedule_from(reader: Reader<'_>, count: u64) -> Result<Schedule, ScheduleError>
     requires { count + 1 < 2 ^ 64 }
     ensures { result ≡ whole reader.entry.cluster count reader.entry.lines.items }

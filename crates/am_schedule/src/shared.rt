@@ -1,4 +1,4 @@
-//! Values that stand in several places.
+//! Values shared by several owners.
 
 ghost use Rattle.std.specs.Prelude.{◌≡◌, IfOk};
 
@@ -6,7 +6,7 @@ use std::alloc::{AllocError, Global};
 use std::marker::Model;
 use std::rc::Rc;
 
-/// A value that several steps hold, and that is kept once. Contracts see the value.
+/// A value that several steps hold, and that is stored once. Contracts see the value.
 #[derive(Drop)]
 pub struct Shared<T> {
     value: Rc<T>,
@@ -26,7 +26,7 @@ impl<T: Drop> Shared<T> {
         Ok(Shared { value })
     }
 
-    /// The value at one place more.
+    /// Returns another owner of the value.
     pub(crate) fn share(&self) -> Result<Shared<T>, AllocError>
         ensures { IfOk result (λ shared. shared ≡ self.now) }
     {

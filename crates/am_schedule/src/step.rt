@@ -1,4 +1,4 @@
-//! The lines of a schedule and what they hold.
+//! The lines of a schedule and their contents.
 
 ghost use Rattle.std.specs.Prelude.{◌≡◌};
 
@@ -9,7 +9,7 @@ use crate::word::Word;
 use am_version_order::{Interval, Moment};
 use std::marker::Model;
 
-/// A silence version with one matcher that wants the value of a label.
+/// A silence version with one matcher, for the value of a label.
 #[derive(Drop)]
 pub struct SilenceLine {
     pub id: Word,
@@ -32,7 +32,7 @@ pub struct LogLine {
     pub resolved: HashList,
 }
 
-/// A version that a label names.
+/// A version named by a label.
 #[derive(Drop)]
 pub enum VersionLine {
     Silence(Shared<SilenceLine>),
@@ -46,10 +46,10 @@ pub enum Versions {
     Log(Items<Shared<LogLine>>),
 }
 
-/// A silence that is posted, with one matcher that wants the value of a label. Author and comment are empty.
+/// A posted silence with one matcher, for the value of a label. Author and comment are empty.
 #[derive(Drop)]
 pub struct PostLine {
-    /// The silence that is to be changed, if one is named.
+    /// The silence to change, if one is named.
     pub id: Option<Word>,
     /// The bits of a fresh id.
     pub bits: u128,
@@ -59,7 +59,7 @@ pub struct PostLine {
     pub value: Word,
 }
 
-/// A group of alerts and what is notified of it.
+/// A group of alerts and the alerts of a notification.
 #[derive(Drop)]
 pub struct GroupLine {
     pub group: Word,
@@ -76,7 +76,7 @@ pub struct Pair {
     pub value: Word,
 }
 
-/// What happens at a member at a moment.
+/// An event at a member at a moment.
 #[derive(Drop)]
 pub enum LineEvent {
     /// A Delta of these versions comes from a peer.
@@ -107,7 +107,7 @@ pub enum LineEvent {
     Start,
 }
 
-/// What a line does to the cluster.
+/// An effect of a line on the cluster.
 #[derive(Drop)]
 pub enum Action {
     Event {
@@ -121,18 +121,18 @@ pub enum Action {
     Save {
         name: Word,
     },
-    /// The frame of that number is delivered.
+    /// The frame with that number is delivered.
     Deliver {
         at: Moment,
         frame: u64,
     },
-    /// The frame of that number is lost.
+    /// The frame with that number is lost.
     Lose {
         frame: u64,
     },
 }
 
-/// A step of a cluster. Contracts see its action. Only reading a schedule makes one.
+/// A step of a cluster. Contracts see its action. Only the reading of a schedule makes one.
 #[derive(Drop)]
 pub struct Step {
     action: Action,
@@ -164,10 +164,10 @@ impl Step {
 #[derive(Drop)]
 pub enum Line {
     Step(Step),
-    /// All members agree at that moment.
+    /// All members have to agree at that moment.
     Settle(Moment),
-    /// Whether the run so far is timely within a spread and a flight time.
+    /// The run so far is tested for being timely within a spread and a flight time.
     Timely(Interval, Interval),
-    /// The frames in flight are wanted.
+    /// The frames in flight are listed.
     Frames,
 }

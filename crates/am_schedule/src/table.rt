@@ -1,4 +1,4 @@
-//! Values by a text.
+//! Tables of values, looked up by a text.
 
 ghost use Rattle.std.specs.Prelude.{◌≡◌, ℕ, List, Some, None, IfErr, OnOk, if◌then◌else◌};
 ghost use Rattle.std.specs.Str.{bytes_eq};
@@ -8,7 +8,7 @@ ghost use Rattle.am_schedule.specs.Tables.{value_in};
 use std::alloc::{AllocError, Global};
 use std::collections::BTreeMap;
 
-/// No values.
+/// Returns an empty table.
 #[tactic(auto, unfolding(crate::specs::Tables::value_in))]
 pub(crate) fn empty_table<'a, T>(alloc: Global) -> BTreeMap<&'a str, T>
     ensures { (text : List ℕ) → value_in result text ≡ None }
@@ -16,7 +16,7 @@ pub(crate) fn empty_table<'a, T>(alloc: Global) -> BTreeMap<&'a str, T>
     BTreeMap::new(alloc)
 }
 
-/// The value of a text.
+/// Returns the value of a text.
 #[tactic(auto, unfolding(crate::specs::Tables::value_in))]
 pub(crate) fn look_up<'t, 'a, T>(table: &'t BTreeMap<&'a str, T>, text: &str) -> Option<&'t T>
     ensures { option_copied result ≡ value_in table.now text.now }

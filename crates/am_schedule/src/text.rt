@@ -4,7 +4,7 @@ ghost use Rattle.std.specs.Prelude.{◌≡◌, ℕ, List, [], ◌∷◌, ◌<◌
 ghost use Rattle.std.specs.List.{position_or_len};
 ghost use Rattle.am_schedule.specs.Schedules.{lines_of};
 
-/// The first line of a text, and what stands behind its line feed. An empty text has no line.
+/// Returns the first line of a text and the text after its line feed. An empty text has no line.
 pub(crate) fn first_line(text: &[u8]) -> Option<(&[u8], &[u8])>
     ensures lines { MatchOption result (lines_of text.now ≡ []) (λ p. lines_of text.now ≡ p.0.now ∷ lines_of p.1.now) }
     ensures shorter { MatchOption result (length text.now ≡ 0) (λ p. length p.1.now < length text.now) }
@@ -19,7 +19,7 @@ pub(crate) fn first_line(text: &[u8]) -> Option<(&[u8], &[u8])>
     Some((&text[..end], &text[end + 1..]))
 }
 
-/// The place of the first line feed, or the end of the text.
+/// Returns the place of the first line feed, or the end of the text.
 fn line_end(text: &[u8]) -> usize
     ensures place { result ≡ position_or_len (λ b. b == 10) text.now }
     ensures bound { result ≤ length text.now }

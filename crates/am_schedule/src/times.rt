@@ -7,17 +7,17 @@ ghost use Rattle.am_schedule.specs.Times.{moment_behind, whole_moment_in, fracti
 use crate::numbers::{count, number_within};
 use am_version_order::{Interval, Moment};
 
-/// Seconds from 1970-01-01T00:00:00Z to the last moment's second.
+/// The number of seconds from 1970-01-01T00:00:00Z to the second of the last moment.
 const LAST_SECOND: u64 = 253_402_300_799;
 
-/// An interval of 1 to 999,999,999 seconds.
+/// Reads an interval of 1 to 999,999,999 seconds.
 pub(crate) fn seconds(word: &str) -> Option<Interval>
     ensures { result ≡ seconds_in word.now }
 {
     Interval::from_seconds(number_within(1, 999_999_999, word)?)
 }
 
-/// The moment of whole seconds since 1970, and `nanos` behind it.
+/// Returns the moment `nanos` nanoseconds after a whole number of seconds since 1970.
 fn moment_behind(nanos: u32, digits: &str) -> Option<Moment>
     requires { nanos < 1_000_000_000 }
     ensures { result ≡ moment_behind nanos digits.now }
@@ -26,7 +26,7 @@ fn moment_behind(nanos: u32, digits: &str) -> Option<Moment>
     Moment::from_parts(seconds as i64, nanos)
 }
 
-/// A moment in whole seconds since 1970.
+/// Reads a moment in whole seconds since 1970.
 #[tactic(auto, unfolding(crate::specs::Times::whole_moment_in))]
 pub(crate) fn whole_moment(word: &str) -> Option<Moment>
     ensures { result ≡ whole_moment_in word.now }
@@ -34,7 +34,7 @@ pub(crate) fn whole_moment(word: &str) -> Option<Moment>
     moment_behind(0, word)
 }
 
-/// The nanoseconds of a fraction's digits, of which there are 1 to 9.
+/// Returns the nanoseconds of a fraction of 1 to 9 digits.
 #[tactic(auto, unfolding(crate::specs::Times::fraction_in))]
 fn fraction(digits: &str) -> Option<u32>
     ensures value { result ≡ fraction_in digits.now }
@@ -48,7 +48,7 @@ fn fraction(digits: &str) -> Option<u32>
     Some((number * scale) as u32)
 }
 
-/// A moment in seconds since 1970, with a fraction of 1 to 9 digits where there is a point.
+/// Reads a moment in seconds since 1970, with a fraction of 1 to 9 digits if there is a point.
 #[tactic(auto, unfolding(crate::specs::Times::moment_in))]
 pub(crate) fn moment(word: &str) -> Option<Moment>
     ensures { result ≡ moment_in word.now }

@@ -18,7 +18,7 @@ use crate::table::look_up;
 use std::alloc::Global;
 use std::collections::BTreeMap;
 
-/// `sil LABEL ID UPDATED STARTS ENDS EXPIRES NAME VALUE`
+/// Reads a line `sil LABEL ID UPDATED STARTS ENDS EXPIRES NAME VALUE`.
 #[tactic(auto, unfolding(crate::specs::VersionLines::silence_in))]
 fn silence_line(alloc: Global, line: &str) -> Result<SilenceLine, FaultKind>
     ensures { GivesUnlessMemory result (silence_in (words_of line.now)) }
@@ -41,7 +41,7 @@ fn silence_line(alloc: Global, line: &str) -> Result<SilenceLine, FaultKind>
     })
 }
 
-/// `nfl LABEL GROUP RECEIVER UPDATED EXPIRES FIRING RESOLVED`
+/// Reads a line `nfl LABEL GROUP RECEIVER UPDATED EXPIRES FIRING RESOLVED`.
 #[tactic(auto, unfolding(crate::specs::VersionLines::log_in))]
 fn log_line(alloc: Global, line: &str) -> Result<LogLine, FaultKind>
     ensures { GivesUnlessMemory result (log_in (words_of line.now)) }
@@ -62,7 +62,7 @@ fn log_line(alloc: Global, line: &str) -> Result<LogLine, FaultKind>
     })
 }
 
-/// The version of a line behind its label.
+/// Reads the version of a line after its label.
 #[tactic(auto, unfolding(crate::specs::VersionLines::version_in))]
 pub(crate) fn version_line(
     alloc: Global,
@@ -83,7 +83,7 @@ pub(crate) fn version_line(
     }
 }
 
-/// The versions of labels: `Name` where one is unknown, then `Words` where they are of two states.
+/// Returns the versions of labels: `Name` if one is unknown, then `Words` if they belong to two states.
 #[tactic(auto, unfolding(crate::specs::Labels::versions_in))]
 pub(crate) fn versions_of(
     alloc: Global,
@@ -101,7 +101,7 @@ pub(crate) fn versions_of(
     of_one_state(silences, log)
 }
 
-/// Puts a version behind those of its state.
+/// Appends a version to those of its state.
 fn push_version(
     silences: &mut Vec<Shared<SilenceLine>>,
     log: &mut Vec<Shared<LogLine>>,
@@ -118,7 +118,7 @@ fn push_version(
     Ok(())
 }
 
-/// Versions that are all of one state, or `Words`.
+/// Returns versions that all belong to one state, or `Words`.
 fn of_one_state(
     silences: Vec<Shared<SilenceLine>>,
     log: Vec<Shared<LogLine>>,

@@ -9,10 +9,10 @@ use crate::error::FaultKind;
 use std::alloc::{AllocError, Global};
 use std::marker::Model;
 
-/// The most bytes that a word has.
+/// The maximum number of bytes in a word.
 pub(crate) const MAX_WORD: usize = 1024;
 
-/// A word of a line: a text of at most 1,024 bytes. Contracts see its bytes. Only reading a schedule makes one.
+/// A word of a line: a text of at most 1,024 bytes. Contracts see its bytes. Only the reading of a schedule makes one.
 #[derive(Drop)]
 pub struct Word {
     text: String,
@@ -36,7 +36,7 @@ impl Word {
         self.text.as_str()
     }
 
-    /// The word of a text that is short enough.
+    /// Converts a text that is short enough into a word.
     pub(crate) fn of(alloc: Global, text: &str) -> Result<Word, AllocError>
         requires { length text.now ≤ 1024 }
         ensures { IfOk result (λ word. word ≡ text.now) }
@@ -45,7 +45,7 @@ impl Word {
         Ok(Word { text })
     }
 
-    /// The word of a text, or `Name` where it is too long.
+    /// Converts a text into a word, or returns `Name` if it is too long.
     #[tactic(auto, unfolding(crate::specs::Words::text_in))]
     pub(crate) fn read(alloc: Global, text: &str) -> Result<Word, FaultKind>
         ensures { GivesUnlessMemory result (text_in text.now) }
@@ -57,7 +57,7 @@ impl Word {
         Ok(word)
     }
 
-    /// A copy, or [`AllocError`] where memory runs out.
+    /// Returns a copy, or [`AllocError`] if memory runs out.
     pub(crate) fn try_clone(&self, alloc: Global) -> Result<Word, AllocError>
         ensures { IfOk result (λ copy. copy ≡ self.now) }
     {
@@ -65,7 +65,7 @@ impl Word {
     }
 }
 
-/// The parts of a text between the places of an ASCII character.
+/// Splits a text at each occurrence of an ASCII character.
 pub(crate) fn split_at(alloc: Global, text: &str, separator: char) -> Result<Vec<&str>, AllocError>
     requires { separator < 128 }
     ensures { IfOk result (λ parts. map (λ p. p.now) parts.items ≡ slice_split (λ b. b == separator) text.now) }
@@ -73,7 +73,7 @@ pub(crate) fn split_at(alloc: Global, text: &str, separator: char) -> Result<Vec
     text.split(separator).collect(alloc)
 }
 
-/// The words of a line, parted by one space.
+/// Splits a line into its words, which are separated by one space.
 #[tactic(auto, unfolding(crate::specs::Words::words_of))]
 pub(crate) fn split_words(alloc: Global, line: &str) -> Result<Vec<&str>, AllocError>
     ensures { IfOk result (λ words. map (λ w. w.now) words.items ≡ words_of line.now) }
@@ -81,21 +81,21 @@ pub(crate) fn split_words(alloc: Global, line: &str) -> Result<Vec<&str>, AllocE
     split_at(alloc, line, ' ')
 }
 
-/// How many words a line has. It takes no memory.
+/// Returns the number of words in a line. This takes no memory.
 pub(crate) fn word_count(line: &str) -> usize
     ensures { result ≡ length (words_of line.now) }
 {
     line.split(' ').count()
 }
 
-/// The word at a place of a line, or the empty text behind the last one. It takes no memory.
+/// Returns the word at a place of a line, or the empty text after the last one. This takes no memory.
 pub(crate) fn word_of(line: &str, place: usize) -> &str
     ensures { result.now ≡ word_at place (words_of line.now) }
 {
     line.split(' ').nth(place).unwrap_or("")
 }
 
-/// The words behind a place.
+/// Returns the words after a place.
 pub(crate) fn behind<'a>(words: &'a [&'a str], place: usize) -> &'a [&'a str]
     ensures { map (λ w. w.now) result.now ≡ drop place (map (λ w. w.now) words.now) }
 {
@@ -106,7 +106,7 @@ pub(crate) fn behind<'a>(words: &'a [&'a str], place: usize) -> &'a [&'a str]
     }
 }
 
-/// The value of a word in the place of a number: `Number` where it has none, then `Name` where it is too long.
+/// Returns the value of a word in the place of a number: `Number` if it has none, then `Name` if it is too long.
 #[tactic(auto, unfolding(crate::specs::Words::in_place))]
 pub(crate) fn in_place<T: Copy>(value: Option<T>, word: &str) -> Result<T, FaultKind>
     ensures { result ≡ in_place value word.now }

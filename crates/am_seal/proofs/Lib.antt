@@ -1,3 +1,4 @@
 pub mod Walked
 mod Joined
-mod Cuts
+pub mod Cuts
+pub mod Numbered

@@ -1,3 +1,4 @@
 pub mod Macs
+pub mod Sequences
 pub mod Seals
 pub mod Openings

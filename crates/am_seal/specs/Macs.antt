@@ -4,26 +4,26 @@ use Rattle.sha2.specs.Hashers.{Holds256}
 use Rattle.sha2.specs.Sha256.{sha256}
 use Rattle.am_seal.specs.declared.mac.Mac.{Mac}
 
--- a key of over a block, which has 64 bytes, counts as its digest
+-- a key of more than a block, which has 64 bytes, is replaced by its digest
 abbrev pub shortened : List ℕ → List ℕ
 shortened key = if nat_lt 64 (length key) then sha256 key else key
 
--- the key as a block, with zeros behind it
+-- the key as a block, padded with zeros
 unfoldable pub key_block : List ℕ → List ℕ
 key_block key = shortened key ++ replicate (64 - length (shortened key)) 0
 
--- a block of which each byte is changed by a mark
+-- a block with each byte XORed with a mark
 abbrev pub marked : ℕ → List ℕ → List ℕ
 marked mark block = map (λ byte. bit_xor byte mark) block
 
--- the digest of the key's block, marked for the inside, and the message
+-- the digest of the key's block, marked for the inner hash, and the message
 abbrev pub inner : List ℕ → List ℕ → List ℕ
 inner key message = sha256 (marked 0x36 (key_block key) ++ message)
 
--- the digest of the key's block, marked for the outside, and that: the sum of a message under a key
+-- the digest of the key's block, marked for the outer hash, and the inner digest: the sum of a message under a key
 unfoldable pub hmac : List ℕ → List ℕ → List ℕ
 hmac key message = sha256 (marked 0x5c (key_block key) ++ inner key message)
 
--- a sum in the making is under this key, and of this message so far
+-- the sum being computed is under this key, and of this message so far
 abbrev pub Holds : Mac → List ℕ → List ℕ → Type 0
 Holds mac key message = Holds256 mac.hasher (marked 0x36 (key_block key) ++ message) × (mac.outer ≡ marked 0x5c (key_block key))

@@ -5,19 +5,19 @@ ghost use Rattle.am_seal.specs.Macs.{Holds, hmac, key_block, marked};
 
 use sha2::{Digest, Sha256};
 
-/// How many bytes a block of SHA-256 has.
+/// The number of bytes in a block of SHA-256.
 const BLOCK: usize = 64;
 
-/// How many bytes a sum has.
+/// The number of bytes in a sum.
 pub const SUM: usize = 32;
 
 /// The mark of the inner hash (RFC 2104, section 2).
 const INNER: u8 = 0x36;
 
-/// The mark of the outer one.
+/// The mark of the outer hash (RFC 2104, section 2).
 const OUTER: u8 = 0x5c;
 
-/// A text of a block or less, with zeros behind it.
+/// Returns a text of at most a block, padded with zeros.
 fn padded(text: &[u8]) -> [u8; BLOCK]
     requires { length text.now ≤ 64 }
     ensures { result ≡ text.now ++ replicate (64 - length text.now) 0 }
@@ -27,7 +27,7 @@ fn padded(text: &[u8]) -> [u8; BLOCK]
     block
 }
 
-/// The block of a key.
+/// Returns the block of a key.
 #[tactic(auto, unfolding(crate::specs::Macs::key_block))]
 fn key_block(key: &[u8]) -> [u8; BLOCK]
     ensures { result ≡ key_block key.now }
@@ -39,7 +39,7 @@ fn key_block(key: &[u8]) -> [u8; BLOCK]
     }
 }
 
-/// A block of which each byte is changed by a mark.
+/// Returns a block with each byte XORed with a mark.
 fn marked(mark: u8, block: &[u8; BLOCK]) -> [u8; BLOCK]
     ensures { result ≡ marked mark block.now }
 {
@@ -50,7 +50,7 @@ fn marked(mark: u8, block: &[u8; BLOCK]) -> [u8; BLOCK]
     out
 }
 
-/// The sum of a message under a key, while the message comes in parts.
+/// A sum, under a key, of a message that comes in parts.
 #[derive(Drop)]
 pub struct Mac {
     /// The inner hash so far.
@@ -60,7 +60,7 @@ pub struct Mac {
 }
 
 impl Mac {
-    /// Of the empty message, under a key of any length.
+    /// Starts the sum of an empty message under a key of any length.
     pub fn new(key: &[u8]) -> Mac
         ensures { Holds result key.now [] }
     {
@@ -73,14 +73,14 @@ impl Mac {
         }
     }
 
-    /// Of the message, and this behind it.
+    /// Appends a part to the message.
     pub fn update(&mut self, part: &[u8])
         ensures { (key message : List ℕ) → Holds self.old key message → Holds self.new key (message ++ part.now) }
     {
         self.hasher.update(part);
     }
 
-    /// The sum (RFC 2104, section 2).
+    /// Returns the sum of the message (RFC 2104, section 2).
     #[tactic(auto, unfolding(crate::specs::Macs::hmac))]
     pub fn finalize(self) -> [u8; SUM]
         ensures { (key message : List ℕ) → Holds self key message → result ≡ hmac key message }
@@ -94,7 +94,7 @@ impl Mac {
     }
 }
 
-/// The sum of a message under a key of any length.
+/// Returns the sum of a message under a key of any length.
 pub fn hmac_sha256(key: &[u8], message: &[u8]) -> [u8; SUM]
     // PROMISE: The sum is HMAC-SHA256 of RFC 2104.
     ensures { result ≡ hmac key.now message.now }
@@ -104,7 +104,7 @@ pub fn hmac_sha256(key: &[u8], message: &[u8]) -> [u8; SUM]
     mac.finalize()
 }
 
-/// Whether two sums are one. All bytes are looked at, wherever the first difference is.
+/// Returns whether two sums are equal. All bytes are compared, wherever the first difference is.
 pub fn are_same(sum: &[u8; SUM], other: &[u8; SUM]) -> bool
     ensures { IsTrue result ↔ (sum.now ≡ other.now) }
 {

@@ -1,33 +1,37 @@
 //! The seal of one frame.
 
-ghost use Rattle.std.specs.Prelude.{◌≡◌, ◌++◌, IfOk, IfErr, OnOk};
-ghost use Rattle.std.specs.List.{flat_map};
-ghost use Rattle.am_seal.specs.Seals.{IsNoFrame, IsOnly, IsRight, IsUntaken, seal_sum, sealed_frame};
+ghost use Rattle.std.specs.Prelude.{◌≡◌, ◌++◌, IfOk, IfErr, OnOk, length};
+ghost use Rattle.am_seal.specs.Seals.{IsNoFrame, IsOnly, IsRight, IsUntaken, seal_sum, sealed_frame, sealed_frames};
+ghost use Rattle.am_seal.specs.Sequences.{after};
 
 use crate::mac::{Mac, SUM, are_same};
+use crate::sequence::Sequence;
 use am_gossip::{Fed, Feeder, Frame, FrameError, encode_frame};
 use std::alloc::{AllocError, Global};
 use thiserror::Error;
 
-/// What frames are sealed and opened by: the members' secret, and the name of the member that does it.
+/// The means of sealing and opening frames: the members' secret, and the name of the member that does it.
 #[derive(Clone, Copy)]
 pub struct Lock<'a> {
     pub secret: &'a [u8],
     pub name: &'a str,
 }
 
-/// Why a sealed frame isn't taken. It is printed as its name.
+/// The reason for not taking a sealed frame. It is printed as its name.
 #[derive(Clone, Copy, Debug, PartialEq, Eq, Error)]
 pub enum SealError {
-    /// Its length is over the limit of frames.
+    /// The length is over the limit of frames.
     #[error("Length")]
     Length,
-    /// Its sum isn't that of its sender, its addressee and its bytes under the secret.
+    /// The sum isn't that of the frame's place in the connection, its sender, its addressee and its bytes under the secret.
     #[error("Sum")]
     Sum,
-    /// Its sum is right, and its bytes aren't one frame.
+    /// The sum is correct, but the bytes aren't one frame.
     #[error("Text")]
     Text,
+    /// There is no number for a next frame.
+    #[error("Number")]
+    Number,
     #[error("Memory")]
     Memory,
 }
@@ -42,13 +46,21 @@ impl From<AllocError> for SealError {
     }
 }
 
-/// The sum of a frame's text that one member sends to another: that of both names, each behind its length in 8 bytes, the highest
-/// first, and the text.
+/// Returns the sum of a frame's text that one member sends to another at a place in a connection: the sum of the challenge, of the
+/// number in 8 bytes, the highest first, of both names, each after its length in 8 such bytes, and of the text.
 #[tactic(auto, unfolding(crate::specs::Seals::seal_sum))]
-pub fn sum_of(secret: &[u8], sender: &str, addressee: &str, text: &[u8]) -> [u8; SUM]
-    ensures { result ≡ seal_sum secret.now sender.now addressee.now text.now }
+pub fn sum_of(
+    secret: &[u8],
+    place: Sequence,
+    sender: &str,
+    addressee: &str,
+    text: &[u8],
+) -> [u8; SUM]
+    ensures { result ≡ seal_sum secret.now place sender.now addressee.now text.now }
 {
     let mut mac = Mac::new(secret);
+    mac.update(&place.challenge);
+    mac.update(&place.number.to_be_bytes());
     mac.update(&(sender.len() as u64).to_be_bytes());
     mac.update(sender.as_bytes());
     mac.update(&(addressee.len() as u64).to_be_bytes());
@@ -57,11 +69,11 @@ pub fn sum_of(secret: &[u8], sender: &str, addressee: &str, text: &[u8]) -> [u8;
     mac.finalize()
 }
 
-/// The one frame that a text is.
+/// Reads a text as exactly one frame.
 ///
 /// # Errors
 ///
-/// [`SealError::Text`] where it is none, or more than one, and [`SealError::Memory`].
+/// Returns [`SealError::Text`] if the text is no frame, or more than one, and [`SealError::Memory`] if memory runs out.
 fn only_frame(alloc: Global, text: &[u8]) -> Result<Frame, SealError>
     ensures taken { IfOk result (λ frame. IsOnly text.now frame) }
     ensures refused { IfErr result (IsNoFrame text.now) }
@@ -80,65 +92,85 @@ fn only_frame(alloc: Global, text: &[u8]) -> Result<Frame, SealError>
     }
 }
 
-/// The frame that stands behind a sum, from a sender.
+/// Returns the frame that stands after a sum, from a sender, at a place in a connection.
 ///
 /// # Errors
 ///
-/// [`SealError::Sum`] where the sum isn't right, before the text is looked at; [`SealError::Text`] where the text is not one
-/// frame; and [`SealError::Memory`].
+/// Returns [`SealError::Sum`] if the sum isn't correct, before the text is read; [`SealError::Text`] if the text is not one frame;
+/// and
+/// [`SealError::Memory`] if memory runs out.
 pub fn open_frame(
     alloc: Global,
     lock: Lock<'_>,
     sender: &str,
+    place: Sequence,
     sum: &[u8; SUM],
     text: &[u8],
 ) -> Result<Frame, SealError>
-    // PROMISE: A frame is taken only if its sum is right for its sender, its addressee and its bytes.
-    ensures right { IfOk result (λ _. IsRight lock.entry sender.now sum.now text.now) }
+    // PROMISE: A frame is taken only if its sum is right for the challenge of its connection, its number there, its sender, its addressee and its bytes.
+    ensures right { IfOk result (λ _. IsRight lock.entry sender.now place sum.now text.now) }
     ensures frame { IfOk result (λ frame. IsOnly text.now frame) }
-    ensures refused { IfErr result (IsUntaken lock.entry sender.now sum.now text.now) }
+    ensures refused { IfErr result (IsUntaken lock.entry sender.now place sum.now text.now) }
 {
-    if !are_same(sum, &sum_of(lock.secret, sender, lock.name, text)) {
+    if !are_same(sum, &sum_of(lock.secret, place, sender, lock.name, text)) {
         return Err(SealError::Sum);
     }
     only_frame(alloc, text)
 }
 
-/// Writes frames for an addressee, each sealed: its sum, its length in 4 bytes, the highest first, and its text.
+/// The bytes of sealed frames, and the place of the next frame.
+#[derive(Drop)]
+pub struct Sealed {
+    pub text: Vec<u8>,
+    pub next: Sequence,
+}
+
+/// Returns frames for an addressee from a place in a connection on, each sealed: its sum, its length in 4 bytes, the highest first,
+/// and its text.
 ///
 /// # Errors
 ///
-/// [`FrameError::Length`] where a frame is over its limit, and [`FrameError::Memory`].
+/// Returns [`FrameError::Length`] if a frame is over its limit or there is no number for a next one, and [`FrameError::Memory`] if
+/// memory runs out.
 pub fn sealed_text(
     alloc: Global,
     lock: Lock<'_>,
     addressee: &str,
+    place: Sequence,
     frames: &[Frame],
-) -> Result<Vec<u8>, FrameError>
-    ensures { IfOk result (λ text. text.items ≡ flat_map (sealed_frame lock.entry addressee.now) frames.now) }
+) -> Result<Sealed, FrameError>
+    // PROMISE: Frames go out behind sums of the challenge that was answered, and of their numbers one after the other.
+    ensures text { IfOk result (λ sealed. sealed.text.items ≡ sealed_frames lock.entry addressee.now place frames.now) }
+    ensures next { IfOk result (λ sealed. sealed.next ≡ after (length frames.now) place) }
 {
-    let mut out = Vec::new(alloc);
+    let mut text = Vec::new(alloc);
+    let mut next = place;
     for frame in frames {
-        append_sealed(alloc, &mut out, lock, addressee, frame)?;
+        append_sealed(alloc, &mut text, lock, addressee, next, frame)?;
+        next = match next.next() {
+            Some(behind) => behind,
+            None => return Err(FrameError::Length),
+        };
     }
-    Ok(out)
+    Ok(Sealed { text, next })
 }
 
-/// Writes one sealed frame behind what `out` holds.
+/// Appends one sealed frame to `out`.
 fn append_sealed(
     alloc: Global,
     out: &mut Vec<u8>,
     lock: Lock<'_>,
     addressee: &str,
+    place: Sequence,
     frame: &Frame,
 ) -> Result<(), FrameError>
-    ensures { OnOk result (out.new.items ≡ out.old.items ++ sealed_frame lock.entry addressee.now frame.now) }
+    ensures { OnOk result (out.new.items ≡ out.old.items ++ sealed_frame lock.entry addressee.now place frame.now) }
 {
     let text = encode_frame(alloc, frame)?;
     let Ok(size) = u32::try_from(text.len()) else {
         return Err(FrameError::Length);
     };
-    out.extend_from_slice(&sum_of(lock.secret, lock.name, addressee, &text))?;
+    out.extend_from_slice(&sum_of(lock.secret, place, lock.name, addressee, &text))?;
     out.extend_from_slice(&size.to_be_bytes())?;
     out.extend_from_slice(&text)?;
     Ok(())

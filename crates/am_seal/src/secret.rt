@@ -7,47 +7,47 @@ use std::os::unix::fs::PermissionsExt;
 use std::rt::Files;
 use thiserror::Error;
 
-/// The fewest bytes of a secret.
+/// The minimum number of bytes in a secret.
 const LEAST: usize = 16;
 
-/// The most.
+/// The maximum number of bytes in a secret.
 const MOST: usize = 4_096;
 
-/// What others than the owner and the group of a file may do (chmod(1)).
+/// The permissions of users other than the owner and the group of a file (chmod(1)).
 const OTHERS: u32 = 0o7;
 
-/// Why a secret isn't read. It is printed as its name and number.
+/// The reason for not reading a secret. It is printed as its name and number.
 #[derive(Clone, Copy, Debug, PartialEq, Eq, Error)]
 pub enum SecretFault {
     /// The system refuses the file.
     #[error("File {0:?}")]
     File(ErrorKind),
-    /// A read failed, after so many bytes.
+    /// A read failed, after this many bytes.
     #[error("Read {0}")]
     Read(u64),
-    /// It has fewer than 16 bytes.
+    /// The secret has fewer than 16 bytes.
     #[error("Short")]
     Short,
-    /// It has over 4,096 bytes.
+    /// The secret has more than 4,096 bytes.
     #[error("Long")]
     Long,
     #[error("Memory")]
     Memory,
 }
 
-/// A secret that was read.
+/// A secret read from its file.
 #[derive(Drop)]
 pub struct Secret {
     pub bytes: Vec<u8>,
-    /// Others than the owner and the group of the file may read or write it.
+    /// True if users other than the owner and the group of the file may read or write it.
     pub is_open: bool,
 }
 
-/// Reads the secret that stands in a file: all of it, but for one line feed at its end.
+/// Reads the secret in a file: all of it, except for one line feed at its end.
 ///
 /// # Errors
 ///
-/// The [`SecretFault`] that comes first.
+/// Returns the first [`SecretFault`].
 pub fn read_secret<R: Files + AllocGlobal>(rt: &R, path: &str) -> Result<Secret, SecretFault> {
     let bytes = read_file(rt, path)?;
     let bytes = without_line_feed(bytes);
@@ -61,7 +61,7 @@ pub fn read_secret<R: Files + AllocGlobal>(rt: &R, path: &str) -> Result<Secret,
     Ok(Secret { bytes, is_open })
 }
 
-/// The bytes of a file that has no more than a secret and a line feed may have.
+/// Reads the bytes of a file that has no more than a secret and a line feed may have.
 fn read_file<R: Files + AllocGlobal>(rt: &R, path: &str) -> Result<Vec<u8>, SecretFault> {
     let mut file = match fs::open(rt, path) {
         Ok(file) => file,
@@ -77,7 +77,7 @@ fn read_file<R: Files + AllocGlobal>(rt: &R, path: &str) -> Result<Vec<u8>, Secr
     }
 }
 
-/// The bytes without the line feed that ends them.
+/// Removes one line feed from the end of the bytes.
 fn without_line_feed(bytes: Vec<u8>) -> Vec<u8> {
     let mut bytes = bytes;
     if bytes.last() == Some(&b'\n') {

@@ -1,4 +1,4 @@
-//! What a member tells of itself beside what it counts: its options, the process, and the lines of its start.
+//! A member's account of itself, besides its figures: its options, the process, and the lines of its start.
 #![tactic(auto)]
 
 mod options;

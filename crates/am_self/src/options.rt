@@ -1,9 +1,10 @@
-//! The options of a member as text: as they stand on its command line, one in a line.
+//! The options of a member as text: as they stand on its command line, one per line.
 
 use am_jobs::Options;
 use am_matcher::Dialect;
 use am_peers::{AddressWord, Peer};
 use am_version_order::{Interval, Moment};
+use am_wire::Unknown;
 use std::alloc::{AllocError, Global};
 use std::fmt;
 use std::net::SocketAddr;
@@ -13,7 +14,7 @@ use std::time::Duration;
 #[derive(Drop)]
 pub struct Words<'a, 'b>(pub &'b Options<'a>);
 
-/// Returns how many whole seconds a time between moments has.
+/// Returns the number of whole seconds in an interval.
 pub fn seconds_in(interval: Interval) -> u64 {
     let Some(epoch) = Moment::from_parts(0, 0) else {
         return 0;
@@ -22,7 +23,7 @@ pub fn seconds_in(interval: Interval) -> u64 {
     seconds.unsigned_abs()
 }
 
-/// Writes an option that is a time, where it is given.
+/// Writes an option that is a time, if it is given.
 fn write_time<W: fmt::Write>(
     f: &mut fmt::Formatter<W>,
     name: &str,
@@ -37,7 +38,7 @@ fn write_time<W: fmt::Write>(
     }
 }
 
-/// Writes an option without a value, where it is given.
+/// Writes an option without a value, if it is given.
 fn write_flag<W: fmt::Write>(f: &mut fmt::Formatter<W>, name: &str, is_given: bool) -> fmt::Result {
     if is_given {
         write!(f, "--{name}\n")?;
@@ -55,7 +56,7 @@ fn write_number<W: fmt::Write>(f: &mut fmt::Formatter<W>, name: &str, number: u6
     write!(f, "--{name} {number}\n")
 }
 
-/// Writes an option that names others, with their addresses.
+/// Writes an option that names peers, with their addresses.
 fn write_peers<W: fmt::Write>(
     f: &mut fmt::Formatter<W>,
     option: &str,
@@ -69,7 +70,7 @@ fn write_peers<W: fmt::Write>(
     Ok(())
 }
 
-/// Writes an option that is an address, where it is given.
+/// Writes an option that is an address, if it is given.
 fn write_address<W: fmt::Write>(
     f: &mut fmt::Formatter<W>,
     name: &str,
@@ -84,7 +85,7 @@ fn write_address<W: fmt::Write>(
     }
 }
 
-/// Writes how it knows frames of members. What the secret is, no one is told.
+/// Writes the options by which the member knows frames of members. Nobody is told the secret itself.
 fn write_between<W: fmt::Write>(f: &mut fmt::Formatter<W>, options: &Options<'_>) -> fmt::Result {
     write_address(f, "peers-listen", options.peers_address)?;
     if let Some(path) = options.secret {
@@ -93,7 +94,7 @@ fn write_between<W: fmt::Write>(f: &mut fmt::Formatter<W>, options: &Options<'_>
     write_flag(f, "open-peers", options.opens_peers)
 }
 
-/// Writes by which names it is asked.
+/// Writes the names by which the member is asked.
 fn write_hosts<W: fmt::Write>(f: &mut fmt::Formatter<W>, hosts: &[&str]) -> fmt::Result {
     for host in hosts {
         write_text(f, "host", host)?;
@@ -101,7 +102,7 @@ fn write_hosts<W: fmt::Write>(f: &mut fmt::Formatter<W>, hosts: &[&str]) -> fmt:
     Ok(())
 }
 
-/// The word of a dialect.
+/// Returns the word of a dialect.
 fn word_of(dialect: Dialect) -> &'static str {
     match dialect {
         Dialect::Regex => "regex",
@@ -109,7 +110,7 @@ fn word_of(dialect: Dialect) -> &'static str {
     }
 }
 
-/// Writes who the member is, and whom it knows.
+/// Writes the member's name, and the others that it knows.
 fn write_names<W: fmt::Write>(f: &mut fmt::Formatter<W>, options: &Options<'_>) -> fmt::Result {
     write_text(f, "name", options.name)?;
     write_address(f, "listen", Some(options.address))?;
@@ -117,22 +118,24 @@ fn write_names<W: fmt::Write>(f: &mut fmt::Formatter<W>, options: &Options<'_>) 
     write_between(f, options)?;
     write_peers(f, "gossip", &options.replicas)?;
     write_text(f, "patterns", word_of(options.dialect))?;
+    write_flag(f, "keep-unknown", options.unknown == Unknown::Keep)?;
     write_hosts(f, &options.hosts)?;
     write_text(f, "sil", options.silences)?;
     write_text(f, "nfl", options.log)
 }
 
-/// Writes how long it keeps things, and how long others may take.
+/// Writes how long the member keeps things, and how long others may take.
 fn write_times<W: fmt::Write>(f: &mut fmt::Formatter<W>, options: &Options<'_>) -> fmt::Result {
     write_number(f, "retention", options.retention_seconds)?;
     write_number(f, "peer-timeout", seconds_in(options.peer_timeout))?;
     if options.connections < u64::MAX {
         write_number(f, "connections", options.connections)?;
     }
-    write_time(f, "time-limit", Some(options.time_limit))
+    write_time(f, "time-limit", Some(options.time_limit))?;
+    write_time(f, "decide-limit", Some(options.decide_limit))
 }
 
-/// Writes how much it takes at once.
+/// Writes how much the member takes at once.
 fn write_limits<W: fmt::Write>(f: &mut fmt::Formatter<W>, options: &Options<'_>) -> fmt::Result {
     write_number(f, "at-once", u64::from(options.at_once))?;
     write_number(f, "waiting", u64::from(options.waiting))?;
@@ -141,9 +144,10 @@ fn write_limits<W: fmt::Write>(f: &mut fmt::Formatter<W>, options: &Options<'_>)
     write_number(f, "lines-a-second", u64::from(options.lines))
 }
 
-/// Writes what it does by itself.
+/// Writes what the member does by itself.
 fn write_own<W: fmt::Write>(f: &mut fmt::Formatter<W>, options: &Options<'_>) -> fmt::Result {
     write_time(f, "tick-every", options.tick_every)?;
+    write_flag(f, "trust-clock", options.trusts_clock)?;
     write_time(f, "pull-every", options.pull_every)?;
     write_time(f, "save-every", options.save_every)?;
     write_time(f, "gossip-every", Some(options.gossip_every))?;
@@ -152,7 +156,7 @@ fn write_own<W: fmt::Write>(f: &mut fmt::Formatter<W>, options: &Options<'_>) ->
     write_time(f, "pull-first-limit", Some(options.pull_first_limit))
 }
 
-/// Writes when it ends, and of what it warns.
+/// Writes when the member ends, and what it warns about.
 fn write_rest<W: fmt::Write>(f: &mut fmt::Formatter<W>, options: &Options<'_>) -> fmt::Result {
     write_flag(f, "stop-at-input-end", options.stop_at_input_end)?;
     match options.least_repeat {
@@ -171,7 +175,7 @@ impl fmt::Display for Words<'_, '_> {
     }
 }
 
-/// The options as text.
+/// Returns the options as text.
 pub fn options_text(alloc: Global, options: &Options<'_>) -> Result<String, AllocError> {
     let words = Words(options);
     format!(in alloc; "{words}")

@@ -1,36 +1,36 @@
-//! What the system tells of the process (proc(5)).
+//! The system's figures of the process (proc(5)).
 
 use std::fs;
 use std::io::Read;
 use std::rt::Files;
 
-/// Its processor time, among other things.
+/// The file of the processor time, among other things.
 const STAT: &str = "/proc/self/stat";
 
-/// Its memory.
+/// The file of the memory.
 const STATM: &str = "/proc/self/statm";
 
-/// Its open files; its length is how many there are, from Linux 6.2 on.
+/// The directory of the open files; its length is their number, from Linux 6.2 on.
 const FILES: &str = "/proc/self/fd";
 
-/// How many bytes of each are read: they have some 400.
+/// The number of bytes of each file that are read: they have some 400.
 const PIECE: usize = 2_048;
 
-/// How many bytes a page of memory has.
+/// The number of bytes in a page of memory.
 const PAGE_BYTES: u64 = 4_096;
 
-/// What the process takes. What can't be read is 0.
+/// The resources that the process takes. One that can't be read is 0.
 #[derive(Clone, Copy)]
 pub struct Process {
-    /// Its processor time, in hundredths of a second.
+    /// The processor time, in hundredths of a second.
     pub ticks: u64,
-    /// How many bytes of it are in memory.
+    /// The number of the process's bytes that are in memory.
     pub resident: u64,
-    /// How many files and sockets it has open.
+    /// The number of files and sockets that are open.
     pub files: u64,
 }
 
-/// The number at a place among the words of a text; 0 where there is none.
+/// Returns the number at a place among the words of a text, or 0 if there is none.
 fn number_at(text: &str, place: usize) -> u64 {
     match text.split_ascii_whitespace().nth(place) {
         Some(word) => word.parse::<u64>().unwrap_or(0),
@@ -38,7 +38,8 @@ fn number_at(text: &str, place: usize) -> u64 {
     }
 }
 
-/// The processor time in a text of the file: its own and the system's, behind the name of the program, which stands in brackets.
+/// Returns the processor time in a text of the file: the process's own and the system's, after the name of the program, which
+/// stands in brackets.
 fn ticks_in(text: &str) -> u64 {
     match text.rsplit_once(')') {
         Some((_, rest)) => number_at(rest, 11).saturating_add(number_at(rest, 12)),
@@ -46,7 +47,7 @@ fn ticks_in(text: &str) -> u64 {
     }
 }
 
-/// The pages that are in memory, in a text of the file.
+/// Returns the number of pages that are in memory, in a text of the file.
 fn pages_in(text: &str) -> u64 {
     number_at(text, 1)
 }
@@ -58,7 +59,7 @@ enum Wanted {
     Pages,
 }
 
-/// The number in the text of its file.
+/// Returns the number in the text of its file.
 fn wanted_in(text: &str, wanted: Wanted) -> u64 {
     match wanted {
         Wanted::Ticks => ticks_in(text),
@@ -66,7 +67,7 @@ fn wanted_in(text: &str, wanted: Wanted) -> u64 {
     }
 }
 
-/// The number in a file; 0 where it can't be read. It takes no memory to read it.
+/// Returns the number in a file, or 0 if the file can't be read. Takes no memory.
 fn read_number<R: Files>(rt: &R, path: &str, wanted: Wanted) -> u64 {
     let Ok(mut file) = fs::open(rt, path) else {
         return 0;
@@ -81,7 +82,7 @@ fn read_number<R: Files>(rt: &R, path: &str, wanted: Wanted) -> u64 {
     }
 }
 
-/// How many files the process has open.
+/// Returns the number of files that the process has open.
 fn files<R: Files>(rt: &R) -> u64 {
     match fs::metadata(rt, FILES) {
         Ok(found) => found.len(),
@@ -90,7 +91,7 @@ fn files<R: Files>(rt: &R) -> u64 {
 }
 
 impl Process {
-    /// What the system tells now.
+    /// Reads the resources that the process takes now.
     pub fn now<R: Files>(rt: &R) -> Process {
         Process {
             ticks: read_number(rt, STAT, Wanted::Ticks),

@@ -1,11 +1,11 @@
-//! What is printed of a member that has started.
+//! The line that is printed of a member that has started.
 
 use am_jobs::Options;
 use am_peers::{AddressWord, Peer};
 use am_report::Word;
 use std::fmt;
 
-/// A member that listens, and how many versions it has loaded.
+/// A member that listens, and the numbers of versions that it has loaded.
 #[derive(Drop)]
 pub struct Started<'a, 'b> {
     pub options: &'b Options<'a>,
@@ -26,7 +26,7 @@ fn write_peers<W: fmt::Write>(peers: &[Peer<'_>], f: &mut fmt::Formatter<W>) -> 
     Ok(())
 }
 
-/// Writes the names and addresses of the Alertmanagers beside it, if there are some.
+/// Writes the names and addresses of the Alertmanagers beside the member, if there are any.
 fn write_replicas<W: fmt::Write>(replicas: &[Peer<'_>], f: &mut fmt::Formatter<W>) -> fmt::Result {
     if replicas.is_empty() {
         return Ok(());

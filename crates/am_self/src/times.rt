@@ -1,22 +1,22 @@
-//! The lines of a start: the times that a member keeps, and what an operator should know of its options.
+//! The lines of a start: the times that a member keeps, and what an operator should know about its options.
 
 use am_jobs::Options;
 use am_peers::{Times, is_loopback, times_of};
 
-/// The times that a member keeps by its options, where it pulls by itself.
+/// Returns the times that a member keeps by its options, if it pulls by itself.
 fn times(options: &Options<'_>) -> Option<Times> {
     let every = u32::try_from(options.pull_every?.as_secs()).ok()?;
     let limit = u32::try_from(options.time_limit.as_secs()).ok()?;
     Some(times_of(every, limit))
 }
 
-/// Prints the times that a member keeps, and warnings where its options leave it open or are too short.
+/// Prints the times that a member keeps, and warnings if its options leave it open or are too short.
 pub fn report<R: Eprint>(rt: &R, options: &Options<'_>) {
     report_times(rt, options);
     report_address(rt, options);
 }
 
-/// Prints a warning where others than this machine reach the address at which requests are answered.
+/// Prints a warning if others than this machine reach the address at which requests are answered.
 fn report_address<R: Eprint>(rt: &R, options: &Options<'_>) {
     let address = options.address;
     if !is_loopback(address) {
@@ -26,7 +26,7 @@ fn report_address<R: Eprint>(rt: &R, options: &Options<'_>) {
     }
 }
 
-/// Prints the times that a member keeps, and warnings where its options are too short for them.
+/// Prints the times that a member keeps, and warnings if its options are too short for them.
 fn report_times<R: Eprint>(rt: &R, options: &Options<'_>) {
     let Some(times) = times(options) else {
         return;

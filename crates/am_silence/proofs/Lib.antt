@@ -4,8 +4,9 @@ pub mod Judging
 pub mod MatcherParts
 pub mod MatcherTexts
 pub mod SameMatchers
-pub mod Spelling
 pub mod Standing
+pub mod UnknownBehind
+pub mod Wholeness
 pub mod Passed
 pub mod Ranges
 pub mod Planning

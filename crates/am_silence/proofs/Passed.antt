@@ -9,6 +9,7 @@ use Rattle.am_wire.specs.Passing.{Passing, Passes}
 use Rattle.am_wire.specs.Timestamps.{writes_moment}
 use Rattle.am_wire.specs.Varint.{shortest}
 use Rattle.am_wire.specs.Writing.{tag, writes_number, writes_text, writes_delimited}
+use Rattle.am_wire.specs.RoundTrip.Plain.{writes_none}
 use Rattle.am_wire.proofs.Passings.{both, nothing, whole as passed_whole}
 use Rattle.am_silence.specs.declared.matcher.Matcher.{Matcher}
 use Rattle.am_silence.specs.declared.matcher.MatcherKind.TheVariants as kinds
@@ -16,7 +17,7 @@ use Rattle.am_silence.specs.declared.silence.Silence.{Silence}
 use Rattle.am_silence.specs.Kinds.{kind_code, kind_of}
 use Rattle.am_silence.specs.Matchers.{writes_matcher, IsMatcher}
 use Rattle.am_silence.specs.MatcherTexts.{writes_matchers, matchers_in, IsMatchersText}
-use Rattle.am_silence.specs.Mesh.{Mesh, writes_mesh_silence}
+use Rattle.am_silence.specs.Mesh.{plain_version, writes_mesh_silence}
 use Rattle.am_silence.specs.Silences.{writes_silence}
 use Rattle.am_silence.proofs.MatcherTexts.{is_text, matchers_spelled, tag_2}
 
@@ -54,14 +55,15 @@ silence_passed s old a b c d e f new id matchers starts ends updated author comm
     both _ _ old f new (both _ _ old e f (both _ _ old d e (both _ _ old c d (both _ _ old b c (both _ _ old a b id matchers) starts) ends)
     updated) author) comment
 
-pub version_passed : (m : Mesh) (size : ℕ) (text : List ℕ) (a b new : Passing) → Passes (tag 1 2 ++ shortest size) (record { text = text; passed = [] }) a
-    → Passes (writes_silence m.silence) a b → length b.passed - length a.passed ≡ size
-    → Passes (writes_delimited 2 (writes_moment m.expires_at)) b new → new.passed ≡ new.text → text ≡ writes_mesh_silence m
+pub version_passed : (s : Silence) (expires_at size : ℕ) (text : List ℕ) (a b new : Passing)
+    → Passes (tag 1 2 ++ shortest size) (record { text = text; passed = [] }) a
+    → Passes (writes_silence s) a b → length b.passed - length a.passed ≡ size
+    → Passes (writes_delimited 2 (writes_moment expires_at)) b new → new.passed ≡ new.text → text ≡ writes_mesh_silence (plain_version s expires_at)
 unfolding writes_mesh_silence
-version_passed m size text a b new front silence counts moment over =
+version_passed s expires_at size text a b new front silence counts moment over =
     let start : Passing = record { text = text; passed = [] } in
-    let all = both _ _ start b new (passed_whole 1 size (writes_silence m.silence) start a b front silence counts) moment in
-    sym all.text ∙ sym over ∙ all.passed
+    let all = both _ _ start b new (passed_whole 1 size (writes_silence s) start a b front silence counts) moment in
+    sym all.text ∙ sym over ∙ all.passed ∙ sym (writes_none (writes_silence s) expires_at)
 
 -- ---- matchers, one after the other
 

@@ -1,10 +1,9 @@
--- What plans make is live, and greater than what it takes the place of.
-use Rattle.std.proofs.Common.{◌≡◌, ℕ, ◌<◌, ◌≤◌, Bool, true, false, nat_lt, nat_le, Option, Some, None, IfSome, option_map, is_some, if◌then◌else◌, refl, ap, ◌∙◌, arith}
+-- What plans make is greater than what it takes the place of.
+use Rattle.std.proofs.Common.{◌≡◌, ℕ, ◌<◌, Bool, true, false, nat_lt, nat_le, Option, Some, None, IfSome, is_some, if◌then◌else◌, refl, arith}
 use Rattle.std.proofs.lemmas.Bool.{lt-ltb}
 use Rattle.std.specs.Cmp.{second_so}
 use Rattle.std.proofs.lemmas.Bool.Decides.{nat_tests}
-use Rattle.am_version_order.specs.Moments.{greatest}
-use Rattle.am_version_order.specs.Versions.{IsLive, is_below}
+use Rattle.am_version_order.specs.Versions.{is_below}
 use Rattle.am_silence.specs.declared.silence.Silence.{Silence}
 use Rattle.am_silence.specs.declared.state.State.{State}
 use Rattle.am_silence.specs.declared.state.State.TheVariants as states
@@ -15,7 +14,7 @@ use Rattle.am_silence.specs.declared.error.SilenceError.TheVariants as errors
 use Rattle.am_silence.specs.declared.plan.Plan.TheVariants as plans
 use Rattle.am_silence.specs.Mesh.{Mesh, mesh_version}
 use Rattle.am_silence.specs.States.{state_of, is_expired, has_expired}
-use Rattle.am_silence.specs.Plans.{Post, held_silence, version_of, new_version, updated_version, ended_in, ended_version, same_matchers, allows_update, may_update, new_plan, plan_over, successor, Succeeds}
+use Rattle.am_silence.specs.Plans.{Post, held_version, held_silence, silence_in_view, new_version, updated_version, ended_in, ended_version, same_matchers, allows_update, may_update, new_plan, plan_over, successor, Succeeds}
 use Rattle.am_silence.specs.Refusals.{◌when◌, ◌before◌, unread_refusal, verdict_refusal, times_refusal, newer_refusal, held_refusal, posted_refusal}
 
 -- ---- what passed tests say
@@ -53,10 +52,7 @@ newer_passes silence now h =
     let later : nat_le now silence.updated_at ≡ false = when_none (errors.Newer silence.updated_at) (nat_le now silence.updated_at) h in
     grind (arith, nat_tests)
 
--- ---- live
-
-live_at_end : (s : Silence) (now retention : ℕ) → now < s.ends_at → s.ends_at ≤ greatest → IsLive now (mesh_version (version_of s retention))
-live_at_end s now retention h k = omega arith
+-- ---- greater
 
 -- what ending a silence makes of it
 record IsEnded (silence ended : Silence) (now : ℕ) : Type 0 where
@@ -69,36 +65,33 @@ ended_is states.Pending silence now h = record { id = refl; ends_at = refl; upda
 ended_is states.Active silence now h = record { id = refl; ends_at = refl; updated_at = refl }
 ended_is states.Expired silence now h = absurd cc
 
--- ---- greater
-
 below_later : (held v : Mesh) → held.silence.updated_at < v.silence.updated_at → is_below (mesh_version held) (mesh_version v) ≡ true
 unfolding is_below
 below_later held v h = let less : nat_lt held.silence.updated_at v.silence.updated_at ≡ true = lt-ltb _ _ h in rw less refl
 
-pub ended-succeeds : (held : Mesh) (silence : Silence) (now retention : ℕ) → silence ≡ held.silence → has_expired silence now ≡ false → newer_refusal silence now ≡ None
-    → Succeeds held (ended_version silence now retention)
-ended-succeeds held silence now retention same lives older =
-    let is = ended_is (state_of silence now) silence now lives in
-    let earlier : silence.updated_at < now = newer_passes silence now older in
-    let held_at : silence.updated_at ≡ held.silence.updated_at = ap (λ (s : Silence). s.updated_at) same in
-    let made_at : (ended_version silence now retention).silence.updated_at ≡ now = is.updated_at in
-    record { same_id = is.id ∙ ap (λ (s : Silence). s.id) same; greater = below_later held (ended_version silence now retention) (omega arith) }
+pub ended-succeeds : (held : Mesh) (now retention : ℕ) → has_expired held.silence now ≡ false → newer_refusal held.silence now ≡ None
+    → Succeeds held (ended_version held now retention)
+ended-succeeds held now retention lives older =
+    let is = ended_is (state_of held.silence now) held.silence now lives in
+    let earlier : held.silence.updated_at < now = newer_passes held.silence now older in
+    let made_at : (ended_version held now retention).silence.updated_at ≡ now = is.updated_at in
+    record { same_id = is.id; greater = below_later held (ended_version held now retention) (omega arith) }
 
-updated-succeeds : (held : Mesh) (p : Post) → newer_refusal held.silence p.now ≡ None → Succeeds held (updated_version held.silence p)
+updated-succeeds : (held : Mesh) (p : Post) → newer_refusal held.silence p.now ≡ None → Succeeds held (updated_version held p)
 updated-succeeds held p older =
-    record { same_id = refl; greater = below_later held (updated_version held.silence p) (newer_passes held.silence p.now older) }
+    record { same_id = refl; greater = below_later held (updated_version held p) (newer_passes held.silence p.now older) }
 
 -- the version that a plan puts in the place of one that is held
 pub plan-succeeds : (held : Option Mesh) (p : Post) → held_refusal (held_silence held p.posted) p.now ≡ None
-    → IfSome (successor (plan_over (held_silence held p.posted) p)) (λ v. IfSome held (λ version. Succeeds version v))
+    → IfSome (successor (plan_over (held_version held p.posted) p)) (λ v. IfSome held (λ version. Succeeds version v))
 unfolding held_refusal
 plan-succeeds held p = by_id (is_some p.posted.id) held
   where
     -- the held silence is not expired, and it was updated before now
     ended : (held : Mesh) (b : Bool) → has_expired held.silence p.now ≡ b → (if b then None else newer_refusal held.silence p.now) ≡ None
-        → IfSome (successor (if b then plans.Create (new_version p) else plans.Replace (new_version p) (ended_version held.silence p.now p.retention))) (λ v. Succeeds held v)
+        → IfSome (successor (if b then plans.Create (new_version p) else plans.Replace (new_version p) (ended_version held p.now p.retention))) (λ v. Succeeds held v)
     ended held true e h = tt
-    ended held false e h = ended-succeeds held held.silence p.now p.retention refl e h
+    ended held false e h = ended-succeeds held p.now p.retention e h
 
     -- a silence that may be updated has not expired
     lives : (silence : Silence) (state : State) → allows_update state silence p.posted p.now ≡ true → is_expired state ≡ false
@@ -107,14 +100,14 @@ plan-succeeds held p = by_id (is_some p.posted.id) held
     lives silence states.Expired h = cc
 
     over : (held : Mesh) (b : Bool) → may_update held.silence p.posted p.now ≡ b → held_refusal (Some held.silence) p.now ≡ None
-        → IfSome (successor (if b then plans.Update (updated_version held.silence p) else new_plan (Some held.silence) p)) (λ v. Succeeds held v)
+        → IfSome (successor (if b then plans.Update (updated_version held p) else new_plan (Some held) p)) (λ v. Succeeds held v)
     over held true e h =
         let alive : has_expired held.silence p.now ≡ false = lives held.silence (state_of held.silence p.now) (second_so (same_matchers p.posted.matchers held.silence.matchers) _ e) in
         updated-succeeds held p (rw alive at h)
     over held false e h = ended held (has_expired held.silence p.now) refl h
 
-    by_id : (b : Bool) (held : Option Mesh) → held_refusal (if b then option_map (λ m. m.silence) held else None) p.now ≡ None
-        → IfSome (successor (plan_over (if b then option_map (λ m. m.silence) held else None) p)) (λ v. IfSome held (λ h. Succeeds h v))
+    by_id : (b : Bool) (held : Option Mesh) → held_refusal (silence_in_view (if b then held else None)) p.now ≡ None
+        → IfSome (successor (plan_over (if b then held else None) p)) (λ v. IfSome held (λ h. Succeeds h v))
     by_id false held h = tt
     by_id true None h = tt
     by_id true (Some held) h = over held (may_update held.silence p.posted p.now) refl h

@@ -5,10 +5,10 @@ use Rattle.am_wire.specs.Fields.{FieldAt}
 use Rattle.am_wire.specs.Reading.{Table, table_of, text_row, part_row}
 use Rattle.am_wire.specs.Timestamps.{timestamp, moment_test}
 
--- which wire types an old comment's fields have, and what is at fault inside them
+-- the wire types of an old comment's fields, and the faults inside them
 abbrev pub comment : Table
 comment = table_of (text_row 1 ∷ text_row 2 ∷ part_row 3 timestamp ∷ [])
 
--- its timestamp is a moment
+-- the fault that an old comment's test finds if its timestamp is not a moment
 abbrev pub comment_tests : ℕ → List FieldAt → Option WireError
 comment_tests place es = moment_test 3 es

@@ -1,4 +1,4 @@
--- What a message's draft holds after some fields.
+-- The state of a message's draft after some fields.
 use Rattle.std.specs.Prelude.{◌≡◌, true, false, List, map, MatchOption}
 use Rattle.am_wire.specs.Fields.{FieldAt}
 use Rattle.am_wire.specs.Parts.{IsPart}
@@ -19,19 +19,19 @@ pub record IsMatcherDraft (es : List FieldAt) (d : MatcherDraft) : Type 0 where
   pub name : d.name.text.now ≡ last_text 2 es
   pub pattern : d.pattern.text.now ≡ last_text 3 es
 
--- an old comment's draft does
+-- an old comment's draft holds what these fields leave
 pub record IsCommentDraft (es : List FieldAt) (d : CommentDraft) : Type 0 where
   pub author : d.author.text.now ≡ last_text 1 es
   pub text : d.text.text.now ≡ last_text 2 es
   pub written_at : IsPart IsTimestampDraft timestamp 3 es d.written_at
 
--- author and text of the comment whose fields are given
+-- the author and the text are those of the comment with these fields
 pub record KeepsComment (d : FirstComment) (es : List FieldAt) : Type 0 where
   pub given : d.given ≡ true
   pub author : d.author.now ≡ last_text 1 es
   pub text : d.text.now ≡ last_text 2 es
 
--- author and text of the first old comment among the fields, if there is one
+-- the author and the text are those of the first old comment among the fields, if there is one
 abbrev pub IsFirstComment : List FieldAt → FirstComment → Type 0
 IsFirstComment es d = MatchOption (first_comment es) (d.given ≡ false) (KeepsComment d)
 

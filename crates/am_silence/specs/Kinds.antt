@@ -10,11 +10,11 @@ kind_code kinds.Regexp = 1
 kind_code kinds.NotEqual = 2
 kind_code kinds.NotRegexp = 3
 
--- the kind of a number below 4
+-- the kind with a number below 4
 abbrev pub kind_of : ℕ → MatcherKind
 kind_of n = if n == 0 then kinds.Equal else (if n == 1 then kinds.Regexp else (if n == 2 then kinds.NotEqual else kinds.NotRegexp))
 
--- a regular expression decides
+-- the pattern is a regular expression
 abbrev pub is_regexp : MatcherKind → Bool
 is_regexp kinds.Equal = false
 is_regexp kinds.Regexp = true

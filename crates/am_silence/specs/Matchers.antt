@@ -11,15 +11,15 @@ use Rattle.am_silence.specs.declared.matcher.Matcher.{Matcher}
 use Rattle.am_silence.specs.declared.matcher.MatcherKind.TheVariants as kinds
 use Rattle.am_silence.specs.Kinds.{kind_code, kind_of}
 
--- which wire types a matcher's fields have, and what is at fault inside them
+-- the wire types of a matcher's fields, and the faults inside them
 abbrev pub matcher : Table
 matcher = table_of (varint_row 1 ∷ text_row 2 ∷ text_row 3 ∷ [])
 
--- the matcher of these fields
+-- the matcher that these fields make
 abbrev pub matcher_value : List FieldAt → Matcher
 matcher_value es = record { kind = kind_of (low_half (last_number 1 es)); name = last_text 2 es; pattern = last_text 3 es }
 
--- the last type is one of the four; else it is at fault where it stands
+-- the fault that a matcher's test finds if its last type is none of the four, reported at that field
 abbrev pub matcher_tests : ℕ → List FieldAt → Option WireError
 matcher_tests place es = if nat_lt (low_half (last_number 1 es)) 4 then None else Some (errors.MatcherType (last_number_place 1 es))
 
@@ -27,15 +27,15 @@ matcher_tests place es = if nat_lt (low_half (last_number 1 es)) 4 then None els
 unfoldable pub reads_matcher : ℕ → List ℕ → Result Matcher WireError
 reads_matcher at bytes = read_by matcher matcher_tests matcher_value at at bytes
 
--- the one text of a matcher
+-- the canonical text of a matcher
 unfoldable pub writes_matcher : Matcher → List ℕ
 writes_matcher m = writes_number 1 (kind_code m.kind) ++ writes_text 2 m.name ++ writes_text 3 m.pattern
 
--- the values of a matcher
+-- the matcher is a value of its type
 pub record IsMatcher (m : Matcher) : Type 0 where
   pub name : IsUtf8 m.name
   pub pattern : IsUtf8 m.pattern
 
--- a label that is there has to be this text
+-- the label has to be present, and equal to the pattern
 abbrev pub wants_label : Matcher → Bool
 wants_label m = elim m.kind [ kinds.Equal ↦ not (length m.pattern == 0) | _ ↦ false ]

@@ -1,5 +1,5 @@
 -- A silence: id text = 1, matchers repeated = 2, starts_at = 3, ends_at = 4, updated_at = 5, old comments repeated = 7,
--- created_by text = 8, comment text = 9. Old comments are read and never written.
+-- created_by text = 8, comment text = 9. Old comments are read, but never written.
 use Rattle.std.specs.Prelude.{ℕ, ◌≤◌, List, [], ◌∷◌, ◌++◌, map, Option, Result, All, slice_get}
 use Rattle.std.specs.Option.{option_map_or}
 use Rattle.std.specs.Str.{IsUtf8}
@@ -13,7 +13,7 @@ use Rattle.am_silence.specs.declared.silence.Silence.{Silence}
 use Rattle.am_silence.specs.Matchers.{matcher, matcher_value, matcher_tests, writes_matcher, IsMatcher}
 use Rattle.am_silence.specs.Comments.{comment, comment_tests}
 
--- which wire types a silence's fields have, and what is at fault inside them
+-- the wire types of a silence's fields, and the faults inside them
 abbrev pub silence : Table
 silence =
     table_of (
@@ -25,15 +25,15 @@ silence =
 abbrev pub first_comment : List FieldAt → Option (List FieldAt)
 first_comment es = slice_get (messages comment 7 es) 0
 
--- an old comment's author replaces that of the silence
+-- the author, which is that of the first old comment if there is one
 abbrev pub author_of : List FieldAt → List ℕ
 author_of es = option_map_or (last_text 1) (first_comment es) (last_text 8 es)
 
--- its text replaces that of the silence
+-- the comment, which is the text of the first old comment if there is one
 abbrev pub comment_of : List FieldAt → List ℕ
 comment_of es = option_map_or (last_text 2) (first_comment es) (last_text 9 es)
 
--- the silence of these fields
+-- the silence that these fields make
 abbrev pub silence_value : List FieldAt → Silence
 silence_value es = record {
   id = last_text 1 es;
@@ -45,7 +45,7 @@ silence_value es = record {
   comment = comment_of es;
 }
 
--- its three timestamps are moments; the first that is none is at fault
+-- the fault of the first of its three timestamps that is not a moment
 abbrev pub silence_tests : ℕ → List FieldAt → Option WireError
 silence_tests place es = moment_test 3 es then moment_test 4 es then moment_test 5 es
 
@@ -53,14 +53,14 @@ silence_tests place es = moment_test 3 es then moment_test 4 es then moment_test
 unfoldable pub reads_silence : ℕ → List ℕ → Result Silence WireError
 reads_silence at bytes = read_by silence silence_tests silence_value at at bytes
 
--- the one text of a silence
+-- the canonical text of a silence
 unfoldable pub writes_silence : Silence → List ℕ
 writes_silence s =
     writes_text 1 s.id ++ writes_messages writes_matcher 2 s.matchers ++ writes_delimited 3 (writes_moment s.starts_at)
     ++ writes_delimited 4 (writes_moment s.ends_at) ++ writes_delimited 5 (writes_moment s.updated_at)
     ++ writes_text 8 s.created_by ++ writes_text 9 s.comment
 
--- the values of a silence
+-- the silence is a value of its type
 pub record IsSilence (s : Silence) : Type 0 where
   pub id : IsUtf8 s.id
   pub matchers : All IsMatcher s.matchers

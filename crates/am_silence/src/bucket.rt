@@ -1,4 +1,4 @@
-//! Where the bucket of a silence stands in the text of its matchers.
+//! The place of a silence's bucket in the text of its matchers.
 
 ghost use Rattle.std.specs.Prelude.{◌≡◌, ◌<◌, [], None, MatchOption, IsSomeAnd};
 ghost use Rattle.std.specs.List.{list_any, find};
@@ -10,7 +10,7 @@ ghost use Rattle.am_silence.specs.Mesh.{bucket_of};
 
 use crate::iter::{HasMatchers, MatcherIter};
 
-/// Where the bucket stands in the text of these matchers: how many bytes come before its length.
+/// Returns the offset of the bucket in the text of these matchers: the number of bytes before its length.
 pub fn bucket_offset(matchers: MatcherIter<'_>) -> Option<usize>
     ensures { MatchOption result (bucket_of matchers.entry ≡ [])
         (λ at. (0 < at) × Follows at (bucket_of matchers.entry) (writes_matchers matchers.entry)) }
@@ -21,7 +21,7 @@ pub fn bucket_offset(matchers: MatcherIter<'_>) -> Option<usize>
     first_wanting(matchers)
 }
 
-// Where the length of the first matcher that wants a label stands.
+// Returns the offset of the length of the first matcher that wants a label.
 fn first_wanting(matchers: MatcherIter<'_>) -> Option<usize>
     ensures { MatchOption result (find wants_label matchers.entry ≡ None) (λ at. (0 < at) ×
         IsSomeAnd (find wants_label matchers.entry) (λ m. Follows at (writes_matcher m) (writes_matchers matchers.entry))) }
@@ -38,7 +38,7 @@ fn first_wanting(matchers: MatcherIter<'_>) -> Option<usize>
     None
 }
 
-// A regular expression decides about the silence.
+// Returns whether any matcher is a regular expression.
 fn has_regexp(matchers: MatcherIter<'_>) -> bool
     ensures { result ≡ list_any (λ m. is_regexp m.kind) matchers.entry }
 {

@@ -1,4 +1,4 @@
-//! Versions in texts that are canonical, as replicas write them: their parts stay where they stand.
+//! A reader of canonical texts of versions, as replicas write them, which leaves the parts where they are.
 
 ghost use Rattle.std.specs.Prelude.{◌≡◌, ◌≤◌, ◌<◌, ◌^◌, All, IfSome, length};
 ghost use Rattle.am_version_order.specs.Moments.{greatest};
@@ -19,7 +19,7 @@ use crate::sizes::SilenceFields;
 use am_version_order::Moment;
 use am_wire::reading::{CanonicalReader, Offset};
 
-/// The parts of a version, and where they stand in its canonical text.
+/// The parts of a version, and their places in its canonical text.
 #[derive(Drop)]
 pub(crate) struct CanonicalSilence<'a> {
     pub fields: SilenceFields<'a, MatcherIter<'a>>,
@@ -27,7 +27,7 @@ pub(crate) struct CanonicalSilence<'a> {
     pub places: Offsets,
 }
 
-/// The version that a canonical text spells; none where a text isn't canonical.
+/// Returns the version that a canonical text spells, or `None` if the text isn't canonical.
 pub(crate) fn read_version(text: &[u8]) -> Option<CanonicalSilence<'_>>
     ensures { IfSome result (IsCanonical text.now) }
 {
@@ -83,7 +83,7 @@ fn pass_silence<'a>(
     Some((fields, places))
 }
 
-/// Between which places matchers stand, and where their bucket.
+/// The places between which matchers are, and the place of their bucket.
 #[derive(Clone, Copy)]
 struct MatcherPlaces {
     start: usize,
@@ -105,7 +105,7 @@ fn pass_matchers<'a>(reader: &mut CanonicalReader<'a>) -> Option<(MatcherIter<'a
     Some((matchers, MatcherPlaces { start, end, bucket }))
 }
 
-// Passes matchers as long as more follow.
+// Passes all matchers that follow one another.
 fn pass_all<'a>(reader: &mut CanonicalReader<'a>) -> Option<MatcherIter<'a>>
     ensures passed { IfSome result (λ matchers. Passes (writes_matchers matchers) reader.old reader.new) }
     ensures values { IfSome result (All IsMatcher) }
@@ -118,7 +118,7 @@ fn pass_all<'a>(reader: &mut CanonicalReader<'a>) -> Option<MatcherIter<'a>>
     Some(MatcherIter::over(text))
 }
 
-// Passes a matcher behind its tag and its length.
+// Passes a matcher, behind its tag and its length.
 #[tactic(auto, using(crate::proofs::Passed::matcher_behind))]
 fn pass_matcher<'a>(reader: &mut CanonicalReader<'a>) -> Option<MatcherRef<'a>>
     ensures passed { IfSome result (λ matcher. Passes (writes_delimited 2 (writes_matcher matcher)) reader.old reader.new) }

@@ -1,10 +1,10 @@
-//! The tests that a post and an end have to pass, which take no memory.
+//! The tests that a post and an end have to pass, which allocate nothing.
 
 ghost use Rattle.std.specs.Prelude.{◌≡◌, ◌==◌, length, IfOk};
 ghost use Rattle.std.specs.List.{list_any};
 ghost use Rattle.std.specs.Option.{option_copied};
 ghost use Rattle.am_silence.specs.declared.error.SilenceError.TheVariants as errors;
-ghost use Rattle.am_silence.specs.Plans.{silence_in_view, held_silence};
+ghost use Rattle.am_silence.specs.Plans.{silence_in_view, held_version};
 ghost use Rattle.am_silence.specs.Refusals.{Refuses, ◌when◌, posted_refusal, unread_refusal, verdict_refusal, times_refusal, newer_refusal, held_refusal};
 
 use crate::error::SilenceError;
@@ -14,7 +14,7 @@ use crate::plan::{Posted, Verdict};
 use crate::state::State;
 use am_version_order::Moment;
 
-/// The tests of what is posted, and of the silence that is posted again, which is given back.
+/// Tests what is posted, and the silence that is posted again, which is returned.
 #[tactic(auto, unfolding(crate::specs::Refusals::posted_refusal))]
 pub fn check_posted<'a>(
     held: Option<&'a MeshSilence>,
@@ -22,21 +22,21 @@ pub fn check_posted<'a>(
     verdict: Verdict,
     now: Moment,
 ) -> Result<Option<&'a MeshSilence>, SilenceError>
-    ensures held { IfOk result (λ version. silence_in_view (option_copied version) ≡ held_silence (option_copied held.entry) posted.now) }
+    ensures held { IfOk result (λ version. option_copied version ≡ held_version (option_copied held.entry) posted.now) }
     ensures tests { Refuses result (posted_refusal (option_copied held.entry) posted.now verdict now) }
 {
     if let Some(error) = refused_unread(held, posted) {
         return Err(error);
     }
     check_verdict(verdict)?;
-    let held = held_silence(held, posted);
+    let held = held_version(held, posted);
     check_times(posted, now)?;
     check_held(held, now)?;
     Ok(held)
 }
 
-/// Why a post is refused whatever its patterns are: an identifier that is not in view, no matcher, or one without a
-/// label's name. `held` is as [`plan_post`](crate::plan_post) takes it. It takes no memory.
+/// Returns the reason why a post is refused whatever its patterns are: an identifier that isn't in view, no matcher, or a
+/// matcher without a label's name. `held` is as [`plan_post`](crate::plan_post) takes it. Nothing is allocated.
 #[tactic(auto, unfolding(crate::specs::Refusals::unread_refusal))]
 pub fn refused_unread(held: Option<&MeshSilence>, posted: &Posted) -> Option<SilenceError>
     ensures { result ≡ unread_refusal (option_copied held.entry) posted.now }
@@ -53,7 +53,7 @@ pub fn refused_unread(held: Option<&MeshSilence>, posted: &Posted) -> Option<Sil
     None
 }
 
-// The patterns of the matchers are fine.
+// Checks that the patterns of the matchers are fine.
 fn check_verdict(verdict: Verdict) -> Result<(), SilenceError>
     ensures tests { Refuses result (verdict_refusal verdict) }
 {
@@ -64,9 +64,9 @@ fn check_verdict(verdict: Verdict) -> Result<(), SilenceError>
     }
 }
 
-// The silence that is posted again, if one is.
-fn held_silence<'a>(held: Option<&'a MeshSilence>, posted: &Posted) -> Option<&'a MeshSilence>
-    ensures { silence_in_view (option_copied result) ≡ held_silence (option_copied held.entry) posted.now }
+// Returns the version of the silence that is posted again, if there is one.
+fn held_version<'a>(held: Option<&'a MeshSilence>, posted: &Posted) -> Option<&'a MeshSilence>
+    ensures { option_copied result ≡ held_version (option_copied held.entry) posted.now }
 {
     if posted.id.is_none() {
         return None;
@@ -74,7 +74,7 @@ fn held_silence<'a>(held: Option<&'a MeshSilence>, posted: &Posted) -> Option<&'
     held
 }
 
-// A matcher names no label.
+// Returns whether any matcher has no label's name.
 fn has_empty_name(matchers: MatcherIter<'_>) -> bool
     ensures { result ≡ list_any (λ m. length m.name == 0) matchers.entry }
 {
@@ -86,7 +86,7 @@ fn has_empty_name(matchers: MatcherIter<'_>) -> bool
     false
 }
 
-// The end is after the start, and after now.
+// Checks that the end is after the start, and after now.
 #[tactic(auto, unfolding(crate::specs::Refusals::times_refusal))]
 fn check_times(posted: &Posted, now: Moment) -> Result<(), SilenceError>
     ensures tests { Refuses result (times_refusal posted.now now) }
@@ -100,7 +100,7 @@ fn check_times(posted: &Posted, now: Moment) -> Result<(), SilenceError>
     Ok(())
 }
 
-/// The silence was updated before now, so that a version which is made now is greater.
+/// Checks that the silence was updated before now, so that a version made now is greater.
 #[tactic(auto, unfolding(crate::specs::Refusals::newer_refusal))]
 pub fn check_older(held: &MeshSilence, now: Moment) -> Result<(), SilenceError>
     ensures tests { Refuses result (newer_refusal held.now.silence now) }
@@ -113,7 +113,7 @@ pub fn check_older(held: &MeshSilence, now: Moment) -> Result<(), SilenceError>
     Ok(())
 }
 
-// The same of a silence that is posted again, unless it has expired: it then gets no new version.
+// Checks the same of a silence that is posted again, unless it has expired, since it gets no new version then.
 #[tactic(auto, unfolding(crate::specs::Refusals::held_refusal))]
 fn check_held(held: Option<&MeshSilence>, now: Moment) -> Result<(), SilenceError>
     ensures tests { Refuses result (held_refusal (silence_in_view (option_copied held.entry)) now) }
@@ -124,7 +124,7 @@ fn check_held(held: Option<&MeshSilence>, now: Moment) -> Result<(), SilenceErro
     }
 }
 
-/// No silence has the fresh identifier.
+/// Checks that no silence has the fresh identifier.
 pub fn check_fresh(id_held: bool) -> Result<(), SilenceError>
     ensures { Refuses result (errors.IdInUse when id_held) }
 {

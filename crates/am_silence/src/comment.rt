@@ -1,4 +1,4 @@
-//! Old comments: a list that silences had before they had one comment. It is read and never written.
+//! Old comments: a list that silences had before they had a single comment. It is read, but never written.
 
 ghost use Rattle.std.specs.Prelude.{◌≡◌, ℕ, List, [], ◌∷◌, ◌++◌, false, Option, Some, None, OnOk, IfErr};
 ghost use Rattle.am_wire.specs.Fields.{FieldAt, field_of};
@@ -11,7 +11,7 @@ use am_wire::reading::{
 use am_wire::{Field, Value, WireError, WireType};
 use std::alloc::Global;
 
-/// A comment as it is read.
+/// The draft of a comment.
 #[derive(Drop)]
 pub struct CommentDraft<'a> {
     author: LastText<'a>,
@@ -36,7 +36,7 @@ impl<'a> MessageReader<'a> for CommentDraft<'a> {
     ghost use Rattle.std.specs.Prelude.{⊤};
     ghost use Rattle.am_silence.specs.Drafts.{IsCommentDraft};
 
-    /// A comment is tested, and nothing is made of it by itself.
+    /// A comment is tested, but nothing is made of it by itself.
     type Done = ();
 
     ghost inside = { comment.inside };
@@ -71,7 +71,7 @@ impl<'a> MessageReader<'a> for CommentDraft<'a> {
     }
 }
 
-/// Author and text of the first of the old comments, if one came.
+/// The author and the text of the first old comment, if there is one.
 #[derive(Clone, Copy)]
 pub struct FirstComment<'a> {
     pub author: &'a str,
@@ -82,7 +82,7 @@ pub struct FirstComment<'a> {
 impl<'a> FirstComment<'a> {
     ghost use Rattle.am_silence.specs.Drafts.{IsFirstComment};
 
-    /// No comment came yet.
+    /// Returns the state before any comment is taken.
     pub fn none() -> Self
         ensures { result.given ≡ false }
     {
@@ -93,7 +93,7 @@ impl<'a> FirstComment<'a> {
         }
     }
 
-    /// Reads a comment, and keeps it where it is the first.
+    /// Reads a comment, and keeps it if it is the first one.
     pub fn take(&mut self, alloc: Global, field: Field<'a>) -> Result<(), WireError>
         ensures held { OnOk result ((es : List FieldAt) → (field_of field.entry).number ≡ 7 → IsFirstComment es self.old →
             IsFirstComment (es ++ field_of field.entry ∷ []) self.new) }

@@ -1,4 +1,4 @@
-//! Why a silence is not posted, or not ended.
+//! The reasons why a silence isn't posted, or isn't ended.
 
 ghost use Rattle.std.specs.Prelude.{◌≡◌};
 ghost use Rattle.am_silence.specs.declared.error.SilenceError.TheVariants.{Memory};
@@ -7,7 +7,7 @@ use am_version_order::Moment;
 use std::alloc::AllocError;
 use thiserror::Error;
 
-/// Why a silence is not posted, or not ended: the first of these that applies, in their order.
+/// The reason why a silence isn't posted, or isn't ended: the first of these that applies, in their order.
 #[derive(Clone, Copy, Debug, PartialEq, Eq, Error)]
 pub enum SilenceError {
     #[error("there is no such silence")]

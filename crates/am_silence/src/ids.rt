@@ -7,7 +7,7 @@ use std::marker::Model;
 use std::str;
 use uuid::Builder;
 
-/// The 36 bytes of an identifier's text, which contracts see as their list.
+/// The text of an identifier, of 36 bytes. Contracts see their list.
 #[derive(Clone, Copy)]
 pub struct IdText {
     bytes: [u8; 36],
@@ -27,7 +27,7 @@ impl Model for IdText {
 }
 
 impl IdText {
-    /// The identifier, in the form of RFC 9562.
+    /// Returns the identifier, in the form of RFC 9562.
     pub fn as_str(&self) -> &str
         ensures { result.now ≡ self.now }
     {
@@ -35,7 +35,7 @@ impl IdText {
     }
 }
 
-/// The text of the identifier that these random bits give: RFC 9562, version 4. It takes no memory.
+/// Returns the text of the identifier made of these random bits: RFC 9562, version 4. Nothing is allocated.
 pub fn fresh_id(bits: u128) -> IdText
     // PROMISE: A new identifier is a UUID of version 4.
     ensures { result ≡ id_text bits }

@@ -1,4 +1,4 @@
-//! Matchers that are read out of their canonical text.
+//! An iterator over matchers, which reads them from their canonical text.
 
 ghost use Rattle.std.specs.Prelude.{◌≡◌, ℕ, ◌==◌, ◌<◌, ◌^◌, ◌++◌, List, All, length};
 ghost use Rattle.std.specs.Iterator.{YieldsFirst, item_count};
@@ -18,17 +18,17 @@ const NAME_TAG: u8 = 18;
 
 const PATTERN_TAG: u8 = 26;
 
-/// What has matchers: its own, or another's.
+/// A value that has matchers, owned or borrowed.
 pub trait HasMatchers: Drop {
     /// The matchers.
     ghost listed: { Self → List Matcher };
 
-    /// Goes over them. It takes no memory.
+    /// Returns an iterator over the matchers. Nothing is allocated.
     fn lent(&self) -> MatcherIter<'_>
         ensures { result ≡ listed self.now };
 }
 
-/// Goes over matchers, which are read out of their canonical text. It takes no memory.
+/// An iterator over matchers, which reads them from their canonical text, and allocates nothing.
 ///
 /// Contracts see the matchers to come.
 #[derive(Drop)]
@@ -49,7 +49,7 @@ impl<'a> Model for MatcherIter<'a> {
 }
 
 impl<'a> MatcherIter<'a> {
-    /// Goes over the matchers of a text.
+    /// Returns an iterator over the matchers of a text.
     pub(crate) fn over(text: &'a [u8]) -> MatcherIter<'a>
         requires { IsMatchersText text.now }
         ensures { result ≡ matchers_in text.now }
@@ -57,14 +57,14 @@ impl<'a> MatcherIter<'a> {
         MatcherIter { rest: text }
     }
 
-    /// No matcher is to come.
+    /// Returns whether there are no more matchers.
     pub fn is_empty(&self) -> bool
         ensures { result ≡ (length self.now == 0) }
     {
         self.rest.is_empty()
     }
 
-    /// The canonical text of the matchers to come.
+    /// Returns the canonical text of the matchers to come.
     pub(crate) fn as_text(&self) -> &'a [u8]
         ensures text { result.now ≡ writes_matchers self.now }
         ensures values { All IsMatcher self.now }
@@ -99,7 +99,7 @@ impl<'a> Iterator for MatcherIter<'a> {
     }
 }
 
-// The matcher of its canonical text.
+// Returns the matcher with this canonical text.
 fn matcher_of(text: &[u8]) -> MatcherRef<'_>
     requires { (m : Matcher) × IsMatcherText text.now m }
     ensures { (m : Matcher) → IsMatcherText text.now m → result ≡ m }
@@ -110,7 +110,7 @@ fn matcher_of(text: &[u8]) -> MatcherRef<'_>
     MatcherRef::new(kind, name, pattern)
 }
 
-// The kind at the front of a matcher's text, which is left out where its number is 0, and what follows.
+// Splits a matcher's text into its kind, which is left out if its number is 0, and the rest.
 fn split_kind(text: &[u8]) -> (MatcherKind, &[u8])
     ensures { (m : Matcher) → text.now ≡ writes_matcher m →
         (result.0 ≡ m.kind) × (result.1.now ≡ writes_text 2 m.name ++ writes_text 3 m.pattern) }
@@ -121,7 +121,7 @@ fn split_kind(text: &[u8]) -> (MatcherKind, &[u8])
     (MatcherKind::of_number(u64::from(text[1])), &text[2..])
 }
 
-// The text behind a tag at the front of the bytes, which is left out where it is empty, and what follows.
+// Splits bytes into the text behind a tag, which is left out if it is empty, and the rest.
 fn split_text(bytes: &[u8], tag: u8) -> (&str, &[u8])
     requires { (text rest : List ℕ) × Leads tag text rest bytes.now }
     ensures { (text rest : List ℕ) → Leads tag text rest bytes.now → (result.0.now ≡ text) × (result.1.now ≡ rest) }

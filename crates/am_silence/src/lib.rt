@@ -1,4 +1,4 @@
-//! Silences: how they are read, written and compared, and what posting and ending one makes.
+//! Silences: reading, writing and comparing them, and the versions that posting and ending one makes.
 #![tactic(auto)]
 
 mod bucket;

@@ -1,4 +1,4 @@
-//! Matchers: what a label's value is compared with.
+//! Matchers, to which the values of labels are compared.
 
 ghost use Rattle.std.specs.Prelude.{◌≡◌, ℕ, List, [], ◌∷◌, ◌++◌, ◌<◌, ◌≤◌, OnOk, IfOk, IfErr, Ok, length};
 ghost use Rattle.am_wire.specs.Fields.{FieldAt, field_of};
@@ -9,25 +9,25 @@ ghost use Rattle.am_silence.specs.Matchers.{matcher, wants_label, writes_matcher
 
 use am_wire::reading::{LastNumber, LastText, MessageReader, Schema, read_message};
 use am_wire::writing::{number_size, text_size, write_number, write_text};
-use am_wire::{Field, Message, Text, WireError, WireType};
+use am_wire::{Field, Message, Text, Unknown, WireError, WireType};
 use std::alloc::{AllocError, Global};
 use std::marker::Model;
 
-/// How a label's value is compared.
+/// The way in which a label's value is compared.
 #[derive(Clone, Copy, PartialEq, Eq)]
 pub enum MatcherKind {
-    /// It is the pattern.
+    /// The value is the pattern.
     Equal,
-    /// It matches the pattern, a regular expression, from end to end.
+    /// The value matches the pattern, a regular expression, from end to end.
     Regexp,
-    /// It is not the pattern.
+    /// The value is not the pattern.
     NotEqual,
-    /// It doesn't match the pattern.
+    /// The value doesn't match the pattern, a regular expression.
     NotRegexp,
 }
 
 impl MatcherKind {
-    /// The kind of a number in an enum field, whose tag is at `at`.
+    /// Returns the kind for a number in an enum field, whose tag is at `at`.
     fn from_number(number: u64, at: usize) -> Result<MatcherKind, WireError>
         ensures known { IfOk result (λ kind. (number < 4) × (kind_code kind ≡ number)) }
         ensures unknown { IfErr result (λ e. (4 ≤ number) × (e ≡ WireError.MatcherType at)) }
@@ -38,7 +38,7 @@ impl MatcherKind {
         Ok(MatcherKind::of_number(number))
     }
 
-    /// The kind of a number below 4.
+    /// Returns the kind for a number below 4.
     pub(crate) fn of_number(number: u64) -> MatcherKind
         ensures { result ≡ kind_of number }
     {
@@ -61,7 +61,7 @@ impl MatcherKind {
         }
     }
 
-    /// The pattern is a regular expression.
+    /// Returns whether the pattern is a regular expression.
     pub fn is_regexp(self) -> bool
         ensures { result ≡ is_regexp self }
     {
@@ -69,7 +69,7 @@ impl MatcherKind {
     }
 }
 
-/// What the value of the label `name` is compared with; an absent label is the empty text.
+/// A condition on the value of the label `name`; an absent label has the empty text.
 #[derive(Drop)]
 pub struct Matcher {
     pub kind: MatcherKind,
@@ -78,25 +78,25 @@ pub struct Matcher {
 }
 
 impl Matcher {
-    /// The same matcher, whose texts are this one's.
+    /// Returns the same matcher with borrowed texts.
     pub fn borrowed(&self) -> MatcherRef<'_>
         ensures { result ≡ self.now }
     {
         MatcherRef::new(self.kind, self.name.as_str(), self.pattern.as_str())
     }
 
-    /// A label that is there has to be the pattern, which is not empty.
+    /// Returns whether the label has to be present, and equal to the pattern, which is not empty then.
     pub fn wants_label(&self) -> bool
         ensures { result ≡ wants_label self.now }
     {
         self.borrowed().wants_label()
     }
 
-    /// A copy.
+    /// Returns a copy.
     ///
     /// # Errors
     ///
-    /// [`AllocError`] where memory runs out.
+    /// [`AllocError`] if memory runs out.
     pub fn try_clone(&self, alloc: Global) -> Result<Matcher, AllocError>
         ensures { IfOk result (λ copy. copy ≡ self.now) }
     {
@@ -104,7 +104,7 @@ impl Matcher {
     }
 }
 
-/// A matcher whose texts are another's. Contracts see the matcher.
+/// A matcher with borrowed texts. Contracts see the matcher.
 #[derive(Drop)]
 pub struct MatcherRef<'a> {
     kind: MatcherKind,
@@ -121,7 +121,7 @@ impl<'a> Model for MatcherRef<'a> {
 }
 
 impl<'a> MatcherRef<'a> {
-    /// A matcher of these parts.
+    /// Returns a matcher of these parts.
     pub fn new(kind: MatcherKind, name: &'a str, pattern: &'a str) -> Self
         ensures { result ≡ record { kind = kind; name = name.now; pattern = pattern.now } }
     {
@@ -132,39 +132,39 @@ impl<'a> MatcherRef<'a> {
         }
     }
 
-    /// How it compares.
+    /// Returns the way in which the label's value is compared.
     pub fn kind(&self) -> MatcherKind
         ensures { result ≡ self.now.kind }
     {
         self.kind
     }
 
-    /// The label's name.
+    /// Returns the label's name.
     pub fn name(&self) -> &'a str
         ensures { result.now ≡ self.now.name }
     {
         self.name
     }
 
-    /// The value, or the regular expression, that the label's value is compared with.
+    /// Returns the value, or the regular expression, to which the label's value is compared.
     pub fn pattern(&self) -> &'a str
         ensures { result.now ≡ self.now.pattern }
     {
         self.pattern
     }
 
-    /// A label that is there has to be the pattern, which is not empty.
+    /// Returns whether the label has to be present, and equal to the pattern, which is not empty then.
     pub fn wants_label(&self) -> bool
         ensures { result ≡ wants_label self.now }
     {
         matches!(self.kind, MatcherKind::Equal) && !self.pattern.is_empty()
     }
 
-    /// A matcher with texts of its own.
+    /// Copies the matcher into one with texts of its own.
     ///
     /// # Errors
     ///
-    /// [`AllocError`] where memory runs out.
+    /// [`AllocError`] if memory runs out.
     pub fn copied(&self, alloc: Global) -> Result<Matcher, AllocError>
         ensures { IfOk result (λ copy. copy ≡ self.now) }
     {
@@ -175,7 +175,7 @@ impl<'a> MatcherRef<'a> {
         })
     }
 
-    /// How many bytes its text has.
+    /// Returns the length of its text.
     #[tactic(auto, unfolding(crate::specs::Matchers::writes_matcher))]
     pub(crate) fn size(&self) -> u64
         ensures { result ≡ counted (length (writes_matcher self.now)) }
@@ -185,7 +185,7 @@ impl<'a> MatcherRef<'a> {
             .saturating_add(text_size(3, self.pattern))
     }
 
-    /// Writes its text at the end of the bytes.
+    /// Appends its text to the bytes.
     #[tactic(auto, unfolding(crate::specs::Matchers::writes_matcher))]
     pub(crate) fn write(&self, out: &mut Vec<u8>) -> Result<(), AllocError>
         ensures written { OnOk result (out.new.items ≡ out.old.items ++ writes_matcher self.now) }
@@ -197,7 +197,7 @@ impl<'a> MatcherRef<'a> {
     }
 }
 
-/// A matcher as it is read.
+/// The draft of a matcher.
 #[derive(Clone, Copy)]
 pub struct MatcherDraft<'a> {
     kind: LastNumber,
@@ -260,14 +260,22 @@ impl<'a> MessageReader<'a> for MatcherDraft<'a> {
 impl Message for Matcher {
     ghost use Rattle.am_silence.specs.Matchers.{IsMatcher, reads_matcher, writes_matcher};
     ghost use Rattle.am_silence.specs.RoundTrip.{matcher_again};
+    ghost use Rattle.am_wire.specs.RoundTrip.Plain.{plainly_itself};
+    ghost use Rattle.std.specs.Prelude.{refl};
 
     ghost is_value = { IsMatcher };
 
     ghost writes = { writes_matcher };
 
-    ghost reads = { reads_matcher };
+    ghost plain = { λ v. v };
+
+    ghost reads = { λ unknown. reads_matcher };
 
     ghost round_trip = { matcher_again };
+
+    ghost dropped = { λ at bytes. plainly_itself (reads_matcher at bytes) };
+
+    ghost plain_again = { λ v. refl };
 
     fn size(&self) -> u64 {
         self.borrowed().size()
@@ -278,7 +286,12 @@ impl Message for Matcher {
     }
 
     #[tactic(auto, unfolding(crate::specs::Matchers::reads_matcher))]
-    fn decode_at(alloc: Global, bytes: &[u8], at: usize) -> Result<Matcher, WireError> {
+    fn decode_at(
+        alloc: Global,
+        _unknown: Unknown,
+        bytes: &[u8],
+        at: usize,
+    ) -> Result<Matcher, WireError> {
         let matcher = read_message::<MatcherDraft>(alloc, bytes, at, at)?;
         Ok(matcher.copied(alloc)?)
     }

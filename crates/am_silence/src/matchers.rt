@@ -16,12 +16,12 @@ use std::marker::Model;
 
 /// The matchers of a silence, in their order. Contracts see the list.
 ///
-/// They are kept as their canonical text.
+/// They are stored as their canonical text.
 pub struct Matchers {
     text: Vec<u8>,
 }
 
-// (so that crates above cite one drop, and don't prove those of all that is inside)
+// With this the crates above cite one drop, and don't prove those of everything inside.
 impl Drop for Matchers {
     fn drop(self) {
         let Matchers { text: _ } = self;
@@ -41,7 +41,7 @@ impl Model for Matchers {
 }
 
 impl Matchers {
-    /// No matchers. It takes no memory.
+    /// Returns no matchers, without allocating.
     pub fn none(alloc: Global) -> Matchers
         ensures { result ≡ [] }
     {
@@ -50,11 +50,11 @@ impl Matchers {
         }
     }
 
-    /// Copies of these matchers.
+    /// Copies these matchers.
     ///
     /// # Errors
     ///
-    /// [`AllocError`] where memory runs out.
+    /// [`AllocError`] if memory runs out.
     pub fn new(alloc: Global, matchers: &[Matcher]) -> Result<Matchers, AllocError>
         ensures { IfOk result (λ copies. copies ≡ matchers.now) }
     {
@@ -65,25 +65,25 @@ impl Matchers {
         Ok(copies)
     }
 
-    /// Whether there is no matcher.
+    /// Returns whether there are no matchers.
     pub fn is_empty(&self) -> bool
         ensures { result ≡ (length self.now == 0) }
     {
         self.text.is_empty()
     }
 
-    /// Goes over the matchers. It takes no memory.
+    /// Returns an iterator over the matchers. Nothing is allocated.
     pub fn iter(&self) -> MatcherIter<'_>
         ensures { result ≡ self.now }
     {
         MatcherIter::over(self.text.as_slice())
     }
 
-    /// Puts a copy of a matcher at the end.
+    /// Appends a copy of a matcher.
     ///
     /// # Errors
     ///
-    /// [`AllocError`] where memory runs out. The matchers stay as they were.
+    /// [`AllocError`] if memory runs out. The matchers are unchanged then.
     pub fn push(&mut self, alloc: Global, matcher: &MatcherRef<'_>) -> Result<(), AllocError>
         ensures pushed { OnOk result (self.new ≡ self.old ++ matcher.now ∷ []) }
         ensures unchanged { OnErr result (self.new ≡ self.old) }
@@ -93,7 +93,7 @@ impl Matchers {
         Ok(())
     }
 
-    /// Reads the matcher in a field, and puts it at the end.
+    /// Reads the matcher in a field, and appends it.
     ///
     /// # Errors
     ///
@@ -110,18 +110,18 @@ impl Matchers {
         Ok(())
     }
 
-    /// Gives back the memory that is not needed.
+    /// Frees the memory that isn't needed.
     pub(crate) fn shrink_to_fit(&mut self)
         ensures { self.new ≡ self.old }
     {
         self.text.shrink_to_fit();
     }
 
-    /// A copy.
+    /// Returns a copy.
     ///
     /// # Errors
     ///
-    /// [`AllocError`] where memory runs out.
+    /// [`AllocError`] if memory runs out.
     pub fn try_clone(&self, alloc: Global) -> Result<Matchers, AllocError>
         ensures { IfOk result (λ copy. copy ≡ self.now) }
     {
@@ -139,7 +139,7 @@ impl HasMatchers for Matchers {
     }
 }
 
-// A matcher as a field of its silence, in no more room than it takes.
+// Returns a matcher as a field of its silence, with exactly the memory that this needs.
 fn field_text(alloc: Global, matcher: &MatcherRef<'_>) -> Result<Vec<u8>, AllocError>
     ensures written { IfOk result (λ text. text.items ≡ writes_delimited 2 (writes_matcher matcher.now)) }
     ensures value { OnOk result (IsMatcher matcher.now) }

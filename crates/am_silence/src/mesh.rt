@@ -1,6 +1,6 @@
-//! Silences as instances pass them on.
+//! Silences as instances exchange them.
 
-ghost use Rattle.std.specs.Prelude.{◌≡◌, ◌+◌, ◌^◌, ◌<◌, ◌≤◌, length, Err, IfOk, IfErr, IfSome, false, ◌⊎◌, ◌↔◌};
+ghost use Rattle.std.specs.Prelude.{◌≡◌, ◌+◌, ◌^◌, ◌<◌, ◌≤◌, length, IsTrue, Err, IfOk, IfErr, IfSome, false, ◌⊎◌, ◌↔◌};
 ghost use Rattle.am_wire.specs.Limits.{most};
 ghost use Rattle.am_wire.specs.declared.error.WireError.TheVariants as errors;
 ghost use Rattle.am_version_order.specs.Moments.{greatest};
@@ -8,26 +8,31 @@ ghost use Rattle.am_wire.specs.Sizes.{counted};
 ghost use Rattle.am_silence.specs.Silences.{writes_silence};
 ghost use Rattle.am_wire.specs.Reading.{GivesUnlessMemory};
 ghost use Rattle.am_silence.specs.MeshTable.{reads_mesh_silence};
-ghost use Rattle.am_silence.specs.Mesh.{IsMesh, writes_mesh_silence, bucket_of};
+ghost use Rattle.am_wire.specs.Unknown.{IsUnknown, none};
+ghost use Rattle.am_silence.specs.Mesh.{IsMesh, plain_version, silence_numbers, version_with, without_unknown, writes_mesh_silence, bucket_of};
 ghost use Rattle.am_silence.specs.States.{state_of, is_expired};
 
 use crate::canonical::{CanonicalSilence, read_version};
 use crate::iter::{HasMatchers, MatcherIter};
 use crate::offsets::{Offsets, write_silence};
 use crate::silence::{Silence, SilenceDraft};
-use crate::sizes::{SilenceFields, version_size};
+use crate::sizes::{SilenceFields, UnknownParts, version_size};
 use crate::state::{State, state_between};
 use am_version_order::{Moment, Version, head_of_text};
-use am_wire::reading::{Expiring, ExpiringDraft, read_message};
-use am_wire::writing::{append_text, write_message, write_prefix};
-use am_wire::{MOST_MESSAGE_BYTES, Message, Text, WireError};
+use am_wire::reading::{Expiring, ExpiringDraft, Offset, read_message};
+use am_wire::writing::{append_text, expiring_size, write_message, write_prefix};
+use am_wire::{MOST_MESSAGE_BYTES, Message, Text, Unknown, UnknownFields, WireError};
 use std::alloc::{AllocError, Global};
 use std::marker::Model;
 
-/// A version of a silence: the silence, and the moment from which on it may be forgotten.
+// The numbers of a silence's known fields.
+const KNOWN: [u32; 8] = [1, 2, 3, 4, 5, 7, 8, 9];
+
+/// A version of a silence: the silence, the moment from which it may be forgotten, and the fields that a reader kept without
+/// knowing them.
 ///
-/// Of a version its canonical text is kept, and beside it the identifier, the moments, and where the other parts stand
-/// in the text: they are read where they are asked for.
+/// A version is stored as its canonical text, with the identifier and the moments beside it, and the places of the other
+/// parts in the text, from which they are read when they are needed.
 pub struct MeshSilence {
     id: Text,
     starts_at: Moment,
@@ -38,7 +43,7 @@ pub struct MeshSilence {
     canonical: Vec<u8>,
 }
 
-// (so that crates above cite one drop, and don't prove those of all that is inside)
+// With this the crates above cite one drop, and don't prove those of everything inside.
 impl Drop for MeshSilence {
     fn drop(self) {
         let MeshSilence {
@@ -76,64 +81,71 @@ impl Model for MeshSilence {
 }
 
 impl MeshSilence {
-    /// A version of these parts.
+    /// Returns a version of these parts, without unknown fields.
     ///
     /// # Errors
     ///
-    /// [`WireError::TooLarge`] exactly where its canonical text has over 67,108,864 bytes, and
-    /// [`WireError::Memory`] where memory runs out.
+    /// [`WireError::TooLarge`] if and only if its canonical text has more than 67,108,864 bytes, and [`WireError::Memory`] if
+    /// memory runs out.
     pub fn new(
         alloc: Global,
         silence: Silence,
         expires_at: Moment,
     ) -> Result<MeshSilence, WireError>
-        ensures parts { IfOk result (λ m. m ≡ record { silence = silence; expires_at = expires_at }) }
+        ensures parts { IfOk result (λ m. m ≡ plain_version silence expires_at) }
         ensures value { IfOk result IsMesh }
         ensures within { IfOk result (λ m. length (writes_mesh_silence m) ≤ most) }
         ensures too_large { (result ≡ Err errors.TooLarge) ↔
-            (most < length (writes_mesh_silence (record { silence = silence; expires_at = expires_at }))) }
+            (most < length (writes_mesh_silence (plain_version silence expires_at))) }
         ensures refused { IfErr result (λ e. (e ≡ errors.Memory) ⊎ (e ≡ errors.TooLarge)) }
     {
-        MeshSilence::of_fields(alloc, &silence.fields(), expires_at)
+        MeshSilence::of_fields(alloc, &silence.fields(), expires_at, &UnknownParts::none())
     }
 
-    // The same of fields.
+    // Returns a version of these fields, with unknown ones, as `new` does.
     pub(crate) fn of_fields(
         alloc: Global,
         fields: &SilenceFields<'_, MatcherIter<'_>>,
         expires_at: Moment,
+        unknown: &UnknownParts<'_>,
     ) -> Result<MeshSilence, WireError>
-        ensures parts { IfOk result (λ m. m ≡ record { silence = fields.now; expires_at = expires_at }) }
+        requires { IsUnknown silence_numbers unknown.now }
+        ensures parts { IfOk result (λ m. m ≡ version_with unknown.now fields.now expires_at) }
         ensures value { IfOk result IsMesh }
         ensures within { IfOk result (λ m. length (writes_mesh_silence m) ≤ most) }
         ensures too_large { (result ≡ Err errors.TooLarge) ↔
-            (most < length (writes_mesh_silence (record { silence = fields.now; expires_at = expires_at }))) }
+            (most < length (writes_mesh_silence (version_with unknown.now fields.now expires_at))) }
         ensures refused { IfErr result (λ e. (e ≡ errors.Memory) ⊎ (e ≡ errors.TooLarge)) }
     {
         let size = fields.size();
-        if version_size(size, expires_at) > MOST_MESSAGE_BYTES {
+        if version_size(size, expires_at, unknown) > MOST_MESSAGE_BYTES {
             return Err(WireError::TooLarge);
         }
-        let version = MeshSilence::of_sized(alloc, fields, size, expires_at)?;
+        let version = MeshSilence::of_sized(alloc, fields, size, expires_at, unknown)?;
         Ok(version)
     }
 
-    // A version of these fields, whose silence has so many bytes, however many.
+    // Returns a version of these fields, whose silence has `size` bytes, with unknown fields, whatever the length of its text.
     #[tactic(auto, unfolding(crate::specs::Mesh::writes_mesh_silence))]
     fn of_sized<M: HasMatchers>(
         alloc: Global,
         fields: &SilenceFields<'_, M>,
         size: u64,
         expires_at: Moment,
+        unknown: &UnknownParts<'_>,
     ) -> Result<MeshSilence, AllocError>
-        requires { size ≡ counted (length (writes_silence fields.now)) }
-        ensures { IfOk result (λ m. m ≡ record { silence = fields.now; expires_at = expires_at }) }
+        requires size { size ≡ counted (length (writes_silence fields.now)) }
+        requires unknown { IsUnknown silence_numbers unknown.now }
+        ensures { IfOk result (λ m. m ≡ version_with unknown.now fields.now expires_at) }
     {
-        let room = version_size(size, expires_at) as usize;
-        let mut canonical = Vec::with_capacity(alloc, room)?;
+        let room = version_size(size, expires_at, unknown);
+        let mut canonical = Vec::with_capacity(alloc, room as usize)?;
+        let size = size.saturating_add(unknown.inner.len() as u64);
         write_prefix(&mut canonical, 1, size)?;
         let places = write_silence(&mut canonical, fields)?;
+        canonical.extend_from_slice(unknown.inner)?;
         write_message(&mut canonical, 2, &expires_at)?;
+        canonical.extend_from_slice(unknown.outer)?;
         Ok(MeshSilence {
             id: Text::copied(alloc, fields.id)?,
             starts_at: fields.starts_at,
@@ -145,10 +157,11 @@ impl MeshSilence {
         })
     }
 
-    // The version of a text that is canonical; none of another.
+    // Returns the version that a text spells if it is canonical and has no unknown fields, and `None` otherwise.
     fn of_canonical(alloc: Global, text: &[u8]) -> Result<Option<MeshSilence>, AllocError>
         ensures text { IfOk result (λ found. IfSome found (λ m. text.now ≡ writes_mesh_silence m)) }
         ensures value { IfOk result (λ found. IfSome found IsMesh) }
+        ensures plain { IfOk result (λ found. IfSome found (λ m. without_unknown m ≡ m)) }
     {
         let Some(version) = read_version(text) else {
             return Ok(None);
@@ -169,21 +182,29 @@ impl MeshSilence {
         }))
     }
 
-    // The version of a text that spells it in whatever way; its canonical text is written anew.
+    // Returns the version that a text spells in any way; its canonical text is written anew.
     #[tactic(auto, unfolding(crate::specs::MeshTable::reads_mesh_silence))]
-    fn of_spelling(alloc: Global, bytes: &[u8], at: usize) -> Result<MeshSilence, WireError>
+    fn of_spelling(
+        alloc: Global,
+        unknown: Unknown,
+        bytes: &[u8],
+        at: usize,
+    ) -> Result<MeshSilence, WireError>
         requires { at + length bytes.now < 2 ^ 64 }
-        ensures { GivesUnlessMemory result (reads_mesh_silence at bytes.now) }
+        ensures { GivesUnlessMemory result (reads_mesh_silence unknown at bytes.now) }
     {
         let Expiring {
             message: fields,
             expires_at,
         } = read_message::<ExpiringDraft<SilenceDraft>>(alloc, bytes, at, at)?;
-        let version = MeshSilence::of_sized(alloc, &fields, fields.size(), expires_at)?;
+        let unknown = UnknownFields::of(alloc, unknown, &KNOWN, bytes, at)?;
+        let size = fields.size();
+        let unknown = UnknownParts::of(&unknown);
+        let version = MeshSilence::of_sized(alloc, &fields, size, expires_at, &unknown)?;
         Ok(version)
     }
 
-    /// The fields of the silence.
+    /// Returns the fields of the silence.
     pub(crate) fn fields(&self) -> SilenceFields<'_, MatcherIter<'_>>
         ensures { result ≡ self.now.silence }
     {
@@ -198,7 +219,7 @@ impl MeshSilence {
         }
     }
 
-    /// The matchers of the silence, in their order.
+    /// Returns an iterator over the matchers of the silence, in their order.
     pub fn matchers(&self) -> MatcherIter<'_>
         ensures { result ≡ self.now.silence.matchers }
     {
@@ -206,42 +227,42 @@ impl MeshSilence {
         MatcherIter::over(&self.canonical[places.matchers..places.matchers_end])
     }
 
-    /// The moment from which on it is active.
+    /// Returns the moment from which the silence is active.
     pub fn starts_at(&self) -> Moment
         ensures { result ≡ self.now.silence.starts_at }
     {
         self.starts_at
     }
 
-    /// The moment from which on it is expired.
+    /// Returns the moment from which the silence has expired.
     pub fn ends_at(&self) -> Moment
         ensures { result ≡ self.now.silence.ends_at }
     {
         self.ends_at
     }
 
-    /// The moment of its last change, by which versions replace each other.
+    /// Returns the moment of the last change, by which versions replace each other.
     pub fn updated_at(&self) -> Moment
         ensures { result ≡ self.now.silence.updated_at }
     {
         self.updated_at
     }
 
-    /// Who made the silence.
+    /// Returns who made the silence.
     pub fn created_by(&self) -> &str
         ensures { result.now ≡ self.now.silence.created_by }
     {
         self.places.created_by.text_of(&self.canonical)
     }
 
-    /// Why it was made.
+    /// Returns why the silence was made.
     pub fn comment(&self) -> &str
         ensures { result.now ≡ self.now.silence.comment }
     {
         self.places.comment.text_of(&self.canonical)
     }
 
-    /// The state of the silence at a moment: at the last one all silences have expired. It takes no memory.
+    /// Returns the state of the silence at a moment: at the last one all silences have expired. Nothing is allocated.
     pub fn state_at(&self, now: Moment) -> State
         ensures state { result ≡ state_of self.now.silence now }
         ensures last { is_expired result ≡ false → now < greatest }
@@ -249,7 +270,30 @@ impl MeshSilence {
         state_between(self.starts_at, self.ends_at, now)
     }
 
-    /// The moment from which on it may be forgotten.
+    /// Returns whether the version has no fields that its reader kept without knowing them. Nothing is allocated.
+    pub fn is_plain(&self) -> bool
+        ensures { IsTrue result ↔ (self.now.unknown ≡ none) }
+    {
+        let unknown = self.unknown();
+        unknown.inner.is_empty() && unknown.outer.is_empty()
+    }
+
+    /// Returns the fields that its reader kept without knowing them, which are in its text behind the silence and at the end.
+    /// Nothing is allocated.
+    pub(crate) fn unknown(&self) -> UnknownParts<'_>
+        ensures is { result ≡ self.now.unknown }
+        ensures unknown { IsUnknown silence_numbers result }
+    {
+        let text = self.canonical.as_slice();
+        let payload = Offset { start: 1 }.part_of(text);
+        let known = self.fields().size();
+        let both = expiring_size(payload.len() as u64, self.expires_at);
+        let (_, inner) = payload.split_at(known as usize);
+        let (_, outer) = text.split_at(both as usize);
+        UnknownParts { inner, outer }
+    }
+
+    /// Returns the moment from which the version may be forgotten.
     pub fn expires_at(&self) -> Moment
         ensures { result ≡ self.now.expires_at }
     {
@@ -258,17 +302,24 @@ impl MeshSilence {
 }
 
 impl Message for MeshSilence {
-    ghost use Rattle.am_silence.specs.Mesh.{IsMesh};
+    ghost use Rattle.std.specs.Prelude.{refl};
+    ghost use Rattle.am_silence.specs.Mesh.{IsMesh, without_unknown};
     ghost use Rattle.am_silence.specs.MeshTable.{reads_mesh_silence};
-    ghost use Rattle.am_silence.specs.RoundTrip.{mesh_again};
+    ghost use Rattle.am_silence.specs.RoundTrip.{mesh_again, mesh_dropped};
 
     ghost is_value = { IsMesh };
 
     ghost writes = { writes_mesh_silence };
 
+    ghost plain = { without_unknown };
+
     ghost reads = { reads_mesh_silence };
 
     ghost round_trip = { mesh_again };
+
+    ghost dropped = { mesh_dropped };
+
+    ghost plain_again = { λ m. refl };
 
     fn size(&self) -> u64 {
         self.canonical().len() as u64
@@ -282,10 +333,15 @@ impl Message for MeshSilence {
         append_text(out, self.canonical())
     }
 
-    fn decode_at(alloc: Global, bytes: &[u8], at: usize) -> Result<MeshSilence, WireError> {
+    fn decode_at(
+        alloc: Global,
+        unknown: Unknown,
+        bytes: &[u8],
+        at: usize,
+    ) -> Result<MeshSilence, WireError> {
         match MeshSilence::of_canonical(alloc, bytes)? {
             Some(version) => Ok(version),
-            None => MeshSilence::of_spelling(alloc, bytes, at),
+            None => MeshSilence::of_spelling(alloc, unknown, bytes, at),
         }
     }
 }

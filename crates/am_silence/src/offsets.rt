@@ -1,4 +1,4 @@
-//! Silences written into a text, and where their parts then stand.
+//! The writing of silences into a text, and the places of their parts in it.
 
 ghost use Rattle.std.specs.Prelude.{◌≡◌, ℕ, ◌+◌, ◌<◌, ◌^◌, List, ◌++◌, length, All, OnOk, IfOk};
 ghost use Rattle.am_wire.specs.Offsets.{StandsAt};
@@ -15,8 +15,8 @@ use am_wire::reading::Offset;
 use am_wire::writing::{write_message, write_part, write_text};
 use std::alloc::AllocError;
 
-/// Where the parts of a silence stand in a text: its matchers from one place up to another, and its texts and the
-/// bucket where their lengths are.
+/// The places of a silence's parts in a text: the beginning and the end of its matchers, and the offsets of the lengths of its
+/// texts and of the bucket.
 #[derive(Clone, Copy)]
 pub struct Offsets {
     pub matchers: usize,
@@ -26,11 +26,11 @@ pub struct Offsets {
     pub bucket: Offset,
 }
 
-/// Writes a silence at the end of a text, and says where its parts stand there.
+/// Appends a silence to a text, and returns the places of its parts in it.
 ///
 /// # Errors
 ///
-/// [`AllocError`] where memory runs out. Some of the text may be left.
+/// [`AllocError`] if memory runs out. Some of the text may have been written then.
 #[tactic(auto, unfolding(crate::specs::Silences::writes_silence))]
 pub fn write_silence<M: HasMatchers>(
     out: &mut Vec<u8>,
@@ -56,7 +56,7 @@ pub fn write_silence<M: HasMatchers>(
     })
 }
 
-// Writes matchers, and says between which places they stand, and where their bucket.
+// Appends matchers, and returns the places between which they are, and that of their bucket.
 fn write_matchers(
     out: &mut Vec<u8>,
     matchers: &MatcherIter<'_>,
@@ -73,7 +73,7 @@ fn write_matchers(
     Ok((start, end, bucket))
 }
 
-// Where the bucket of matchers stands, whose text begins at a place.
+// Returns the place of the bucket of matchers whose text begins at `start`.
 pub(crate) fn bucket_place(start: usize, matchers: &MatcherIter<'_>) -> Offset
     requires { start + length (writes_matchers matchers.now) < 2 ^ 64 }
     ensures { (front : List ℕ) → length front ≡ start →

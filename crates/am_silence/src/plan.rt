@@ -1,4 +1,4 @@
-//! What a post of a silence makes, and what ending one makes.
+//! The versions that posting a silence makes, and the one that ending it makes.
 
 ghost use Rattle.std.specs.Prelude.{◌≡◌, ◌≢◌, ◌<◌, Some, None, All, OnOk, IfOk, IfErr, IfSome, IsSomeAnd, ◌↔◌};
 ghost use Rattle.std.specs.Option.{option_copied};
@@ -20,7 +20,7 @@ use am_version_order::{Interval, Moment};
 use am_wire::Text;
 use std::alloc::Global;
 
-/// A silence as it is posted: under the identifier of one that is there, or as a new one.
+/// A silence as it is posted: with the identifier of an existing one, or as a new one.
 #[derive(Drop)]
 pub struct Posted {
     pub id: Option<Text>,
@@ -31,36 +31,34 @@ pub struct Posted {
     pub comment: Text,
 }
 
-/// What is known of the posted matchers.
+/// The result of reading the patterns of the posted matchers.
 #[derive(Clone, Copy, Debug, PartialEq, Eq)]
 pub enum Verdict {
-    /// Their patterns are read, and one of them doesn't match the empty text.
+    /// All patterns are valid, and one of the matchers doesn't match the empty text.
     Fine,
-    /// A pattern is no regular expression.
+    /// A pattern is not a valid regular expression.
     Bad,
-    /// All of them match the empty text.
+    /// All matchers match the empty text.
     AllEmpty,
 }
 
 /// The versions that a post makes.
 #[derive(Drop)]
 pub enum Plan {
-    /// The silence of the posted identifier, updated in place.
+    /// The silence with the posted identifier, updated in place.
     Update(MeshSilence),
     /// A new silence.
     Create(MeshSilence),
-    /// A new silence, and the one of the posted identifier, which ends. The new one is put in first.
+    /// A new silence, and the end of the one with the posted identifier. The new one is put in first.
     Replace { new: MeshSilence, old: MeshSilence },
 }
 
-/// The versions that a post at `now` makes, where `held` is the version of the posted identifier in the
-/// view, `bits` are random, and `id_held` says that the identifier that they give is held, live or not.
-/// Where no identifier is posted, nothing is looked at of `held`.
+/// Returns the versions that a post at `now` makes. `held` is the version of the posted identifier in the view, and isn't used
+/// if no identifier is posted. `bits` are random, and `id_held` says whether the identifier made of them is held, live or not.
 ///
 /// # Errors
 ///
-/// The first [`SilenceError`] that applies, in their order, of which [`SilenceError::Memory`], where memory runs
-/// out, is the last.
+/// The first [`SilenceError`] that applies, in their order. The last one is [`SilenceError::Memory`], if memory runs out.
 #[tactic(auto, unfolding(crate::specs::Refusals::early_refusal, crate::specs::Refusals::refusal, crate::specs::Plans::planned))]
 pub fn plan_post(
     alloc: Global,
@@ -81,11 +79,11 @@ pub fn plan_post(
     ensures memory { IfErr result (λ e. e ≡ errors.Memory →
         refusal (option_copied held.entry) verdict id_held (post_of posted now bits retention) ≡ None) }
 
-    // The silence that is posted again is updated exactly where the rule allows it.
+    // The silence that is posted again is updated if and only if the rule allows it.
     ensures in_place { IfOk result (λ plan. IsUpdate plan ↔
         IsSomeAnd (held_silence (option_copied held.entry) posted) (λ silence. MayUpdate silence posted now)) }
 
-    // What the plan makes is live, and greater than what it takes the place of.
+    // The versions of the plan are live, and greater than those that they replace.
     ensures live { IfOk result (λ plan. All (λ v. IsLive now (mesh_version v)) (versions plan)) }
     ensures greater { IfOk result (λ plan. IfSome (successor plan)
         (λ v. IfSome (option_copied held.entry) (λ version. Succeeds version v))) }
@@ -94,7 +92,7 @@ pub fn plan_post(
     plan_over(alloc, held, &posted, now, bits, id_held, retention)
 }
 
-// The versions that a post makes, where `held` is the version of the silence that is posted again.
+// Returns the versions that a post makes, if `held` is the version of the silence that is posted again.
 #[tactic(auto, unfolding(crate::specs::Refusals::fresh_refusal, crate::specs::Refusals::size_refusal))]
 fn plan_over(
     alloc: Global,
@@ -106,21 +104,21 @@ fn plan_over(
     retention: Interval,
 ) -> Result<Plan, SilenceError>
     ensures planned { IfOk result (λ plan.
-        plan ≡ plan_over (silence_in_view (option_copied held.entry)) (post_of posted.now now bits retention)) }
+        plan ≡ plan_over (option_copied held.entry) (post_of posted.now now bits retention)) }
     ensures fresh { OnOk result (fresh_refusal (silence_in_view (option_copied held.entry)) posted.now id_held now ≡ None) }
     ensures size { OnOk result (size_refusal (versions
-        (plan_over (silence_in_view (option_copied held.entry)) (post_of posted.now now bits retention))) ≡ None) }
+        (plan_over (option_copied held.entry) (post_of posted.now now bits retention))) ≡ None) }
     ensures refused { IfErr result (λ e. e ≢ errors.Memory →
         (fresh_refusal (silence_in_view (option_copied held.entry)) posted.now id_held now
         before size_refusal (versions
-        (plan_over (silence_in_view (option_copied held.entry)) (post_of posted.now now bits retention)))) ≡ Some e) }
+        (plan_over (option_copied held.entry) (post_of posted.now now bits retention)))) ≡ Some e) }
     ensures in_place { IfOk result (λ plan. IsUpdate plan ↔
         IsSomeAnd (silence_in_view (option_copied held.entry)) (λ silence. MayUpdate silence posted.now now)) }
     ensures live { now < posted.now.ends_at → IfOk result (λ plan. All (λ v. IsLive now (mesh_version v)) (versions plan)) }
     ensures memory { IfErr result (λ e. e ≡ errors.Memory →
         (fresh_refusal (silence_in_view (option_copied held.entry)) posted.now id_held now
         before size_refusal (versions
-        (plan_over (silence_in_view (option_copied held.entry)) (post_of posted.now now bits retention)))) ≡ None) }
+        (plan_over (option_copied held.entry) (post_of posted.now now bits retention)))) ≡ None) }
 {
     match held {
         Some(held) if may_update(held, posted, now) => {
@@ -134,7 +132,7 @@ fn plan_over(
     }
 }
 
-// A new silence, and the end of the held one, unless that has expired.
+// Returns a new silence, and the end of the held one unless that has expired.
 #[tactic(auto, unfolding(crate::specs::Refusals::size_refusal))]
 fn plan_new(
     alloc: Global,
@@ -146,13 +144,13 @@ fn plan_new(
 ) -> Result<Plan, SilenceError>
     ensures new { IfOk result (λ plan. ¬ IsUpdate plan) }
     ensures planned { IfOk result (λ plan.
-        plan ≡ new_plan (silence_in_view (option_copied held.entry)) (post_of posted.now now bits retention)) }
+        plan ≡ new_plan (option_copied held.entry) (post_of posted.now now bits retention)) }
     ensures accepted { OnOk result (
-        size_refusal (versions (new_plan (silence_in_view (option_copied held.entry)) (post_of posted.now now bits retention))) ≡ None) }
+        size_refusal (versions (new_plan (option_copied held.entry) (post_of posted.now now bits retention))) ≡ None) }
     ensures refused { IfErr result (λ e. e ≢ errors.Memory →
-        size_refusal (versions (new_plan (silence_in_view (option_copied held.entry)) (post_of posted.now now bits retention))) ≡ Some e) }
+        size_refusal (versions (new_plan (option_copied held.entry) (post_of posted.now now bits retention))) ≡ Some e) }
     ensures memory { IfErr result (λ e. e ≡ errors.Memory →
-        size_refusal (versions (new_plan (silence_in_view (option_copied held.entry)) (post_of posted.now now bits retention))) ≡ None) }
+        size_refusal (versions (new_plan (option_copied held.entry) (post_of posted.now now bits retention))) ≡ None) }
     ensures live { now < posted.now.ends_at → IfOk result (λ plan. All (λ v. IsLive now (mesh_version v)) (versions plan)) }
 {
     match held {
@@ -169,12 +167,11 @@ fn plan_new(
     }
 }
 
-/// The version by which `held`, the version of an identifier in the view, ends at `now`.
+/// Returns the version by which a silence ends at `now`; `held` is the version of its identifier in the view.
 ///
 /// # Errors
 ///
-/// The first [`SilenceError`] that applies, in their order, of which [`SilenceError::Memory`], where memory runs
-/// out, is the last.
+/// The first [`SilenceError`] that applies, in their order. The last one is [`SilenceError::Memory`], if memory runs out.
 #[tactic(auto, unfolding(crate::specs::Refusals::early_end_refusal, crate::specs::Refusals::end_refusal, crate::specs::Refusals::size_refusal))]
 pub fn plan_expire(
     alloc: Global,
@@ -188,7 +185,7 @@ pub fn plan_expire(
     ensures refused { IfErr result (λ e. e ≢ errors.Memory → end_refusal (option_copied held.entry) now retention ≡ Some e) }
     ensures memory { IfErr result (λ e. e ≡ errors.Memory → end_refusal (option_copied held.entry) now retention ≡ None) }
 
-    // The version is live, and greater than what it takes the place of.
+    // The version is live, and greater than the one that it replaces.
     ensures live { IfOk result (λ v. IsLive now (mesh_version v)) }
     ensures greater { IfOk result (λ v. IfSome (option_copied held.entry) (λ version. Succeeds version v)) }
 {

@@ -13,10 +13,10 @@ use am_version_order::Moment;
 use am_wire::reading::{
     LastText, MessageReader, Schema, Submessage, TimestampDraft, moment_in, read_message,
 };
-use am_wire::{Field, Message, Text, WireError, WireType};
+use am_wire::{Field, Message, Text, Unknown, WireError, WireType};
 use std::alloc::{AllocError, Global};
 
-/// A silence: from `starts_at` until `ends_at`, alerts whose labels pass all matchers are muted.
+/// A silence, which mutes the alerts whose labels satisfy all matchers, from `starts_at` until `ends_at`.
 #[derive(Drop)]
 pub struct Silence {
     pub id: Text,
@@ -29,7 +29,7 @@ pub struct Silence {
 }
 
 impl Silence {
-    /// The fields of the silence.
+    /// Returns the fields of the silence.
     pub(crate) fn fields(&self) -> SilenceFields<'_, MatcherIter<'_>>
         ensures { result ≡ self.now }
     {
@@ -44,11 +44,11 @@ impl Silence {
         }
     }
 
-    /// A copy.
+    /// Returns a copy.
     ///
     /// # Errors
     ///
-    /// [`AllocError`] where memory runs out.
+    /// [`AllocError`] if memory runs out.
     pub fn try_clone(&self, alloc: Global) -> Result<Silence, AllocError>
         ensures { IfOk result (λ copy. copy ≡ self.now) }
     {
@@ -65,11 +65,11 @@ impl Silence {
 }
 
 impl SilenceFields<'_, Matchers> {
-    /// A silence with texts of its own.
+    /// Copies the fields into a silence with texts of its own.
     ///
     /// # Errors
     ///
-    /// [`AllocError`] where memory runs out.
+    /// [`AllocError`] if memory runs out.
     pub fn copied(self, alloc: Global) -> Result<Silence, AllocError>
         ensures { IfOk result (λ copy. copy ≡ self.entry) }
     {
@@ -90,7 +90,7 @@ impl SilenceFields<'_, Matchers> {
     }
 }
 
-/// A silence as it is read.
+/// The draft of a silence.
 #[derive(Drop)]
 pub struct SilenceDraft<'a> {
     alloc: Global,
@@ -105,7 +105,7 @@ pub struct SilenceDraft<'a> {
 }
 
 impl<'a> SilenceDraft<'a> {
-    // Who made the silence and why; an old comment replaces both.
+    // Returns who made the silence and why; an old comment replaces both.
     fn author_and_comment(&self) -> (&'a str, &'a str)
         ensures author { result.0.now ≡ (if self.now.first_comment.given then self.now.first_comment.author.now
             else self.now.created_by.text.now) }
@@ -196,14 +196,22 @@ impl<'a> MessageReader<'a> for SilenceDraft<'a> {
 impl Message for Silence {
     ghost use Rattle.am_silence.specs.Silences.{IsSilence, reads_silence, writes_silence};
     ghost use Rattle.am_silence.specs.RoundTrip.{silence_again};
+    ghost use Rattle.am_wire.specs.RoundTrip.Plain.{plainly_itself};
+    ghost use Rattle.std.specs.Prelude.{refl};
 
     ghost is_value = { IsSilence };
 
     ghost writes = { writes_silence };
 
-    ghost reads = { reads_silence };
+    ghost plain = { λ v. v };
+
+    ghost reads = { λ unknown. reads_silence };
 
     ghost round_trip = { silence_again };
+
+    ghost dropped = { λ at bytes. plainly_itself (reads_silence at bytes) };
+
+    ghost plain_again = { λ v. refl };
 
     fn size(&self) -> u64 {
         self.fields().size()
@@ -215,7 +223,12 @@ impl Message for Silence {
     }
 
     #[tactic(auto, unfolding(crate::specs::Silences::reads_silence))]
-    fn decode_at(alloc: Global, bytes: &[u8], at: usize) -> Result<Silence, WireError> {
+    fn decode_at(
+        alloc: Global,
+        _unknown: Unknown,
+        bytes: &[u8],
+        at: usize,
+    ) -> Result<Silence, WireError> {
         let fields = read_message::<SilenceDraft>(alloc, bytes, at, at)?;
         Ok(fields.copied(alloc)?)
     }

@@ -1,4 +1,4 @@
-//! Versions of silences that stay where their canonical texts lie.
+//! Versions of silences that are borrowed from their canonical texts.
 
 use crate::canonical::{CanonicalSilence, read_version};
 use crate::mesh::MeshSilence;
@@ -7,10 +7,10 @@ use am_wire::{ReadText, VersionText};
 use std::cmp::Ordering;
 use std::marker::Model;
 
-/// A version of a silence in its canonical text, which is not copied. Contracts see the version.
+/// A version of a silence, borrowed from its canonical text. Contracts see the version.
 ///
-/// Its identifier stands beside the text, and the number that goes by the order of identifiers, so that rows are sorted by their
-/// keys and written again without making versions.
+/// Its identifier is beside the text, with the number that follows the order of identifiers, so that rows can be sorted by
+/// their keys and written again without making versions.
 #[derive(Drop)]
 pub struct SilenceText<'a> {
     head: u64,

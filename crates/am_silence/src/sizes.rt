@@ -1,16 +1,19 @@
-//! How many bytes canonical texts have, before anything of them is made.
+//! The lengths of canonical texts before anything of them is made.
 
 ghost use Rattle.std.specs.Prelude.{◌≡◌, length};
 ghost use Rattle.am_wire.specs.Sizes.{counted};
-ghost use Rattle.am_silence.specs.Mesh.{Mesh, writes_mesh_silence};
+ghost use Rattle.am_wire.specs.Unknown.{none};
+ghost use Rattle.am_silence.specs.declared.silence.Silence.{Silence};
+ghost use Rattle.am_silence.specs.Mesh.{version_with, writes_mesh_silence};
 ghost use Rattle.am_silence.specs.Silences.{writes_silence};
 
 use crate::iter::HasMatchers;
 use am_version_order::Moment;
+use am_wire::UnknownFields;
 use am_wire::writing::{expiring_size, message_size, text_size};
 use std::marker::Model;
 
-/// The fields of a silence, whose texts are another's. Contracts see the silence.
+/// The fields of a silence, with borrowed texts. Contracts see the silence.
 #[derive(Drop)]
 pub struct SilenceFields<'a, M: HasMatchers> {
     pub id: &'a str,
@@ -39,7 +42,7 @@ impl<'a, M: HasMatchers> Model for SilenceFields<'a, M> {
 }
 
 impl<M: HasMatchers> SilenceFields<'_, M> {
-    /// How many bytes the silence has.
+    /// Returns the length of the silence.
     #[tactic(auto, unfolding(crate::specs::Silences::writes_silence))]
     pub fn size(&self) -> u64
         ensures { result ≡ counted (length (writes_silence self.now)) }
@@ -54,11 +57,49 @@ impl<M: HasMatchers> SilenceFields<'_, M> {
     }
 }
 
-/// How many bytes a version has whose silence has so many.
+/// The unknown fields of a version, with borrowed bytes. Contracts see the fields.
+#[derive(Drop)]
+pub struct UnknownParts<'a> {
+    pub inner: &'a [u8],
+    pub outer: &'a [u8],
+}
+
+impl<'a> Model for UnknownParts<'a> {
+    ghost use Rattle.am_wire.specs.declared.unknown.UnknownFields.{UnknownFields};
+
+    ghost Value = { UnknownFields };
+
+    ghost view = { λ u. record { inner = u.inner.now; outer = u.outer.now } };
+}
+
+impl<'a> UnknownParts<'a> {
+    /// Returns no fields.
+    pub fn none() -> UnknownParts<'a>
+        ensures { result ≡ none }
+    {
+        UnknownParts {
+            inner: &[],
+            outer: &[],
+        }
+    }
+
+    /// Returns these fields.
+    pub fn of(fields: &'a UnknownFields) -> UnknownParts<'a>
+        ensures { result ≡ fields.now }
+    {
+        UnknownParts {
+            inner: fields.inner.as_slice(),
+            outer: fields.outer.as_slice(),
+        }
+    }
+}
+
+/// Returns the length of a version whose silence has `silence_size` bytes.
 #[tactic(auto, unfolding(crate::specs::Mesh::writes_mesh_silence))]
-pub fn version_size(silence_size: u64, expires_at: Moment) -> u64
-    ensures { (m : Mesh) → silence_size ≡ counted (length (writes_silence m.silence)) → expires_at ≡ m.expires_at →
-        result ≡ counted (length (writes_mesh_silence m)) }
+pub fn version_size(silence_size: u64, expires_at: Moment, unknown: &UnknownParts<'_>) -> u64
+    ensures { (silence : Silence) → silence_size ≡ counted (length (writes_silence silence)) →
+        result ≡ counted (length (writes_mesh_silence (version_with unknown.now silence expires_at))) }
 {
-    expiring_size(silence_size, expires_at)
+    let size = silence_size.saturating_add(unknown.inner.len() as u64);
+    expiring_size(size, expires_at).saturating_add(unknown.outer.len() as u64)
 }

@@ -1,4 +1,4 @@
-//! Whether a silence has begun, and whether it has ended.
+//! The states of a silence, by whether it has begun and whether it has ended.
 
 ghost use Rattle.std.specs.Prelude.{◌≡◌, ◌<◌, false};
 ghost use Rattle.am_silence.specs.declared.silence.Silence.{Silence};
@@ -8,25 +8,25 @@ ghost use Rattle.am_silence.specs.States.{state_of, is_expired};
 use crate::silence::Silence;
 use am_version_order::Moment;
 
-/// Where a moment lies to the start and the end of a silence.
+/// The position of a moment relative to the start and the end of a silence.
 #[derive(Clone, Copy, Debug, PartialEq, Eq)]
 pub enum State {
-    /// Before its start.
+    /// The moment is before the start.
     Pending,
-    /// From its start on and before its end: the silence mutes.
+    /// The moment is from the start on and before the end: the silence mutes.
     Active,
-    /// From its end on.
+    /// The moment is from the end on.
     Expired,
 }
 
-/// The state of a silence at a moment. It takes no memory.
+/// Returns the state of a silence at a moment. Nothing is allocated.
 pub fn state_at(silence: &Silence, now: Moment) -> State
     ensures { result ≡ state_of silence.now now }
 {
     state_between(silence.starts_at, silence.ends_at, now)
 }
 
-/// The state of a silence with this start and this end.
+/// Returns the state of a silence with this start and this end.
 pub(crate) fn state_between(starts_at: Moment, ends_at: Moment, now: Moment) -> State
     ensures state { (silence : Silence) → starts_at ≡ silence.starts_at → ends_at ≡ silence.ends_at → result ≡ state_of silence now }
     ensures last { is_expired result ≡ false → now < greatest }

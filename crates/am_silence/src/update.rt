@@ -1,4 +1,4 @@
-//! Which silences a post updates in place.
+//! The rule by which a post updates a silence in place.
 
 ghost use Rattle.std.specs.Prelude.{◌≡◌, ◌==◌, ◌↔◌, IsTrue};
 ghost use Rattle.am_silence.specs.Plans.{same_matchers, second_of, allows_update, may_update, MayUpdate};
@@ -9,7 +9,7 @@ use crate::plan::Posted;
 use crate::state::State;
 use am_version_order::Moment;
 
-/// The silence is updated in place by a post at `now`.
+/// Returns whether a post at `now` updates the silence in place.
 pub fn may_update(held: &MeshSilence, posted: &Posted, now: Moment) -> bool
     ensures test { result ≡ may_update held.now.silence posted.now now }
     ensures rule { IsTrue result ↔ MayUpdate held.now.silence posted.now now }
@@ -24,7 +24,7 @@ pub fn may_update(held: &MeshSilence, posted: &Posted, now: Moment) -> bool
         }
 }
 
-// The same matchers, in the same order: their canonical texts are one.
+// Returns whether the matchers are the same, in the same order, which means that they have the same canonical text.
 fn same_matchers(posted: MatcherIter<'_>, held: MatcherIter<'_>) -> bool
     ensures test { result ≡ same_matchers posted.entry held.entry }
     ensures equal { IsTrue result ↔ (posted.entry ≡ held.entry) }
@@ -32,7 +32,7 @@ fn same_matchers(posted: MatcherIter<'_>, held: MatcherIter<'_>) -> bool
     posted.as_text() == held.as_text()
 }
 
-// The moments lie in one second.
+// Returns whether the moments are in the same second.
 fn same_second(a: Moment, b: Moment) -> bool
     ensures { result ≡ (second_of a == second_of b) }
 {

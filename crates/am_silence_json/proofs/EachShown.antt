@@ -73,6 +73,7 @@ whole_shown d s ms h matchers = record {
   comment = h.comment;
   matchers = matchers;
   expires_at = refl;
+  unknown = refl;
 }
 
 array_is : (d : Data) (ds : Items) → as_array d ≡ Some ds → d ≡ array ds

@@ -24,7 +24,8 @@ versions_same d m n h k =
     let comment : m.silence.comment ≡ n.silence.comment = cc (h.comment, k.comment) in
     let ends : m.silence.ends_at ≡ n.silence.ends_at = cuts_same h.ends_at k.ends_at in
     let expires : m.expires_at ≡ n.expires_at = h.expires_at ∙ ends ∙ sym k.expires_at in
-    rw (id, matchers, created_by, comment, cuts_same h.starts_at k.starts_at, ends, cuts_same h.updated_at k.updated_at, expires) refl
+    let unknown : m.unknown ≡ n.unknown = h.unknown ∙ sym k.unknown in
+    rw (id, matchers, created_by, comment, cuts_same h.starts_at k.starts_at, ends, cuts_same h.updated_at k.updated_at, expires, unknown) refl
 
 lists_same : (ds : List Data) (ms ns : List Mesh) → AreShown ds ms → AreShown ds ns → ms ≡ ns
 lists_same [] [] [] h k = refl

@@ -56,6 +56,7 @@ gettable_shown m state starts ends updated s e u =
       comment = refl;
       matchers = matchers_again m.silence.matchers;
       expires_at = refl;
+      unknown = refl;
     }
 
 pub one_again : (m : Mesh) (state : State) (d : Data) → IsGettable m.silence state d → IsShown d (cut_to_shown m)

@@ -1,4 +1,4 @@
--- What is read of a post or of a shown silence, and still borrowed from it.
+-- Parts of a post or of a shown silence, read and still borrowed from it.
 use Rattle.std.specs.Prelude.{◌≡◌, List, Some, codes}
 use Rattle.serde_json.specs.Data.{Data}
 use Rattle.am_silence.specs.declared.matcher.Matcher.{Matcher}
@@ -9,7 +9,7 @@ use Rattle.am_silence.specs.declared.silence.Silence.{Silence}
 use Rattle.am_silence_json.specs.declared.shown.Shown.{Shown}
 use Rattle.am_silence_json.specs.Shown.{HasCut}
 
--- the matcher of these parts
+-- the matcher with these parts
 abbrev pub matcher_in : Parts → Matcher
 matcher_in p = record { kind = p.kind; name = p.name.now; pattern = p.pattern.now }
 
@@ -20,9 +20,9 @@ pub record HasRest (d : Data) (r : Rest) : Type 0 where
   pub created_by : text_in (codes "createdBy") d ≡ Some r.created_by.now
   pub comment : text_in (codes "comment") d ≡ Some r.comment.now
 
--- ---- what a silence shows
+-- ---- the parts of a shown silence
 
--- the object shows these
+-- the object shows these parts
 pub record HasShown (d : Data) (s : Shown) : Type 0 where
   pub id : text_in (codes "id") d ≡ Some s.id.now
   pub starts_at : HasCut (codes "startsAt") d s.starts_at
@@ -31,7 +31,7 @@ pub record HasShown (d : Data) (s : Shown) : Type 0 where
   pub created_by : text_in (codes "createdBy") d ≡ Some s.created_by.now
   pub comment : text_in (codes "comment") d ≡ Some s.comment.now
 
--- the silence of these parts and matchers
+-- the silence with these parts and matchers
 abbrev pub shown_silence : Shown → List Matcher → Silence
 shown_silence s matchers = record {
   id = s.id.now;

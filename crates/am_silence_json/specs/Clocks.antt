@@ -1,10 +1,10 @@
--- What a calendar and a clock on the wall show, and its text: the date and the time of day of RFC 3339, to the second.
+-- The reading of a calendar and a wall clock, and its text: the date and the time of day of RFC 3339, to the second.
 use Rattle.std.specs.Prelude.{◌≡◌, ◌⊎◌, ℕ, ◌+◌, ◌*◌, ◌/◌, ◌%◌, ◌<◌, ℤ, pos, ◌+ℤ◌, ◌*ℤ◌, List, slice_index}
 use Rattle.jiff_core.specs.Calendar.{IsDate, days_from_civil}
 use Rattle.am_silence_json.specs.declared.moments.clock.Clock.{Clock}
 use Rattle.am_silence_json.specs.Digits.{HasTwo}
 
--- what parts the numbers: `-` in the date, `T` or `t` behind it, `:` in the time of day
+-- the separators of the numbers: `-` in the date, `T` or `t` after it, `:` in the time of day
 pub record HasMarks (text : List ℕ) : Type 0 where
   pub behind_year : slice_index text 4 ≡ 45
   pub behind_month : slice_index text 7 ≡ 45
@@ -12,7 +12,7 @@ pub record HasMarks (text : List ℕ) : Type 0 where
   pub behind_hour : slice_index text 13 ≡ 58
   pub behind_minute : slice_index text 16 ≡ 58
 
--- YYYY-MM-DDTHH:MM:SS stands in the first 19 bytes
+-- the first 19 bytes are YYYY-MM-DDTHH:MM:SS
 pub record IsClockText (text : List ℕ) (c : Clock) : Type 0 where
   pub marks : HasMarks text
   pub century : HasTwo text 0 (c.year / 100)
@@ -23,17 +23,17 @@ pub record IsClockText (text : List ℕ) (c : Clock) : Type 0 where
   pub minute : HasTwo text 14 c.minute
   pub second : HasTwo text 17 c.second
 
--- a date of the calendar, and a time of day: no second is 60
+-- a date of the calendar and a time of day, without leap seconds
 pub record IsReal (c : Clock) : Type 0 where
   pub date : IsDate (pos c.year) (pos c.month) (pos c.day)
   pub hour : c.hour < 24
   pub minute : c.minute < 60
   pub second : c.second < 60
 
--- the second of the day
+-- the number of seconds since midnight
 abbrev pub second_of_day : Clock → ℕ
 second_of_day c = c.hour * 3600 + c.minute * 60 + c.second
 
--- the seconds from 1970-01-01T00:00:00 on the same clock
+-- the seconds since 1970-01-01T00:00:00 on the same clock
 abbrev pub clock_seconds : Clock → ℤ
 clock_seconds c = (days_from_civil (pos c.year) c.month c.day *ℤ pos 86400) +ℤ pos (second_of_day c)

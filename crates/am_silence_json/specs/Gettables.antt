@@ -1,4 +1,4 @@
--- Silences as API v2 shows them: `gettableSilence`, as data of JSON (RFC 8259) with the keys of each object in byte order.
+-- Silences as API v2 shows them: `gettableSilence`, as JSON data (RFC 8259) with the keys of each object in byte order.
 use Rattle.std.specs.Prelude.{◌≡◌, ℕ, Bool, true, false, List, [], ◌∷◌, map, codes}
 use Rattle.serde_json.specs.Data.{Data, boolean, string, array, object, member, no_members}
 use Rattle.serde_json.specs.View.{items_of}
@@ -12,14 +12,14 @@ use Rattle.am_silence.specs.Kinds.{is_regexp}
 use Rattle.am_silence.specs.Mesh.{Mesh}
 use Rattle.am_silence_json.specs.Written.{WritesMoment}
 
--- the label has to match: isEqual
+-- whether the label has to match: isEqual
 abbrev pub is_equal : MatcherKind → Bool
 is_equal kinds.Equal = true
 is_equal kinds.Regexp = true
 is_equal kinds.NotEqual = false
 is_equal kinds.NotRegexp = false
 
--- a matcher
+-- the JSON data of a matcher
 abbrev pub matcher_data : Matcher → Data
 matcher_data m =
     object (
@@ -34,11 +34,11 @@ state_text states.Pending = codes "pending"
 state_text states.Active = codes "active"
 state_text states.Expired = codes "expired"
 
--- its status
+-- the JSON data of a status
 abbrev pub status_data : State → Data
 status_data state = object (member (codes "state") (string (state_text state)) no_members)
 
--- a silence in a state, where these are the texts of its start, its end and its update
+-- the JSON data of a silence in a state, with the texts of its start, its end and its update
 abbrev pub gettable_data : Silence → State → List ℕ → List ℕ → List ℕ → Data
 gettable_data s state starts ends updated =
     object (
@@ -51,7 +51,7 @@ gettable_data s state starts ends updated =
     member (codes "status") (status_data state) (
     member (codes "updatedAt") (string updated) no_members))))))))
 
--- the silence in that state is shown so
+-- the data shows the silence in that state
 pub record IsGettable (silence : Silence) (state : State) (d : Data) : Type 0 where
   pub starts : List ℕ
   pub ends : List ℕ
@@ -61,13 +61,13 @@ pub record IsGettable (silence : Silence) (state : State) (d : Data) : Type 0 wh
   pub updated_at : WritesMoment silence.updated_at updated
   pub value : d ≡ gettable_data silence state starts ends updated
 
--- these silences, one after the other
+-- the data shows these silences, one after another
 abbrev pub AreGettable : List (Mesh × State) → List Data → Type 0
 AreGettable [] [] = Unit {0}
 AreGettable [] (d ∷ ds) = ⊥
 AreGettable (row ∷ rows) [] = ⊥
 AreGettable (row ∷ rows) (d ∷ ds) = IsGettable row.0.silence row.1 d × AreGettable rows ds
 
--- what a post is answered
+-- the JSON data of the reply to a post
 abbrev pub posted_data : List ℕ → Data
 posted_data id = object (member (codes "silenceID") (string id) no_members)

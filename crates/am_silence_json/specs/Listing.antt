@@ -1,4 +1,4 @@
--- A list of silences that is being written.
+-- A list of silences being written.
 use Rattle.std.specs.Prelude.{◌≡◌, ℕ, List, ◌∷◌}
 use Rattle.json.specs.Token.{Token, begin_array}
 use Rattle.serde_json.specs.Data.{Data}
@@ -7,7 +7,7 @@ use Rattle.am_silence.specs.Mesh.{Mesh}
 use Rattle.am_silence_json.specs.Gettables.{AreGettable}
 use Rattle.am_silence_json.specs.Tokens.{row_tokens}
 
--- its silences, each in its state, and how many of them are left to be written
+-- the silences, each in its state, and how many of them are left to be written
 pub record Listed : Type 0 where
   pub rows : List (Mesh × State)
   pub left : ℕ

@@ -17,11 +17,11 @@ pub record IsJsonText (body : List ℕ) (d : Data) : Type 0 where
   pub utf8 : IsUtf8 body
   pub text : read body ≡ Some d
 
--- the body is the text of an array of these
+-- the body is the text of an array of these values
 abbrev pub IsListText : List ℕ → List Data → Type 0
 IsListText body ds = IsJsonText body (array (items_of ds))
 
--- the body is the text of a value that is no array
+-- the body is the text of a value that is not an array
 pub record IsNoList (body : List ℕ) : Type 0 where
   pub value : Data
   pub text : IsJsonText body value
@@ -33,18 +33,18 @@ pub record Lists (body : List ℕ) (ms : List Mesh) : Type 0 where
   pub text : IsListText body objects
   pub shown : AreShown objects ms
 
--- the object shows a version, and none that is too large
+-- the object shows a version that is not too large
 pub record IsReadable (d : Data) : Type 0 where
   pub version : Mesh
   pub shown : IsShown d version
   pub fits : FitsMessage version
 
--- this object stands at this place, and those before it are readable
+-- this object stands at this place, and all objects before it are readable
 pub record IsFirst (ds : List Data) (place : ℕ) (d : Data) : Type 0 where
   pub here : slice_get ds place ≡ Some d
   pub before : All IsReadable (take place ds)
 
--- the first object that can't be read shows no version: this key of it is the first that is wrong
+-- the first object that can't be read shows no version, and this is its first wrong key
 pub record IsWrongAt (ds : List Data) (place : ℕ) (key : ShownKey) : Type 0 where
   pub object : Data
   pub first : IsFirst ds place object
@@ -56,7 +56,7 @@ pub record IsTooLargeAt (ds : List Data) (place : ℕ) : Type 0 where
   pub first : IsFirst ds place object
   pub large : IsTooLarge object
 
--- the error says that what is shown of a row is too large
+-- the error says that the shown version of a row is too large
 pub record IsRowTooLarge (rows : List (Mesh × State)) (e : ListError) : Type 0 where
   pub place : ℕ
   pub row : Mesh × State

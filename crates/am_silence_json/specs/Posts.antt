@@ -1,4 +1,4 @@
--- The body of a post: `postableSilence` of API v2, a JSON object (RFC 8259). Keys that are not named here are passed over.
+-- The body of a post: `postableSilence` of API v2, a JSON object (RFC 8259). Keys that are not named here are ignored.
 use Rattle.std.specs.Prelude.{◌≡◌, ℕ, ◌==◌, length, Bool, true, false, List, [], ◌∷◌, codes, Option, Some, None}
 use Rattle.std.specs.Prelude.{option_map, option_and_then, if◌then◌else◌, IsSome}
 use Rattle.std.specs.Option.{option_map_or}
@@ -23,7 +23,7 @@ key_text keys.EndsAt = codes "endsAt"
 key_text keys.CreatedBy = codes "createdBy"
 key_text keys.Comment = codes "comment"
 
--- the keys that are looked at before a key
+-- the keys that are tested before a key
 abbrev pub keys_before : Key → List Key
 keys_before keys.Id = []
 keys_before keys.Matchers = keys.Id ∷ []
@@ -32,23 +32,23 @@ keys_before keys.EndsAt = keys.Id ∷ keys.Matchers ∷ keys.StartsAt ∷ []
 keys_before keys.CreatedBy = keys.Id ∷ keys.Matchers ∷ keys.StartsAt ∷ keys.EndsAt ∷ []
 keys_before keys.Comment = keys.Id ∷ keys.Matchers ∷ keys.StartsAt ∷ keys.EndsAt ∷ keys.CreatedBy ∷ []
 
--- ---- what stands at a key
+-- ---- the values of keys
 
--- a text
+-- the text at a key
 abbrev pub text_in : List ℕ → Data → Option (List ℕ)
 text_in key d = option_and_then as_str (get key d)
 
--- a truth value
+-- the boolean at a key
 abbrev pub truth_in : List ℕ → Data → Option Bool
 truth_in key d = option_and_then as_bool (get key d)
 
--- a moment, as its text
+-- the value of a key is the text of a moment
 pub record HasMoment (key : List ℕ) (d : Data) (m : ℕ) : Type 0 where
   pub text : List ℕ
   pub here : text_in key d ≡ Some text
   pub spelled : ReadsMoment text m
 
--- the identifier of a value: null and the empty text are none
+-- the identifier in a value: null and the empty text mean none
 abbrev pub id_of : Data → Option (Option (List ℕ))
 id_of null = Some None
 id_of (boolean b) = None
@@ -57,31 +57,31 @@ id_of (string s) = Some (if length s == 0 then None else Some s)
 id_of (array ds) = None
 id_of (object ms) = None
 
--- the posted identifier, which may be wanting
+-- the posted identifier, which may be missing
 abbrev pub id_in : Data → Option (Option (List ℕ))
 id_in d = option_map_or id_of (get (codes "id") d) (Some None)
 
 -- ---- matchers
 
--- the kind of isRegex and isEqual
+-- the kind given by isRegex and isEqual
 abbrev pub kind_of : Bool → Bool → MatcherKind
 kind_of false true = kinds.Equal
 kind_of true true = kinds.Regexp
 kind_of false false = kinds.NotEqual
 kind_of true false = kinds.NotRegexp
 
--- isEqual may be wanting, and is then true
+-- isEqual, which is true if it is missing
 abbrev pub equal_in : Data → Option Bool
 equal_in d = option_map_or as_bool (get (codes "isEqual") d) (Some true)
 
--- a matcher: texts name and value, isRegex and isEqual
+-- the matcher in a value: the texts name and value, isRegex and isEqual
 abbrev pub matcher_of : Data → Option Matcher
 matcher_of d =
     option_and_then (λ name. option_and_then (λ pattern. option_and_then (λ regex. option_map (λ equal.
     record { kind = kind_of regex equal; name = name; pattern = pattern })
     (equal_in d)) (truth_in (codes "isRegex") d)) (text_in (codes "value") d)) (text_in (codes "name") d)
 
--- all of them are matchers
+-- the matchers in items, if all of them are matchers
 abbrev pub matchers_of : Items → Option (List Matcher)
 matchers_of no_items = Some []
 matchers_of (item d ds) = option_and_then (λ m. option_map (λ ms. m ∷ ms) (matchers_of ds)) (matcher_of d)
@@ -92,7 +92,7 @@ matchers_in d = option_and_then matchers_of (option_and_then as_array (get (code
 
 -- ---- posts
 
--- the object posts this
+-- the object posts this silence
 pub record IsPosted (d : Data) (posted : Posted) : Type 0 where
   pub id : id_in d ≡ Some posted.id
   pub matchers : matchers_in d ≡ Some posted.matchers
@@ -101,7 +101,7 @@ pub record IsPosted (d : Data) (posted : Posted) : Type 0 where
   pub created_by : text_in (codes "createdBy") d ≡ Some posted.created_by
   pub comment : text_in (codes "comment") d ≡ Some posted.comment
 
--- what stands at a key is of its kind
+-- the value of a key is of the right kind
 abbrev pub IsRight : Data → Key → Type 0
 IsRight d keys.Id = IsSome (id_in d)
 IsRight d keys.Matchers = IsSome (matchers_in d)
@@ -110,12 +110,12 @@ IsRight d keys.EndsAt = (m : ℕ) × HasMoment (codes "endsAt") d m
 IsRight d keys.CreatedBy = IsSome (text_in (codes "createdBy") d)
 IsRight d keys.Comment = IsSome (text_in (codes "comment") d)
 
--- at each of these keys
+-- the values of these keys are of the right kind
 abbrev pub AreRight : Data → List Key → Type 0
 AreRight d [] = Unit {0}
 AreRight d (key ∷ others) = IsRight d key × AreRight d others
 
--- it is wanting or of another kind, and those before it are right
+-- the value of the key is missing or of another kind, and those of the keys before it are right
 pub record IsFirstWrong (d : Data) (key : Key) : Type 0 where
   pub wrong : ¬ IsRight d key
   pub before : AreRight d (keys_before key)

@@ -1,10 +1,11 @@
--- What a silence of API v2 (`gettableSilence`, a JSON object of RFC 8259) shows of a version. Keys that are not named here
--- are passed over, `status` among them.
+-- The version that a silence of API v2 (`gettableSilence`, a JSON object of RFC 8259) shows. Keys that are not named here are
+-- ignored, `status` among them.
 use Rattle.std.specs.Prelude.{◌≡◌, ℕ, ◌-◌, ◌%◌, ◌≤◌, length, List, [], ◌∷◌, codes, Some, IsSome}
 use Rattle.serde_json.specs.Data.{Data}
 use Rattle.am_wire.specs.Limits.{most}
+use Rattle.am_wire.specs.Unknown.{none}
 use Rattle.am_silence.specs.declared.silence.Silence.{Silence}
-use Rattle.am_silence.specs.Mesh.{Mesh, writes_mesh_silence}
+use Rattle.am_silence.specs.Mesh.{Mesh, plain_version, writes_mesh_silence}
 use Rattle.am_silence_json.specs.declared.key.ShownKey.{ShownKey}
 use Rattle.am_silence_json.specs.declared.key.ShownKey.TheVariants as keys
 use Rattle.am_silence_json.specs.Posts.{text_in, matchers_in, HasMoment}
@@ -19,7 +20,7 @@ shown_key_text keys.CreatedBy = codes "createdBy"
 shown_key_text keys.Comment = codes "comment"
 shown_key_text keys.Matchers = codes "matchers"
 
--- the keys that are looked at before a key
+-- the keys that are tested before a key
 abbrev pub shown_before : ShownKey → List ShownKey
 shown_before keys.Id = []
 shown_before keys.StartsAt = keys.Id ∷ []
@@ -35,7 +36,7 @@ shown_before keys.Matchers = keys.Id ∷ keys.StartsAt ∷ keys.EndsAt ∷ keys.
 abbrev pub cut_moment : ℕ → ℕ
 cut_moment m = m - m % 1_000_000
 
--- a silence whose moments are cut
+-- a silence with its moments cut to milliseconds
 abbrev pub cut_silence : Silence → Silence
 cut_silence s = record {
   id = s.id;
@@ -47,27 +48,27 @@ cut_silence s = record {
   comment = s.comment;
 }
 
--- API v2 shows no expiry of a silence, so its end is taken for it: the silence counts until its end.
+-- API v2 shows no expiry of a silence, so the end stands for it: the silence counts until its end.
 abbrev pub until_end : Silence → Mesh
-until_end s = record { silence = s; expires_at = s.ends_at }
+until_end s = plain_version s s.ends_at
 
--- the version that is shown of a version
+-- the version that is shown for a version
 abbrev pub cut_to_shown : Mesh → Mesh
 cut_to_shown m = until_end (cut_silence m.silence)
 
--- the canonical text of a version has no more bytes than a message may have
+-- the canonical text of a version has at most as many bytes as a message may have
 abbrev pub FitsMessage : Mesh → Type 0
 FitsMessage m = length (writes_mesh_silence m) ≤ most
 
--- ---- objects that show them
+-- ---- objects that show versions
 
--- a moment at a key, as its text; it is taken cut to milliseconds
+-- the value of a key is the text of a moment, which is cut to milliseconds
 pub record HasCut (key : List ℕ) (d : Data) (m : ℕ) : Type 0 where
   pub whole : ℕ
   pub here : HasMoment key d whole
   pub cut : m ≡ cut_moment whole
 
--- the object shows this version, whose expiry is its end
+-- the object shows this version, whose expiry is its end, and which has no unknown fields
 pub record IsShown (d : Data) (m : Mesh) : Type 0 where
   pub id : text_in (codes "id") d ≡ Some m.silence.id
   pub starts_at : HasCut (codes "startsAt") d m.silence.starts_at
@@ -77,17 +78,18 @@ pub record IsShown (d : Data) (m : Mesh) : Type 0 where
   pub comment : text_in (codes "comment") d ≡ Some m.silence.comment
   pub matchers : matchers_in d ≡ Some m.silence.matchers
   pub expires_at : m.expires_at ≡ m.silence.ends_at
+  pub unknown : m.unknown ≡ none
 
--- these objects show these versions, one after the other
+-- these objects show these versions, one after another
 abbrev pub AreShown : List Data → List Mesh → Type 0
 AreShown [] [] = Unit {0}
 AreShown [] (m ∷ ms) = ⊥
 AreShown (d ∷ ds) [] = ⊥
 AreShown (d ∷ ds) (m ∷ ms) = IsShown d m × AreShown ds ms
 
--- ---- objects that show none
+-- ---- objects that show no version
 
--- what stands at a key is of its kind
+-- the value of a key is of the right kind
 abbrev pub IsShownRight : Data → ShownKey → Type 0
 IsShownRight d keys.Id = IsSome (text_in (codes "id") d)
 IsShownRight d keys.StartsAt = (m : ℕ) × HasMoment (codes "startsAt") d m
@@ -97,12 +99,12 @@ IsShownRight d keys.CreatedBy = IsSome (text_in (codes "createdBy") d)
 IsShownRight d keys.Comment = IsSome (text_in (codes "comment") d)
 IsShownRight d keys.Matchers = IsSome (matchers_in d)
 
--- at each of these keys
+-- the values of these keys are of the right kind
 abbrev pub AreShownRight : Data → List ShownKey → Type 0
 AreShownRight d [] = Unit {0}
 AreShownRight d (key ∷ others) = IsShownRight d key × AreShownRight d others
 
--- it is wanting or of another kind, and those before it are right
+-- the value of the key is missing or of another kind, and those of the keys before it are right
 pub record IsFirstUnshown (d : Data) (key : ShownKey) : Type 0 where
   pub wrong : ¬ IsShownRight d key
   pub before : AreShownRight d (shown_before key)

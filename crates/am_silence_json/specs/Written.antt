@@ -1,4 +1,4 @@
--- The text that is written for a moment: YYYY-MM-DDTHH:MM:SS.mmmZ, in UTC, the nanoseconds cut to milliseconds.
+-- The text written for a moment: YYYY-MM-DDTHH:MM:SS.mmmZ, in UTC, with the nanoseconds cut to milliseconds.
 use Rattle.std.specs.Prelude.{◌≡◌, ℕ, ◌+◌, ◌/◌, ◌%◌, pos, List, [], ◌∷◌, ◌++◌, codes}
 use Rattle.am_version_order.specs.Moments.{AreParts, since_least}
 use Rattle.am_silence_json.specs.declared.moments.clock.Clock.{Clock}
@@ -16,12 +16,12 @@ two_digits n = digit (n / 10) ++ digit (n % 10)
 abbrev pub three_digits : ℕ → List ℕ
 three_digits n = digit (n / 100) ++ two_digits (n % 100)
 
--- the year, the month and the day
+-- the date: year, month and day
 abbrev pub date_text : Clock → List ℕ
 date_text c =
     two_digits (c.year / 100) ++ (two_digits (c.year % 100) ++ (codes "-" ++ (two_digits c.month ++ (codes "-" ++ two_digits c.day))))
 
--- the time of day, and milliseconds
+-- the time of day, with milliseconds
 abbrev pub time_text : Clock → ℕ → List ℕ
 time_text c millis =
     two_digits c.hour ++ (codes ":" ++ (two_digits c.minute ++ (
@@ -31,7 +31,7 @@ time_text c millis =
 abbrev pub written_text : Clock → ℕ → List ℕ
 written_text c millis = date_text c ++ (codes "T" ++ (time_text c millis ++ codes "Z"))
 
--- the text is that of the moment
+-- the text is the one written for the moment
 pub record WritesMoment (m : ℕ) (text : List ℕ) : Type 0 where
   pub clock : Clock
   pub nanos : ℕ

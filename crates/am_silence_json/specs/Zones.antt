@@ -3,7 +3,7 @@ use Rattle.std.specs.Prelude.{◌≡◌, ◌⊎◌, ℕ, ◌+◌, ◌*◌, ◌<�
 use Rattle.am_silence_json.specs.declared.moments.zone.Offset.{Offset}
 use Rattle.am_silence_json.specs.Digits.{HasTwo}
 
--- `Z` or `z`, no offset
+-- `Z` or `z`, for no offset
 pub record IsUtc (text : List ℕ) (o : Offset) : Type 0 where
   pub size : length text ≡ 1
   pub letter : (slice_index text 0 ≡ 90) ⊎ (slice_index text 0 ≡ 122)
@@ -11,7 +11,7 @@ pub record IsUtc (text : List ℕ) (o : Offset) : Type 0 where
   pub hours : o.hours ≡ 0
   pub minutes : o.minutes ≡ 0
 
--- the sign of an offset: `+` where the clock is ahead of UTC, and `-` where it is behind
+-- the sign of an offset: `+` if the clock is ahead of UTC, and `-` if it is behind
 abbrev pub IsSign : ℕ → Bool → Type 0
 IsSign byte behind = ((byte ≡ 43) × (behind ≡ false)) ⊎ ((byte ≡ 45) × (behind ≡ true))
 
@@ -29,10 +29,10 @@ pub record IsNumeric (text : List ℕ) (o : Offset) : Type 0 where
 abbrev pub IsZone : List ℕ → Offset → Type 0
 IsZone text o = IsUtc text o ⊎ IsNumeric text o
 
--- the seconds of an offset, without its sign
+-- the number of seconds in an offset, without its sign
 abbrev pub offset_size : Offset → ℕ
 offset_size o = o.hours * 3600 + o.minutes * 60
 
--- how many seconds the clock is ahead of UTC
+-- the number of seconds by which the clock is ahead of UTC
 abbrev pub seconds_ahead : Offset → ℤ
 seconds_ahead o = if o.behind then neg_ℤ (pos (offset_size o)) else pos (offset_size o)

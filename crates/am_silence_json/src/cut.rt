@@ -1,4 +1,4 @@
-//! Versions as they are shown: API v2 shows moments to the millisecond, and no expiry.
+//! Versions as API v2 shows them: with moments to the millisecond, and without an expiry.
 
 ghost use Rattle.std.specs.Prelude.{◌≡◌, ◌⊎◌, IfOk, IfErr, IsErrOf};
 ghost use Rattle.am_wire.specs.declared.error.WireError.TheVariants as errors;
@@ -10,7 +10,7 @@ use am_version_order::{Moment, Version};
 use am_wire::{Text, WireError};
 use std::alloc::{AllocError, Global};
 
-/// A moment cut to milliseconds.
+/// Returns a moment cut to milliseconds.
 pub fn cut(moment: Moment) -> Moment
     ensures { result ≡ cut_moment moment }
 {
@@ -18,7 +18,7 @@ pub fn cut(moment: Moment) -> Moment
     Moment::from_parts(seconds, nanos - nanos % 1_000_000).unwrap()
 }
 
-/// Matchers of their own.
+/// Copies borrowed matchers into owned ones.
 fn copied_matchers(alloc: Global, matchers: MatcherIter<'_>) -> Result<Matchers, AllocError>
     ensures { IfOk result (λ copies. copies ≡ matchers.entry) }
 {
@@ -29,7 +29,7 @@ fn copied_matchers(alloc: Global, matchers: MatcherIter<'_>) -> Result<Matchers,
     Ok(copies)
 }
 
-/// The silence of a version, its moments cut to milliseconds.
+/// Returns the silence of a version, with its moments cut to milliseconds.
 fn cut_silence(alloc: Global, version: &MeshSilence) -> Result<Silence, AllocError>
     ensures { IfOk result (λ s. s ≡ cut_silence version.now.silence) }
 {
@@ -44,13 +44,13 @@ fn cut_silence(alloc: Global, version: &MeshSilence) -> Result<Silence, AllocErr
     })
 }
 
-/// Of a version the one that API v2 shows: its moments are cut to milliseconds, and its end is its expiry, since none is
-/// shown. What [`write_silences`](crate::write_silences) writes of the version is read as this one by
+/// Returns the version that API v2 shows for a version: its moments are cut to milliseconds, and its end is its expiry, since none
+/// is shown. A version written by [`write_silences`](crate::write_silences) is read as this one by
 /// [`read_silences`](crate::read_silences).
 ///
 /// # Errors
 ///
-/// [`WireError::TooLarge`] where its canonical text has over 67,108,864 bytes, and [`WireError::Memory`] where memory runs
+/// Returns [`WireError::TooLarge`] if the canonical text has more than 67,108,864 bytes, and [`WireError::Memory`] if memory runs
 /// out.
 pub fn cut_to_shown(alloc: Global, version: &MeshSilence) -> Result<MeshSilence, WireError>
     ensures cut { IfOk result (λ m. m ≡ cut_to_shown version.now) }

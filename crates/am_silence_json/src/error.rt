@@ -1,17 +1,17 @@
-//! Why the body of a post is refused.
+//! Errors of reading the body of a post.
 
 use crate::key::Key;
 use std::alloc::AllocError;
 use std::fmt;
 use thiserror::Error;
 
-/// Why the body of a post is refused.
+/// The reason for refusing the body of a post.
 #[derive(Clone, Copy, Debug, PartialEq, Eq, Error)]
 pub enum BodyError {
-    /// It is no JSON, or no object.
+    /// The body is no JSON, or no object.
     #[error("bad JSON")]
     BadJson,
-    /// What stands at this key is wanting or of another kind.
+    /// The value of this key is missing or of another kind.
     #[error("bad silence: {0}")]
     Wrong(Key),
     #[error("out of memory")]

@@ -15,14 +15,14 @@ use am_version_order::{Moment, Version};
 use json::{Token, Writer};
 use std::alloc::AllocError;
 
-/// Whether the label has to match.
+/// Returns whether the label has to match.
 fn is_equal(kind: MatcherKind) -> bool
     ensures { result ≡ is_equal kind }
 {
     matches!(kind, MatcherKind::Equal | MatcherKind::Regexp)
 }
 
-/// The name of a state.
+/// Returns the name of a state.
 fn state_text(state: State) -> &'static str
     ensures { result.now ≡ state_text state }
 {
@@ -62,7 +62,7 @@ fn add_each_matcher(out: &mut Writer, matchers: MatcherIter<'_>) -> Result<(), A
     Ok(())
 }
 
-/// Adds the member that lists the matchers.
+/// Adds the member with the list of matchers.
 fn add_matchers(out: &mut Writer, matchers: MatcherIter<'_>) -> Result<(), AllocError>
     ensures { OnOk result (Adds out.old out.new
         (key (codes "matchers") ∷ data_tokens (array (items_of (map matcher_data matchers.entry))))) }
@@ -74,7 +74,7 @@ fn add_matchers(out: &mut Writer, matchers: MatcherIter<'_>) -> Result<(), Alloc
     Ok(())
 }
 
-/// Adds the member that says the state.
+/// Adds the member with the state.
 fn add_status(out: &mut Writer, state: State) -> Result<(), AllocError>
     ensures { OnOk result (Adds out.old out.new (key (codes "status") ∷ data_tokens (status_data state))) }
 {
@@ -85,7 +85,7 @@ fn add_status(out: &mut Writer, state: State) -> Result<(), AllocError>
     Ok(())
 }
 
-/// Adds a member that is a moment.
+/// Adds a member whose value is a moment.
 fn add_moment(out: &mut Writer, name: &str, moment: Moment) -> Result<(), AllocError>
     ensures { OnOk result ((text : List ℕ) × WritesMoment moment text
         × Adds out.old out.new (key name.now ∷ string text ∷ [])) }
@@ -99,7 +99,7 @@ fn add_moment(out: &mut Writer, name: &str, moment: Moment) -> Result<(), AllocE
 ///
 /// # Errors
 ///
-/// [`AllocError`] where memory runs out. A part of the silence may be left.
+/// Returns [`AllocError`] if memory runs out. A part of the silence may then remain.
 pub fn add_silence(out: &mut Writer, version: &MeshSilence, state: State) -> Result<(), AllocError>
     ensures { OnOk result ((d : Data) × IsGettable version.now.silence state d × Adds out.old out.new (data_tokens d)) }
 {
@@ -126,7 +126,7 @@ pub fn add_each_silence(out: &mut Writer, rows: &[(MeshSilence, State)]) -> Resu
     Ok(())
 }
 
-/// Adds what a post is answered.
+/// Adds the reply to a post.
 pub fn add_posted(out: &mut Writer, id: &str) -> Result<(), AllocError>
     ensures { OnOk result (Adds out.old out.new (data_tokens (posted_data id.now))) }
 {

@@ -1,10 +1,10 @@
-//! The keys of a post, and those of a silence that is shown.
+//! The keys of a post and of a shown silence.
 
 ghost use Rattle.std.specs.Prelude.{◌≡◌};
 ghost use Rattle.am_silence_json.specs.Posts.{key_text};
 ghost use Rattle.am_silence_json.specs.Shown.{shown_key_text};
 
-/// A key of a post, in the order in which they are looked at.
+/// A key of a post. The variants are in the order in which keys are tested.
 #[derive(Clone, Copy, Debug, PartialEq, Eq)]
 pub enum Key {
     Id,
@@ -16,7 +16,7 @@ pub enum Key {
 }
 
 impl Key {
-    /// The name of the key.
+    /// Returns the name of the key.
     pub fn text(self) -> &'static str
         ensures { result.now ≡ key_text self }
     {
@@ -31,7 +31,7 @@ impl Key {
     }
 }
 
-/// A key of a silence that is shown, in the order in which they are looked at.
+/// A key of a shown silence. The variants are in the order in which keys are tested.
 #[derive(Clone, Copy, Debug)]
 pub enum ShownKey {
     Id,
@@ -44,7 +44,7 @@ pub enum ShownKey {
 }
 
 impl ShownKey {
-    /// The name of the key.
+    /// Returns the name of the key.
     pub fn text(self) -> &'static str
         ensures { result.now ≡ shown_key_text self }
     {

@@ -1,4 +1,4 @@
-//! What holds of lists of silences.
+//! Laws about lists of silences.
 
 ghost use Rattle.std.specs.Prelude.{◌≡◌, ◌≢◌, ℕ, List, All, map, IfOk, IfErr};
 ghost use Rattle.serde_json.specs.Data.{Data, array};
@@ -18,19 +18,19 @@ use am_silence::{MeshSilence, State};
 use am_version_order::Version;
 use std::alloc::Global;
 
-/// What [`write_silences`](crate::write_silences) writes of silences lists them as they are shown: their moments cut to
-/// milliseconds, and their end as their expiry.
+/// States that the list written by [`write_silences`](crate::write_silences) lists the silences as they are shown: with their
+/// moments cut to milliseconds, and their end as their expiry.
 pub fn a_written_list_is_read()
     ensures { (rows : List (Mesh × State)) (ds : List Data) → All (λ row. IsMesh row.0) rows → AreGettable rows ds →
         Lists (compact_text (array (items_of ds))) (map (λ row. cut_to_shown row.0) rows) }
 {}
 
-/// A body lists the same versions however it is read.
+/// States that a body lists the same versions however it is read.
 pub fn a_body_lists_one_list()
     ensures { (body : List ℕ) (ms ns : List Mesh) → Lists body ms → Lists body ns → ms ≡ ns }
 {}
 
-/// The versions of these rows are values of their type.
+/// States that the versions of these rows are values of their type.
 fn rows_are_values(rows: &[(MeshSilence, State)])
     ensures { All (λ row. IsMesh row.0) rows.now }
 {
@@ -39,12 +39,12 @@ fn rows_are_values(rows: &[(MeshSilence, State)])
     }
 }
 
-/// Silences are written, and read as they are shown. It fails only where memory runs out, or where one that is shown has
-/// over 67,108,864 bytes.
+/// Writes silences and reads them back as they are shown. This fails only if memory runs out, or if a shown silence has more
+/// than 67,108,864 bytes.
 ///
 /// # Errors
 ///
-/// [`ListError::TooLarge`] or [`ListError::Memory`].
+/// Returns [`ListError::TooLarge`] or [`ListError::Memory`].
 pub fn reads_again(
     alloc: Global,
     rows: &[(MeshSilence, State)],

@@ -1,4 +1,4 @@
-//! Silences in JSON: how API v2 shows them, and what is posted, written and read; and the texts of the moments in them.
+//! Silences in JSON: writing and reading them as API v2 shows them and as they are posted, and the texts of their moments.
 #![tactic(auto)]
 
 mod cut;

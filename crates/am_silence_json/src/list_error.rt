@@ -1,23 +1,23 @@
-//! Why the body of a list is refused.
+//! Errors of reading the body of a list.
 
 use crate::key::ShownKey;
 use std::alloc::{AllocError, AllocFailed};
 use std::fmt;
 use thiserror::Error;
 
-/// Why the body of a list is refused. Places in the list count from 0; the first silence at fault is told.
+/// The reason for refusing the body of a list. Places in the list count from 0; the first silence at fault is reported.
 #[derive(Clone, Copy, Debug, Error)]
 pub enum ListError {
-    /// It is no JSON.
+    /// The body is no JSON.
     #[error("BadJson")]
     BadJson,
-    /// It is JSON, and no array.
+    /// The body is JSON, but not an array.
     #[error("NoList")]
     NoList,
-    /// What stands at this key of the silence at this place is wanting or of another kind.
+    /// The value of this key is missing or of another kind in the silence at this place.
     #[error("Silence {0} {1}")]
     Wrong(usize, ShownKey),
-    /// The silence at this place has over 67,108,864 bytes.
+    /// The silence at this place has more than 67,108,864 bytes.
     #[error("Silence {0} TooLarge")]
     TooLarge(usize),
     #[error("Memory")]

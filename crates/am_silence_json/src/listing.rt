@@ -15,7 +15,7 @@ use json::{Token, Writer};
 use std::alloc::{AllocError, Global};
 use std::marker::Model;
 
-/// Begins a list behind what `out` holds.
+/// Begins a list after the contents of `out`.
 pub fn begin_list(out: Vec<u8>) -> Result<Writer, AllocError>
     ensures { IfOk result (λ writer. (writer.before ≡ out.items) × (writer.tokens ≡ begin_array ∷ [])) }
 {
@@ -34,11 +34,11 @@ pub fn end_list(writer: Writer) -> Result<Vec<u8>, AllocError>
     Ok(writer.into_inner())
 }
 
-/// The list of silences, each in its state, as it is being written: compact JSON.
+/// A list of silences, each in its state, that is being written as compact JSON.
 #[derive(Drop)]
 pub struct Listing {
     rows: Vec<(MeshSilence, State)>,
-    /// How many of them are written.
+    /// The number of silences written so far.
     count: usize,
     out: Writer,
 }
@@ -59,11 +59,11 @@ impl Model for Listing {
 }
 
 impl Listing {
-    /// Before the first of these silences.
+    /// Begins a list, before the first of these silences.
     ///
     /// # Errors
     ///
-    /// [`AllocError`] where memory runs out.
+    /// Returns [`AllocError`] if memory runs out.
     pub fn begin(alloc: Global, rows: Vec<(MeshSilence, State)>) -> Result<Listing, AllocError>
         ensures { IfOk result (λ list. list ≡ record { rows = rows.items; left = length rows.items }) }
     {
@@ -75,11 +75,11 @@ impl Listing {
         })
     }
 
-    /// Writes so many silences more, or all that are left.
+    /// Writes `count` more silences, or all that are left.
     ///
     /// # Errors
     ///
-    /// [`AllocError`] where memory runs out.
+    /// Returns [`AllocError`] if memory runs out.
     pub fn go_on(self, count: usize) -> Result<Listing, AllocError>
         ensures { IfOk result (λ list. list ≡ record self { left = self.left - count }) }
     {
@@ -97,18 +97,18 @@ impl Listing {
         })
     }
 
-    /// Whether all silences are written.
+    /// Returns whether all silences are written.
     pub fn is_written(&self) -> bool
         ensures { result ≡ (self.now.left == 0) }
     {
         self.count == self.rows.len()
     }
 
-    /// The list, whole: what is left is written.
+    /// Writes the silences that are left and returns the whole list.
     ///
     /// # Errors
     ///
-    /// [`AllocError`] where memory runs out.
+    /// Returns [`AllocError`] if memory runs out.
     pub fn finish(self) -> Result<Vec<u8>, AllocError>
         ensures { IfOk result (λ body. (ds : List Data) × AreGettable self.rows ds
             × (body.items ≡ compact_text (array (items_of ds)))) }

@@ -15,21 +15,21 @@ use am_wire::Text;
 use serde_json::Value;
 use std::alloc::{AllocError, Global};
 
-/// The text at a key.
+/// Returns the text at a key.
 pub fn text_in<'v>(object: &'v Value, key: &str) -> Option<&'v str>
     ensures { option_copied result ≡ text_in key.now (view object.now) }
 {
     object.get(key).and_then(Value::as_str)
 }
 
-/// The truth value at a key.
+/// Returns the boolean at a key.
 fn truth_in(object: &Value, key: &str) -> Option<bool>
     ensures { result ≡ truth_in key.now (view object.now) }
 {
     object.get(key).and_then(Value::as_bool)
 }
 
-/// Whether the label has to match, as it does where nothing is said.
+/// Returns whether the label has to match, which is the default.
 fn equal_in(object: &Value) -> Option<bool>
     ensures { result ≡ equal_in (view object.now) }
 {
@@ -39,7 +39,7 @@ fn equal_in(object: &Value) -> Option<bool>
     }
 }
 
-/// The kind of `isRegex` and `isEqual`.
+/// Returns the kind given by `isRegex` and `isEqual`.
 fn kind_of(regex: bool, equal: bool) -> MatcherKind
     ensures { result ≡ kind_of regex equal }
 {
@@ -59,7 +59,7 @@ struct Parts<'v> {
     pattern: &'v str,
 }
 
-/// The matcher that a value is.
+/// Returns the matcher in a value, still borrowed from it.
 fn parts_of(value: &Value) -> Option<Parts<'_>>
     ensures { option_map matcher_in result ≡ matcher_of (view value.now) }
 {
@@ -74,7 +74,7 @@ fn parts_of(value: &Value) -> Option<Parts<'_>>
     })
 }
 
-/// A matcher of its own.
+/// Copies a borrowed matcher into an owned one.
 fn copied(alloc: Global, parts: Parts<'_>) -> Result<Matcher, AllocError>
     ensures { IfOk result (λ m. m ≡ matcher_in parts.entry) }
 {
@@ -87,7 +87,7 @@ fn copied(alloc: Global, parts: Parts<'_>) -> Result<Matcher, AllocError>
     })
 }
 
-/// The matcher that a value is.
+/// Reads the matcher in a value.
 fn read_matcher(alloc: Global, value: &Value) -> Result<Matcher, BodyError>
     ensures read { IfOk result (λ m. matcher_of (view value.now) ≡ Some m) }
     ensures wrong { IfErr result (λ e. e ≢ errors.Memory →
@@ -100,7 +100,7 @@ fn read_matcher(alloc: Global, value: &Value) -> Result<Matcher, BodyError>
     Ok(matcher)
 }
 
-/// The matchers that the values are.
+/// Reads the matchers in values.
 fn read_each(alloc: Global, values: &[Value]) -> Result<Vec<Matcher>, BodyError>
     ensures read { IfOk result (λ ms. matchers_of (items_view values.now) ≡ Some ms.items) }
     ensures wrong { IfErr result (λ e. e ≢ errors.Memory →
@@ -120,7 +120,7 @@ fn read_each(alloc: Global, values: &[Value]) -> Result<Vec<Matcher>, BodyError>
     Ok(matchers)
 }
 
-/// The posted matchers.
+/// Reads the posted matchers.
 pub fn read_matchers(alloc: Global, object: &Value) -> Result<Matchers, BodyError>
     ensures read { IfOk result (λ ms. matchers_in (view object.now) ≡ Some ms) }
     ensures wrong { IfErr result (λ e. e ≢ errors.Memory →

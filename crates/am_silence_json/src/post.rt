@@ -1,4 +1,4 @@
-//! What is posted, out of a request's body.
+//! Reading a posted silence from a request's body.
 
 ghost use Rattle.std.specs.Prelude.{◌≡◌, ◌≢◌, ℕ, IfOk, IfErr, IfSome, IsErrOf, Some, None, option_copied, codes, IsSome};
 ghost use Rattle.std.specs.Str.{IsUtf8};
@@ -24,7 +24,7 @@ use serde_json::error::Category;
 use std::alloc::{AllocError, Global};
 use std::str;
 
-/// The moment whose text stands at a key.
+/// Reads the moment at a key.
 pub fn moment_in(object: &Value, key: &str) -> Option<Moment>
     ensures value { IfSome result (HasMoment key.now (view object.now)) }
     ensures only { (m : ℕ) → HasMoment key.now (view object.now) m → result ≡ Some m }
@@ -33,7 +33,7 @@ pub fn moment_in(object: &Value, key: &str) -> Option<Moment>
     read_moment(text)
 }
 
-/// The posted identifier.
+/// Reads the posted identifier.
 fn id_in(object: &Value) -> Result<Option<&str>, Key>
     ensures read { IfOk result (λ id. id_in (view object.now) ≡ Some (option_copied id)) }
     ensures wrong { IfErr result (λ key. (key ≡ keys.Id) × (id_in (view object.now) ≡ None)) }
@@ -51,7 +51,7 @@ fn id_in(object: &Value) -> Result<Option<&str>, Key>
     }
 }
 
-/// Moments and texts of a post.
+/// The moments and texts of a post.
 #[derive(Clone, Copy)]
 struct Rest<'v> {
     starts_at: Moment,
@@ -60,7 +60,7 @@ struct Rest<'v> {
     comment: &'v str,
 }
 
-/// Moments and texts of a post, or the first of their keys that is wrong.
+/// Reads the moments and texts of a post, or returns the first of their keys that is wrong.
 fn read_rest(object: &Value) -> Result<Rest<'_>, Key>
     ensures read { IfOk result (HasRest (view object.now)) }
     ensures wrong { IfErr result (λ key. IsRight (view object.now) keys.Id → IsRight (view object.now) keys.Matchers →
@@ -86,7 +86,7 @@ fn read_rest(object: &Value) -> Result<Rest<'_>, Key>
     })
 }
 
-/// A copy of an identifier.
+/// Copies an identifier.
 fn copied_id(alloc: Global, id: Option<&str>) -> Result<Option<Text>, AllocError>
     ensures { IfOk result (λ copy. copy ≡ option_copied id.entry) }
 {
@@ -96,7 +96,7 @@ fn copied_id(alloc: Global, id: Option<&str>) -> Result<Option<Text>, AllocError
     }
 }
 
-/// A post of these parts.
+/// Creates a post from these parts.
 fn posted_of(
     alloc: Global,
     id: Option<&str>,
@@ -123,7 +123,7 @@ fn posted_of(
     })
 }
 
-/// What an object posts.
+/// Reads the silence that an object posts.
 fn read_object(alloc: Global, object: &Value) -> Result<Posted, BodyError>
     ensures read { IfOk result (IsPosted (view object.now)) }
     ensures wrong { (key : Key) → IsErrOf result (errors.Wrong key) → IsFirstWrong (view object.now) key }
@@ -140,7 +140,7 @@ fn read_object(alloc: Global, object: &Value) -> Result<Posted, BodyError>
     }
 }
 
-/// The object whose text the body is.
+/// Reads the body as the text of an object.
 fn object_in(alloc: Global, body: &[u8]) -> Result<Value, BodyError>
     ensures read { IfOk result (λ v. IsObjectText body.now (view v)) }
     ensures bad_json { IsErrOf result errors.BadJson → (d : Data) → ¬ IsObjectText body.now d }
@@ -156,13 +156,14 @@ fn object_in(alloc: Global, body: &[u8]) -> Result<Value, BodyError>
     }
 }
 
-/// What the body of a request posts: a JSON object with `matchers`, `startsAt`, `endsAt`, `createdBy` and `comment`,
-/// and perhaps an `id`. Of keys that come twice the last counts.
+/// Reads the silence posted in the body of a request: a JSON object with `matchers`, `startsAt`, `endsAt`, `createdBy` and
+/// `comment`, and an optional `id`. If a key is repeated, its last value counts.
 ///
 /// # Errors
 ///
-/// [`BodyError::BadJson`] where the body is no JSON, or no object; else [`BodyError::Wrong`] with the first key that is
-/// wanting or of another kind, in the order of [`Key`]; [`BodyError::Memory`] where memory runs out.
+/// Returns [`BodyError::BadJson`] if the body is no JSON, or no object; or else [`BodyError::Wrong`] with the first key that is
+/// missing
+/// or of another kind, in the order of [`Key`]; and [`BodyError::Memory`] if memory runs out.
 pub fn read_post(alloc: Global, body: &[u8]) -> Result<Posted, BodyError>
     // PROMISE: A posted silence is the one that its object describes.
     ensures posted { IfOk result (λ p. (d : Data) × IsObjectText body.now d × IsPosted d p) }

@@ -1,4 +1,4 @@
-//! Bodies of replies, written behind what a buffer holds.
+//! Bodies of replies, appended to a buffer.
 
 ghost use Rattle.std.specs.Prelude.{◌≡◌, ◌++◌, List, IfOk};
 ghost use Rattle.serde_json.specs.Data.{Data, array, string};
@@ -13,11 +13,11 @@ use am_silence::{MeshSilence, State};
 use json::{Token, Writer};
 use std::alloc::AllocError;
 
-/// The list of silences, each in its state: compact JSON behind what `out` holds. There is no tree of it in memory.
+/// Appends the list of silences, each in its state, to `out` as compact JSON. No tree of it is built in memory.
 ///
 /// # Errors
 ///
-/// [`AllocError`] where memory runs out.
+/// Returns [`AllocError`] if memory runs out.
 pub fn write_silences(out: Vec<u8>, rows: &[(MeshSilence, State)]) -> Result<Vec<u8>, AllocError>
     // PROMISE: Silences are written as the compact JSON of their values.
     ensures { IfOk result (λ body. (ds : List Data) × AreGettable rows.now ds
@@ -29,11 +29,11 @@ pub fn write_silences(out: Vec<u8>, rows: &[(MeshSilence, State)]) -> Result<Vec
     Ok(body)
 }
 
-/// The silence of a version in its state: compact JSON behind what `out` holds.
+/// Appends the silence of a version in its state to `out` as compact JSON.
 ///
 /// # Errors
 ///
-/// [`AllocError`] where memory runs out.
+/// Returns [`AllocError`] if memory runs out.
 pub fn write_silence(
     out: Vec<u8>,
     version: &MeshSilence,
@@ -47,11 +47,11 @@ pub fn write_silence(
     Ok(writer.into_inner())
 }
 
-/// What a post is answered, `{"silenceID":"ID"}`, behind what `out` holds.
+/// Appends the reply to a post, `{"silenceID":"ID"}`, to `out`.
 ///
 /// # Errors
 ///
-/// [`AllocError`] where memory runs out.
+/// Returns [`AllocError`] if memory runs out.
 pub fn write_posted(out: Vec<u8>, id: &str) -> Result<Vec<u8>, AllocError>
     ensures { IfOk result (λ body. body.items ≡ out.items ++ compact_text (posted_data id.now)) }
 {
@@ -60,11 +60,11 @@ pub fn write_posted(out: Vec<u8>, id: &str) -> Result<Vec<u8>, AllocError>
     Ok(writer.into_inner())
 }
 
-/// What a fault is answered, a JSON string, behind what `out` holds.
+/// Appends the reply to a fault, a JSON string, to `out`.
 ///
 /// # Errors
 ///
-/// [`AllocError`] where memory runs out.
+/// Returns [`AllocError`] if memory runs out.
 pub fn write_error(out: Vec<u8>, text: &str) -> Result<Vec<u8>, AllocError>
     ensures { IfOk result (λ body. body.items ≡ out.items ++ compact_text (string text.now)) }
 {

@@ -1,4 +1,4 @@
-//! The silences that are shown, out of the body of a list.
+//! Reading shown silences from the body of a list.
 
 ghost use Rattle.std.specs.Prelude.{◌≡◌, ◌≢◌, ◌⊎◌, ℕ, List, All, map, Some, None, Err, IfOk, IfErr, IfSome, IsErrOf};
 ghost use Rattle.serde_json.specs.Data.{Data};
@@ -26,7 +26,7 @@ use serde_json::error::Category;
 use std::alloc::{AllocError, Global};
 use std::str;
 
-/// The moment whose text stands at a key, cut to milliseconds.
+/// Reads the moment at a key, cut to milliseconds.
 fn cut_in(object: &Value, key: &str) -> Option<Moment>
     ensures value { IfSome result (HasCut key.now (view object.now)) }
     ensures none { result ≡ None → (m : ℕ) → ¬ HasMoment key.now (view object.now) m }
@@ -37,7 +37,7 @@ fn cut_in(object: &Value, key: &str) -> Option<Moment>
     }
 }
 
-/// What a silence shows beside its matchers, borrowed from its object.
+/// The parts of a shown silence other than its matchers, borrowed from its object.
 #[derive(Clone, Copy)]
 struct Shown<'v> {
     id: &'v str,
@@ -48,7 +48,7 @@ struct Shown<'v> {
     comment: &'v str,
 }
 
-/// What an object shows beside its matchers, or the first of these keys that is wrong.
+/// Reads the parts of an object other than its matchers, or returns the first of these keys that is wrong.
 fn read_shown(object: &Value) -> Result<Shown<'_>, ShownKey>
     ensures read { IfOk result (HasShown (view object.now)) }
     ensures wrong { IfErr result (IsFirstUnshown (view object.now)) }
@@ -81,7 +81,7 @@ fn read_shown(object: &Value) -> Result<Shown<'_>, ShownKey>
     })
 }
 
-/// A silence of these parts.
+/// Creates a silence from these parts.
 fn silence_of(alloc: Global, shown: Shown<'_>, matchers: Matchers) -> Result<Silence, AllocError>
     ensures { IfOk result (λ s. s ≡ shown_silence shown.entry matchers) }
 {
@@ -99,7 +99,7 @@ fn silence_of(alloc: Global, shown: Shown<'_>, matchers: Matchers) -> Result<Sil
     })
 }
 
-/// The matchers of the silence at a place.
+/// Reads the matchers of the silence at a place.
 fn matchers_at(alloc: Global, place: usize, object: &Value) -> Result<Matchers, ListError>
     ensures read { IfOk result (λ ms. matchers_in (view object.now) ≡ Some ms) }
     ensures wrong { IfErr result (λ e. e ≢ errors.Memory →
@@ -112,7 +112,7 @@ fn matchers_at(alloc: Global, place: usize, object: &Value) -> Result<Matchers, 
     }
 }
 
-/// The version of the silence at a place, whose expiry is its end.
+/// Creates the version of the silence at a place, with its end as its expiry.
 fn version_of(alloc: Global, place: usize, silence: Silence) -> Result<MeshSilence, ListError>
     ensures parts { IfOk result (λ m. m ≡ until_end silence) }
     ensures value { IfOk result IsMesh }
@@ -128,7 +128,7 @@ fn version_of(alloc: Global, place: usize, silence: Silence) -> Result<MeshSilen
     }
 }
 
-/// The silence that the object at a place shows.
+/// Reads the silence shown by the object at a place.
 fn read_silence(alloc: Global, place: usize, object: &Value) -> Result<MeshSilence, ListError>
     ensures read { IfOk result (IsShown (view object.now)) }
     ensures value { IfOk result IsMesh }
@@ -149,7 +149,7 @@ fn read_silence(alloc: Global, place: usize, object: &Value) -> Result<MeshSilen
     }
 }
 
-/// The silences that these objects show.
+/// Reads the silences shown by these objects.
 fn read_each(alloc: Global, objects: &[Value]) -> Result<Vec<MeshSilence>, ListError>
     ensures read { IfOk result (λ vs. AreShown (map view objects.now) vs.items) }
     ensures values { IfOk result (λ vs. All IsMesh vs.items) }
@@ -166,7 +166,7 @@ fn read_each(alloc: Global, objects: &[Value]) -> Result<Vec<MeshSilence>, ListE
     Ok(silences)
 }
 
-/// The JSON whose text the body is.
+/// Parses the body as JSON.
 fn json_in(alloc: Global, body: &[u8]) -> Result<Value, ListError>
     ensures read { IfOk result (λ v. IsJsonText body.now (view v)) }
     ensures bad_json { IsErrOf result errors.BadJson → (d : Data) → ¬ IsJsonText body.now d }
@@ -182,17 +182,18 @@ fn json_in(alloc: Global, body: &[u8]) -> Result<Value, ListError>
     }
 }
 
-/// The silences that the body of a reply to `GET /api/v2/silences` shows, in its order: an array of objects with `id`,
-/// `matchers`, `startsAt`, `endsAt`, `updatedAt`, `createdBy` and `comment`. Other keys are passed over, and of keys that
-/// come twice the last counts.
+/// Reads the silences shown in the body of a reply to `GET /api/v2/silences`, in its order: an array of objects with `id`,
+/// `matchers`, `startsAt`, `endsAt`, `updatedAt`, `createdBy` and `comment`. Other keys are ignored, and if a key is repeated, its
+/// last value counts.
 ///
 /// The moments of these versions are cut to milliseconds, and their expiry is their end, since API v2 shows none.
 ///
 /// # Errors
 ///
-/// [`ListError::BadJson`] where the body is no JSON, [`ListError::NoList`] where it is no array; else, of the first
-/// silence at fault, [`ListError::Wrong`] with the first key that is wanting or of another kind, in the order of
-/// [`ShownKey`], or [`ListError::TooLarge`]; [`ListError::Memory`] where memory runs out.
+/// Returns [`ListError::BadJson`] if the body is no JSON, or [`ListError::NoList`] if it is not an array; or else, for the first
+/// silence
+/// at fault, [`ListError::Wrong`] with the first key that is missing or of another kind, in the order of [`ShownKey`], or
+/// [`ListError::TooLarge`]; and [`ListError::Memory`] if memory runs out.
 pub fn read_silences(alloc: Global, body: &[u8]) -> Result<Vec<MeshSilence>, ListError>
     ensures read { IfOk result (λ vs. Lists body.now vs.items) }
     ensures values { IfOk result (λ vs. All IsMesh vs.items) }

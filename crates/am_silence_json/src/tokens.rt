@@ -1,4 +1,4 @@
-//! Members and brackets of a text of JSON that is being written.
+//! Members and brackets of a JSON text that is being written.
 
 ghost use Rattle.std.specs.Prelude.{◌≡◌, [], ◌∷◌, ◌++◌, OnOk};
 ghost use Rattle.json.specs.Token.{key, string, boolean};
@@ -13,7 +13,7 @@ use std::alloc::AllocError;
 ///
 /// # Errors
 ///
-/// [`AllocError`] where memory runs out.
+/// Returns [`AllocError`] if memory runs out.
 pub fn add(out: &mut Writer, token: Token<'_>) -> Result<(), AllocError>
     requires { IsPrintable (token_of token) }
     ensures { OnOk result (Adds out.old out.new (token_of token.entry ∷ [])) }
@@ -22,11 +22,11 @@ pub fn add(out: &mut Writer, token: Token<'_>) -> Result<(), AllocError>
     Ok(())
 }
 
-/// Adds a member that is a text.
+/// Adds a member whose value is a text.
 ///
 /// # Errors
 ///
-/// [`AllocError`] where memory runs out. The key may be left.
+/// Returns [`AllocError`] if memory runs out. The key may then remain.
 pub fn add_text(out: &mut Writer, name: &str, text: &str) -> Result<(), AllocError>
     ensures { OnOk result (Adds out.old out.new (key name.now ∷ string text.now ∷ [])) }
 {
@@ -35,11 +35,11 @@ pub fn add_text(out: &mut Writer, name: &str, text: &str) -> Result<(), AllocErr
     Ok(())
 }
 
-/// Adds a member that is a truth value.
+/// Adds a member whose value is a boolean.
 ///
 /// # Errors
 ///
-/// [`AllocError`] where memory runs out. The key may be left.
+/// Returns [`AllocError`] if memory runs out. The key may then remain.
 pub fn add_truth(out: &mut Writer, name: &str, truth: bool) -> Result<(), AllocError>
     ensures { OnOk result (Adds out.old out.new (key name.now ∷ boolean truth ∷ [])) }
 {

@@ -3,9 +3,14 @@ use Rattle.std.proofs.Common.{◌≡◌, ℕ, ◌+◌, ◌-◌, ◌^◌, ◌<◌
 use Rattle.std.proofs.Math.Seq.{drop-append_seam}
 use Rattle.std.specs.List.{All}
 use Rattle.std.proofs.lemmas.List.Elements.{All-head, All-tail}
+use Rattle.std.specs.declared.cmp.Ordering.{Ordering}
 use Rattle.am_version_order.specs.Versions.{Version}
 use Rattle.am_wire.specs.declared.error.WireError.{WireError}
+use Rattle.am_wire.specs.declared.unknown.Unknown.{Unknown}
+use Rattle.am_wire.specs.declared.unknown.Unknown.TheVariants.{Drop, Keep}
 use Rattle.am_wire.specs.Fields.{row_at, pieces}
+use Rattle.am_wire.specs.Unknown.{plainly, StaysWhole}
+use Rattle.am_wire.specs.RoundTrip.Plain.{read_whole}
 use Rattle.am_wire.specs.Varint.{shortest}
 use Rattle.am_wire.specs.Writing.{delimited}
 use Rattle.am_wire.specs.Grammar.{IsRow}
@@ -14,6 +19,7 @@ use Rattle.am_wire.specs.RoundTrip.Pieces.{pieces-first}
 use Rattle.am_wire.specs.Limits.{most}
 use Rattle.am_wire.specs.Inputs.{sound, message_at, messages_from}
 use Rattle.am_wire.proofs.Exact.{row_read}
+use Rattle.am_snapshot.specs.Saving.{IsSavableWithin}
 use Rattle.am_snapshot.specs.Texts.{row_text}
 use Rattle.am_snapshot.proofs.Fits.{IsShort}
 
@@ -27,12 +33,6 @@ module _ {K X : Type 0} (seen : X → Version K) (reads : ℕ → List ℕ → R
   -- the version is read of its content, wherever that stands
   abbrev pub IsReadBack : X → Type 0
   IsReadBack v = (at : ℕ) → length (seen v).content ≤ most → reads at (seen v).content ≡ Ok v
-
-  pub read_back : (writes : X → List ℕ) (is_value is_written : X → Type 0) → ((v : X) (at : ℕ) → is_written v → length (writes v) < 2 ^ 64 → reads at (writes v) ≡ Ok v)
-      → ((v : X) → is_value v → is_written v × ((seen v).content ≡ writes v)) → (v : X) → is_value v → IsReadBack v
-  read_back writes is_value is_written again written v value at small =
-      let (both, same) = written v value in
-      ap (λ (text : List ℕ). reads at text) same ∙ again v at both (omega (arith, small, ap length same))
 
   first_message : (v : X) (at : ℕ) (rest : List ℕ) → IsReadBack v → length (seen v).content ≤ most
       → message_at reads at (delimited (seen v).content ++ rest) ≡ Ok (v, length (delimited (seen v).content))
@@ -54,3 +54,18 @@ module _ {K X : Type 0} (seen : X → Version K) (reads : ℕ → List ℕ → R
       ∙ ap (λ (left : List ℕ). sound v ∷ pieces (message_at reads) 0 (at + length (delimited content)) left) (drop-append_seam (delimited content) rest)
       ∙ ap (λ (others : List (Result X WireError)). sound v ∷ others)
       (versions_read versions (at + length (delimited content)) (All-tail IsReadBack v versions back) (All-tail (IsShort seen) v versions short))
+
+-- so is a version of which nothing is lost, by what is done with unknown fields
+module _ {K X : Type 0} (seen : X → Version K) (plain : X → X) (reads : Unknown → ℕ → List ℕ → Result X WireError)
+    (dropped : (at : ℕ) (bytes : List ℕ) → reads Drop at bytes ≡ plainly plain (reads Keep at bytes)) (unknown : Unknown) where
+  pub read_back : (writes : X → List ℕ) (is_value is_written : X → Type 0) → ((v : X) (at : ℕ) → is_written v → length (writes v) < 2 ^ 64 → reads Keep at (writes v) ≡ Ok v)
+      → ((v : X) → is_value v → is_written v × ((seen v).content ≡ writes v)) → (v : X) → is_value v × StaysWhole plain unknown v → IsReadBack seen (reads unknown) v
+  read_back writes is_value is_written again written v (value, stays) at small =
+      let (both, same) = written v value in
+      let kept = ap (λ (text : List ℕ). reads Keep at text) same ∙ again v at both (omega (arith, small, ap length same)) in
+      read_whole plain reads dropped unknown v at (seen v).content stays kept
+
+pub whole_savable : {K X : Type 0} (seen : X → Version K) (cmp : K → K → Ordering) (is_value stays : X → Type 0) (limit : ℕ) (map : List X)
+    → IsSavableWithin seen cmp is_value limit map → All stays map → IsSavableWithin seen cmp (λ v. is_value v × stays v) limit map
+whole_savable seen cmp is_value stays limit map savable stay =
+    record { order = savable.order; values = λ k d h. (savable.values k d h, stay k d h); fits = savable.fits }

@@ -1,4 +1,4 @@
--- What folding a row writes, and what it leaves where it stops.
+-- The output of folding a row, and the state of the writer if the fold fails.
 use Rattle.std.specs.Prelude.{◌≡◌, ℕ, ◌<◌, ◌≤◌, List, length, take, Option, IfSome, Result, ◌⊎◌}
 use Rattle.std.specs.Io.KnownBytes.{Appends}
 use Rattle.std.specs.declared.cmp.Ordering.{Ordering}
@@ -15,7 +15,7 @@ use Rattle.am_snapshot.specs.declared.error.FoldError.TheVariants as folding
 use Rattle.am_snapshot.specs.declared.error.SnapshotError.{SnapshotError}
 use Rattle.am_snapshot.specs.declared.error.SnapshotError.TheVariants.{Read, Write, Wire, DuplicateKey, TooLarge, Memory}
 
--- the fault of folding, as that of a snapshot
+-- the fault of folding, as a fault of a snapshot
 abbrev pub fold_fault : FoldError → SnapshotError
 fold_fault (folding.Read at) = Read at
 fold_fault (folding.Write k) = Write k
@@ -24,7 +24,7 @@ fold_fault folding.TooLarge = TooLarge
 fold_fault folding.Memory = Memory
 
 module _ {K X : Type 0} (seen : X → Version K) (cmp : K → K → Ordering) (reads : ℕ → List ℕ → Result X WireError) where
-  -- the row has of each key the best among all versions of the input, in the order of the keys
+  -- the row has, for each key, the best among all versions of the input, in the order of the keys
   pub record IsFold (input row : List ℕ) : Type 0 where
     pub versions : List X
     pub all : AreMessages reads input versions
@@ -33,18 +33,17 @@ module _ {K X : Type 0} (seen : X → Version K) (cmp : K → K → Ordering) (r
     pub best : HoldsBest seen versions map
     pub text : row ≡ row_text seen map
 
-  -- the row of an input that may be read whole
+  -- the fold of an input that is within its limit
   pub record IsFoldWithin (input row : List ℕ) : Type 0 where
     pub fold : IsFold input row
     pub size : length input ≤ most
 
-  -- the row of such an input is longer than a row may be
+  -- the fold of an input within its limit is longer than a row may be
   abbrev pub IsFoldTooLarge : List ℕ → Type 0
   IsFoldTooLarge input = (row : List ℕ) × IsFoldWithin input row × (most < length row)
 
-  -- Exactly the first bytes of a row that may be written went out; or the input is at fault, or the row is too large,
-  -- and the writer is as it was. `start` is what the reader had to give, `left` what it has then, and `contents` what a
-  -- writer holds.
+  -- Exactly the first bytes of a row within its limit went out; or the input is at fault, or the row is too large, and the writer
+  -- is unchanged. `start` is what the reader had to give, `left` what it has then, and `contents` the contents of a writer.
   abbrev pub StopsFold : Option (List ℕ) → Option (List ℕ) → {W : Type 0} → (W → Option (List ℕ)) → W → W → SnapshotError → Type 0
   StopsFold start left contents old new (Write k) =
       (row : List ℕ) × (k < length row) × (length row ≤ most) × Appends (contents old) (contents new) (take k row)

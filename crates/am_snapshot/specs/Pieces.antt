@@ -6,13 +6,13 @@ use Rattle.am_snapshot.specs.Texts.{row_text}
 use Rattle.am_snapshot.specs.declared.pieces.RowPiece.{RowPiece}
 
 module _ {K X : Type 0} (seen : X → Version K) (most : ℕ) where
-  -- Nothing is left behind the versions of a piece; or there are such versions, the first that is left doesn't fit behind
-  -- them, and its key is the next one.
+  -- Either no version is left after those of a piece; or some are left, the first of them doesn't fit after the piece, and
+  -- its key is the next one.
   abbrev pub GoesOn : List X → List X → Option K → Type 0
   GoesOn taken [] next = next ≡ None
   GoesOn taken (v ∷ rest) next = (next ≡ Some (seen v).key) × (0 < length taken) × (most < length (row_text seen (taken ++ v ∷ [])))
 
-  -- the piece is the row of the first of all versions, as many as fit and one at least, with the key of the first that is left
+  -- the piece is the row of as many of the first versions as fit, but at least one, with the key of the first version left
   pub record IsPiece (all : List X) (piece : RowPiece K) : Type 0 where
     pub taken : List X
     pub left : List X

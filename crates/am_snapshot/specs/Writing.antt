@@ -1,9 +1,9 @@
--- What a writer took of bytes that are written.
+-- The part of the bytes that a writer took.
 use Rattle.std.specs.Prelude.{◌≡◌, ℕ, ◌+◌, List, ◌++◌, length, Option}
 use Rattle.std.specs.Io.KnownBytes.{Appends}
 use Rattle.am_streams.specs.Writing.{WritesPart}
 
--- of what waited and what was added to it, the writer took the front, and the rest waits
+-- of the bytes that waited and those added to them, the writer took the front, and the rest waits
 pub record Passes (old new : Option (List ℕ)) (waiting added left : List ℕ) (before after : ℕ) : Type 0 where
   pub sent : List ℕ
   pub went_out : Appends old new sent

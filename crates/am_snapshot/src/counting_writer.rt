@@ -8,20 +8,20 @@ use am_streams::{WriteFault, send};
 use std::alloc::{AllocError, Global};
 use std::io::Write;
 
-/// How many bytes are gathered before they are written.
+/// The number of bytes gathered before they are written.
 const ROOM: usize = 65_536;
 
 /// Bytes on their way to a writer, gathered so that few small writes are made.
 #[derive(Drop)]
 pub struct CountingWriter {
-    /// What waits to be written.
+    /// The bytes that wait to be written.
     pub gathered: Vec<u8>,
-    /// How many bytes went out.
+    /// The number of bytes that went out.
     pub written: u64,
 }
 
 impl CountingWriter {
-    /// Makes room for what is gathered, which never grows.
+    /// Creates a writer with room for the gathered bytes; the room never grows.
     pub fn new(alloc: Global) -> Result<Self, AllocError>
         ensures { IfOk result (λ out. (out.gathered.items ≡ []) × (out.written ≡ 0)) }
     {
@@ -31,7 +31,7 @@ impl CountingWriter {
         })
     }
 
-    /// Gathers a part where there is room for it.
+    /// Gathers a part if there is room for it, and returns whether there was.
     fn gather(&mut self, part: &[u8]) -> bool
         ensures gathered { IsTrue result → self.new.gathered.items ≡ self.old.gathered.items ++ part.now }
         ensures refused { result ≡ false → self.new.gathered.items ≡ self.old.gathered.items }
@@ -42,7 +42,7 @@ impl CountingWriter {
             && self.gathered.extend_from_slice(part).is_ok()
     }
 
-    /// Writes what was gathered.
+    /// Writes the gathered bytes.
     pub fn flush<W: Write>(&mut self, writer: &mut W) -> Result<(), WriteFault>
         requires { self.old.written + vec_len self.old.gathered < 2 ^ 64 }
         ensures passed { OnOk result (Passes (W.contents writer.old)
@@ -56,8 +56,8 @@ impl CountingWriter {
         Ok(())
     }
 
-    /// Gathers a part. Where there is no room, what was gathered is written first, and a part that is
-    /// larger than the room is written by itself.
+    /// Gathers a part. If there is no room, the gathered bytes are written first, and a part that is larger than the room is
+    /// written by itself.
     pub fn send<W: Write>(&mut self, writer: &mut W, part: &[u8]) -> Result<(), WriteFault>
         requires { self.old.written + vec_len self.old.gathered + length part.now < 2 ^ 64 }
         ensures passed { OnOk result (Passes (W.contents writer.old)
@@ -76,7 +76,7 @@ impl CountingWriter {
     }
 }
 
-/// Writes all the bytes, after so many others, and answers how many went out then.
+/// Writes all the bytes, after `before` others, and returns how many went out in all.
 fn write_counted<W: Write>(writer: &mut W, bytes: &[u8], before: u64) -> Result<u64, WriteFault>
     requires { before + length bytes.now < 2 ^ 64 }
     ensures all { OnOk result (Appends (W.contents writer.old) (W.contents writer.new) bytes.now) }

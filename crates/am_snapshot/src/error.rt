@@ -1,4 +1,4 @@
-//! Why a snapshot was not written or not read.
+//! Errors of writing and reading snapshots.
 
 ghost use Rattle.std.specs.Prelude.{◌≡◌};
 
@@ -7,19 +7,19 @@ use am_wire::{RowFault, WireError};
 use std::alloc::AllocError;
 use thiserror::Error;
 
-/// The first fault that stands.
+/// The first fault of writing or reading a snapshot.
 #[derive(Clone, Copy, Debug, PartialEq, Eq, Error)]
 pub enum SnapshotError {
-    /// A read failed after so many bytes.
+    /// A read failed after this many bytes.
     #[error("Read {at}")]
     Read { at: usize },
-    /// A write failed after so many bytes, which went out.
+    /// A write failed after this many bytes, which went out.
     #[error("Write {written}")]
     Write { written: u64 },
     /// A message is at fault.
     #[error("{0}")]
     Wire(WireError),
-    /// A key comes twice.
+    /// A key is repeated.
     #[error("DuplicateKey")]
     DuplicateKey,
     /// The row, or a message in it, is over its limit.
@@ -29,13 +29,13 @@ pub enum SnapshotError {
     Memory,
 }
 
-/// Why a row was not folded: the first fault that stands. No fold is refused for a key that comes twice.
+/// The first fault of folding a row. A repeated key is no fault of a fold.
 #[derive(Clone, Copy, Debug, PartialEq, Eq, Error)]
 pub enum FoldError {
-    /// A read failed after so many bytes.
+    /// A read failed after this many bytes.
     #[error("Read {at}")]
     Read { at: usize },
-    /// A write failed after so many bytes, which went out.
+    /// A write failed after this many bytes, which went out.
     #[error("Write {written}")]
     Write { written: u64 },
     /// A message is at fault.
@@ -86,7 +86,7 @@ impl From<RowFault> for SnapshotError {
             RowFault::Read { at } => SnapshotError::Read { at },
             RowFault::Wire(e) => SnapshotError::Wire(e),
             RowFault::TooLarge => SnapshotError::TooLarge,
-            // A row is not read on after a fault, so `Ended` is never answered.
+            // No row is read on after a fault, so `Ended` is never returned.
             RowFault::Ended | RowFault::Memory => SnapshotError::Memory,
         }
     }

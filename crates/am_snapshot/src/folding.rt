@@ -13,19 +13,19 @@ use crate::reading::take_row;
 use crate::saving::save;
 use am_merge::Held;
 use am_version_order::{Moment, Version};
-use am_wire::Message;
+use am_wire::{Message, Unknown};
 use std::alloc::Global;
 use std::io::{Read, Write};
 
-/// Reads every version of a row, and then writes the row of the best of them, live or not, in the order of
-/// their keys. Answers how many bytes went out. The moment makes no difference.
+/// Reads every version of a row, and then writes the row of the best version of each key, live or not, in the order of
+/// the keys, without unknown fields. Returns the number of bytes that went out. The moment makes no difference.
 ///
 /// # Errors
 ///
-/// The first fault of the input, with nothing written. [`FoldError::Write`] where a write fails or takes
-/// nothing: exactly the first `written` bytes of the row went out, and it is not tried again.
-/// [`FoldError::TooLarge`] also where the row would have over
-/// [`MOST_MESSAGE_BYTES`](am_wire::MOST_MESSAGE_BYTES), with nothing written, and [`FoldError::Memory`] where memory runs out.
+/// Returns the first fault of the input, with nothing written. Returns [`FoldError::Write`] if a write fails or takes nothing:
+/// exactly the first `written` bytes of the row went out, and the write is not retried. Also returns [`FoldError::TooLarge`] if
+/// the row would have more than [`MOST_MESSAGE_BYTES`](am_wire::MOST_MESSAGE_BYTES), with nothing written, and
+/// [`FoldError::Memory`] if memory runs out.
 pub fn fold<V: Version + Message, R: Read, W: Write>(
     alloc: Global,
     reader: &mut R,
@@ -35,21 +35,21 @@ pub fn fold<V: Version + Message, R: Read, W: Write>(
     // PROMISE: A fold writes the last write of each key in its input.
     ensures row { IfOk result (λ written. (row : List ℕ) × (written ≡ length row) ×
         Appends (W.contents writer.old) (W.contents writer.new) row ×
-        IfSome (R.remaining reader.old) (λ input. IsFold V.seen V.Key.cmp V.reads input row)) }
+        IfSome (R.remaining reader.old) (λ input. IsFold V.seen V.Key.cmp (V.reads Unknown.Drop) input row)) }
     ensures size { OnOk result (IfSome (R.remaining reader.old) (λ input. length input ≤ most)) }
     ensures room { IfOk result (λ written. written ≤ most) }
 
     // PROMISE: If its input has a fault, a fold writes nothing.
-    ensures stopped { IfErr result (λ fault. StopsFold V.seen V.Key.cmp V.reads (R.remaining reader.old)
+    ensures stopped { IfErr result (λ fault. StopsFold V.seen V.Key.cmp (V.reads Unknown.Drop) (R.remaining reader.old)
         (R.remaining reader.new) W.contents writer.old writer.new (fold_fault fault)) }
 {
-    match fold_held::<V, R, W>(alloc, reader, writer, now) {
+    match fold_held::<V, R, W>(alloc, Unknown::Drop, reader, writer, now) {
         Ok(folded) => Ok(folded.written),
         Err(fault) => Err(fold_error(fault)),
     }
 }
 
-// A fault of a snapshot that is one of folding.
+// Converts a snapshot's fault that can be one of folding.
 fn fold_error(fault: SnapshotError) -> FoldError
     requires { fault ≢ DuplicateKey }
     ensures { fold_fault result ≡ fault }
@@ -64,39 +64,40 @@ fn fold_error(fault: SnapshotError) -> FoldError
     }
 }
 
-/// A row that was folded.
+/// The result of a fold.
 #[derive(Drop)]
 pub struct Folded<V: Version> {
-    /// How many bytes went out.
+    /// The number of bytes that went out.
     pub written: u64,
     /// The versions of the row.
     pub held: Held<V>,
 }
 
-/// Folds as [`fold`] does, and answers the map too. A program that ends then may forget it: to free each
-/// version would take about a tenth of the time.
+/// Folds as [`fold`] does, handling unknown fields as told, and returns the map too. A program that then ends may forget the
+/// map: freeing each version would take about a tenth of the time.
 ///
 /// # Errors
 ///
-/// Those of [`fold`], as [`SnapshotError`] has them.
+/// Returns the errors of [`fold`], as [`SnapshotError`]s.
 pub fn fold_held<V: Version + Message, R: Read, W: Write>(
     alloc: Global,
+    unknown: Unknown,
     reader: &mut R,
     writer: &mut W,
     _now: Moment,
 ) -> Result<Folded<V>, SnapshotError>
     ensures row { IfOk result (λ folded. (row : List ℕ) × (folded.written ≡ length row) ×
         Appends (W.contents writer.old) (W.contents writer.new) row ×
-        IfSome (R.remaining reader.old) (λ input. IsFold V.seen V.Key.cmp V.reads input row)) }
+        IfSome (R.remaining reader.old) (λ input. IsFold V.seen V.Key.cmp (V.reads unknown) input row)) }
     ensures size { OnOk result (IfSome (R.remaining reader.old) (λ input. length input ≤ most)) }
     ensures room { IfOk result (λ folded. folded.written ≤ most) }
     ensures best { IfOk result (λ folded. IfSome (R.remaining reader.old) (λ input.
-        (versions : List V) × AreMessages V.reads input versions × HoldsBest V.seen versions folded.held)) }
+        (versions : List V) × AreMessages (V.reads unknown) input versions × HoldsBest V.seen versions folded.held)) }
 
-    ensures stopped { IfErr result (StopsFold V.seen V.Key.cmp V.reads (R.remaining reader.old)
+    ensures stopped { IfErr result (StopsFold V.seen V.Key.cmp (V.reads unknown) (R.remaining reader.old)
         (R.remaining reader.new) W.contents writer.old writer.new) }
 {
-    let held: Held<V> = take_row(alloc, reader)?;
+    let held: Held<V> = take_row(alloc, unknown, reader)?;
     let written = save(alloc, &held, writer)?;
     Ok(Folded { written, held })
 }

@@ -1,4 +1,4 @@
-//! The held versions of a map as a row: how long it is, and the row itself.
+//! The held versions of a map as a row: its length, and the row itself.
 
 ghost use Rattle.std.specs.Prelude.{◌≡◌, ◌≤◌, ◌+◌, All, length, OnSome, IfOk};
 ghost use Rattle.std.specs.Option.{SomeIff};
@@ -14,7 +14,7 @@ use am_wire::writing::{append_delimited, delimited_length};
 use am_wire::{Bytes, MOST_MESSAGE_BYTES};
 use std::alloc::{AllocError, Global};
 
-/// How many bytes the row of the held versions has, or `None` where it has over 67,108,864. It takes no memory.
+/// Returns the length of the row of the held versions, or `None` if it has more than 67,108,864 bytes. This takes no memory.
 pub fn row_length<V: Version>(held: &Held<V>) -> Option<u64>
     ensures length { SomeIff result (length (row_text V.seen held.now) ≤ most) (length (row_text V.seen held.now)) }
     ensures order { IsMap V.seen V.Key.cmp held.now }
@@ -23,8 +23,8 @@ pub fn row_length<V: Version>(held: &Held<V>) -> Option<u64>
     row_length_within(held, MOST_MESSAGE_BYTES as u32)
 }
 
-/// How many bytes a row of so many has with one message more, or `None` where it has over `limit`, or the message is none
-/// that may be read.
+/// Returns the length of a row of `total` bytes with one more message, or `None` if it has more than `limit` bytes or the
+/// message couldn't be read.
 pub(crate) fn with_one(total: u64, content: &[u8], limit: u32) -> Option<u64>
     requires { total ≤ limit }
     ensures { SomeIff result ((length content.now ≤ most) × (total + length (delimited content.now) ≤ limit))
@@ -37,8 +37,8 @@ pub(crate) fn with_one(total: u64, content: &[u8], limit: u32) -> Option<u64>
     (longer <= u64::from(limit)).then_some(longer)
 }
 
-/// How many bytes the row of the held versions has, or `None` where it has over `limit`, or a version has more than
-/// [`MOST_MESSAGE_BYTES`], so that it would not be read again. It takes no memory.
+/// Returns the length of the row of the held versions, or `None` if it has more than `limit` bytes, or if a version has more than
+/// [`MOST_MESSAGE_BYTES`], so that it couldn't be read again. This takes no memory.
 pub fn row_length_within<V: Version>(held: &Held<V>, limit: u32) -> Option<u64>
     ensures length { SomeIff result (FitsRow V.seen limit held.now) (length (row_text V.seen held.now)) }
     ensures order { IsMap V.seen V.Key.cmp held.now }
@@ -51,11 +51,11 @@ pub fn row_length_within<V: Version>(held: &Held<V>, limit: u32) -> Option<u64>
     Some(total)
 }
 
-/// The row of the held versions, which has so many bytes. It takes memory once.
+/// Returns the row of the held versions, whose length has to be given. This takes memory once.
 ///
 /// # Errors
 ///
-/// [`AllocError`] where memory runs out.
+/// Returns [`AllocError`] if memory runs out.
 pub fn row_bytes<V: Version>(
     alloc: Global,
     held: &Held<V>,

@@ -1,4 +1,4 @@
-//! Held versions as a row of messages: how long it is, the row in memory, and how it is written and read again.
+//! Held versions as a row of messages: its length, the row in memory, and how it is written and read again.
 #![tactic(auto)]
 
 mod counting_writer;

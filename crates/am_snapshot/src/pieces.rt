@@ -1,4 +1,4 @@
-//! A row in pieces: each has the versions that fit, and says where the next one begins.
+//! A row in pieces: each piece has the versions that fit, and says where the next one begins.
 
 ghost use Rattle.std.specs.Prelude.{◌≡◌, ◌<◌, ◌+◌, ◌≤◌, ◌⊎◌, [], true, false, length, IfOk};
 ghost use Rattle.am_wire.specs.Writing.{delimited};
@@ -14,11 +14,11 @@ use std::alloc::{AllocError, Global};
 #[derive(Drop)]
 pub struct RowPiece<K> {
     pub row: Bytes,
-    /// The key of the first version behind the piece, where there is one.
+    /// The key of the first version after the piece, if there is one.
     pub next: Option<K>,
 }
 
-/// Whether a piece that has a message already has no room for one more.
+/// Returns whether a piece that already has a message has no room for one more.
 fn is_full(row: &[u8], content: &[u8], most: usize) -> bool
     ensures full { result ≡ true → (0 < length row.now) × (most < length row.now + length (delimited content.now)) }
     ensures room { result ≡ false → (row.now ≡ []) ⊎ (length row.now + length (delimited content.now) ≤ most) }
@@ -26,12 +26,12 @@ fn is_full(row: &[u8], content: &[u8], most: usize) -> bool
     !row.is_empty() && delimited_length(content) > (most as u64).saturating_sub(row.len() as u64)
 }
 
-/// The row of the first of these versions: of as many as fit `most` bytes, and of one at least, however long it is. The
-/// work is that of the piece, and of one version more.
+/// Returns the row of as many of the first versions as fit in `most` bytes, but of at least one, however long that is. The
+/// work is that of the piece, and of one more version.
 ///
 /// # Errors
 ///
-/// [`AllocError`] where memory runs out.
+/// Returns [`AllocError`] if memory runs out.
 pub fn row_piece<V: Version>(
     alloc: Global,
     versions: Iter<'_, V>,

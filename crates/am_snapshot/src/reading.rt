@@ -9,33 +9,34 @@ ghost use Rattle.am_merge.specs.Views.{HoldsBest};
 
 use am_merge::Held;
 use am_version_order::{Moment, Version};
-use am_wire::{Message, RowFault, RowReader};
+use am_wire::{Message, RowFault, RowReader, Unknown};
 use std::alloc::Global;
 use std::io::Read;
 
 /// Reads every version of a row and takes each, live or not.
 ///
-/// It holds the version that is being read and the winners.
+/// Only the version being read and the winners are held in memory.
 ///
 /// # Errors
 ///
-/// The first fault of the input, or [`RowFault::Memory`]. [`RowFault::Ended`] is not answered.
+/// Returns the first fault of the input, or [`RowFault::Memory`]. [`RowFault::Ended`] is never returned.
 pub fn take_row<V: Version + Message, R: Read>(
     alloc: Global,
+    unknown: Unknown,
     reader: &mut R,
 ) -> Result<Held<V>, RowFault>
     ensures order { IfOk result (IsMap V.seen V.Key.cmp) }
     ensures best { IfOk result (λ held. IfSome (R.remaining reader.old) (λ input.
-        (versions : List V) × AreMessages V.reads input versions × HoldsBest V.seen versions held)) }
+        (versions : List V) × AreMessages (V.reads unknown) input versions × HoldsBest V.seen versions held)) }
     ensures size { OnOk result (IfSome (R.remaining reader.old) (λ input. length input ≤ most)) }
     ensures end { OnOk result (IsAtEnd (R.remaining reader.new)) }
 
     ensures fault { IfErr result (λ fault. IfSome (R.remaining reader.old) (λ input.
-        (versions : List V) × StopsAfter V.reads input versions (R.remaining reader.new) fault)) }
+        (versions : List V) × StopsAfter (V.reads unknown) input versions (R.remaining reader.new) fault)) }
 {
     let mut held = Held::new(alloc);
     let mut rows = RowReader::new(alloc);
-    while let Some(version) = rows.next(reader)? {
+    while let Some(version) = rows.next_by(unknown, reader)? {
         held.take(version, Moment::LEAST)?;
     }
     Ok(held)

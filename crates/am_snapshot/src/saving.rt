@@ -19,7 +19,7 @@ use am_wire::{MOST_MESSAGE_BYTES, write_varint};
 use std::alloc::Global;
 use std::io::Write;
 
-/// Sends bytes behind their length on their way.
+/// Sends bytes on their way, after their length.
 pub(crate) fn send_delimited<W: Write>(
     out: &mut CountingWriter,
     writer: &mut W,
@@ -35,7 +35,7 @@ pub(crate) fn send_delimited<W: Write>(
     out.send(writer, bytes)
 }
 
-/// Sends the held versions on their way, each behind its length.
+/// Sends the held versions on their way, each after its length.
 fn send_versions<V: Version, W: Write>(
     out: &mut CountingWriter,
     writer: &mut W,
@@ -53,14 +53,14 @@ fn send_versions<V: Version, W: Write>(
     Ok(())
 }
 
-/// Writes the held versions in the order of their keys, live or not, as a row: of each the canonical bytes
-/// behind their length. Answers how many bytes went out.
+/// Writes the held versions in the order of their keys, live or not, as a row: the canonical bytes of each after their length.
+/// Returns the number of bytes that went out.
 ///
 /// # Errors
 ///
-/// [`SnapshotError::Write`] where a write fails or takes nothing: exactly the first `written` bytes of the row
-/// went out, and it is not tried again. [`SnapshotError::TooLarge`] where the row has over [`MOST_MESSAGE_BYTES`],
-/// and [`SnapshotError::Memory`], before a byte goes out.
+/// Returns [`SnapshotError::Write`] if a write fails or takes nothing: exactly the first `written` bytes of the row went out, and
+/// the write is not retried. Returns [`SnapshotError::TooLarge`] if the row has more than [`MOST_MESSAGE_BYTES`], and
+/// [`SnapshotError::Memory`], before a byte goes out.
 pub fn save<V: Version, W: Write>(
     alloc: Global,
     held: &Held<V>,
@@ -77,11 +77,11 @@ pub fn save<V: Version, W: Write>(
     save_within(alloc, held, writer, MOST_MESSAGE_BYTES as u32)
 }
 
-/// Saves as [`save`] does, a row of at most `limit` bytes.
+/// Saves as [`save`] does, to a row of at most `limit` bytes.
 ///
 /// # Errors
 ///
-/// Those of [`save`], but [`SnapshotError::TooLarge`] where the row has over `limit` bytes, or a version more than
+/// Returns the errors of [`save`], but [`SnapshotError::TooLarge`] if the row has more than `limit` bytes, or a version more than
 /// [`MOST_MESSAGE_BYTES`].
 pub fn save_within<V: Version, W: Write>(
     alloc: Global,

@@ -4,6 +4,7 @@ use Rattle.std.specs.Prelude.{All, Contains, Option, Some, None, Result, Ok, Err
 use Rattle.std.proofs.Math.Seq.{take-nil}
 use Rattle.std.proofs.lemmas.List.{take-append-drop}
 use Rattle.std.proofs.lemmas.List.Elements.{All-nil}
+use Rattle.am_wire.specs.declared.unknown.Unknown.{Unknown}
 use Rattle.am_gossip.specs.declared.frame.Frame.{Frame}
 use Rattle.am_merge.specs.Maps.{at}
 use Rattle.am_runs.specs.declared.step.Source.{Source}
@@ -22,19 +23,21 @@ use Rattle.am_instance.specs.declared.reply.Reply.{Reply}
 use Rattle.am_instance.specs.declared.reply.Outcome.{Outcome}
 use Rattle.am_instance.specs.Changes.{changed_of}
 use Rattle.am_instance.specs.Configs.{peers_but}
-use Rattle.am_instance.specs.Deliveries.{Delivery}
-use Rattle.am_instance.specs.InstanceStates.{InstanceState, entry_at, silence_at}
+use Rattle.am_instance.specs.Deliveries.{Delivery, IsWhole}
+use Rattle.am_instance.specs.InstanceStates.{InstanceState, HoldsWhole, entry_at, silence_at}
 use Rattle.am_instance.specs.Sendings.{deltas_to, nothing_sent, sent_by}
 use Rattle.am_instance.specs.Replies.{IsReply}
 use Rattle.am_instance.specs.Steps.{brought, collects, counts, delivers, last_wanted, origin}
 use Rattle.am_instance.specs.OneStep.{IsStep}
 use Rattle.std.proofs.lemmas.List.Elements.{All-append}
 use Rattle.am_steps.specs.BothStates.{StateOf}
-use Rattle.am_steps.specs.Contents.{carries}
+use Rattle.am_instance.proofs.Whole.{delivered_whole}
+use Rattle.am_steps.specs.Contents.{carries, IsValue}
 use Rattle.am_steps.specs.Recorded.{AreInFlight, AreValues, HasGoneThrough, HasSource, event_step, sent_in}
 use Rattle.am_steps.specs.StepLaws.{StepsArePossible}
 use Rattle.am_steps.proofs.States.{IsStateOf, held_at}
 use Rattle.am_steps.proofs.Going.{members_go_on}
+use Rattle.am_steps.proofs.Outgoing.{left_whole}
 use Rattle.am_steps.proofs.Making.{frame_makes_nothing, reply_now}
 use Rattle.am_steps.proofs.Sendings.{AreKnown, IfFits, all_deltas, all_picked, all_sent, changed_values, deltas_known, last_holds, pull_known, push_known}
 
@@ -54,10 +57,10 @@ module _ {K X : Type 0} {state : StateOf K X} (facts : IsStateOf state) (members
   made_from : (source : Source) (vs : List X) → source ≡ Made → All (λ v. (state.seen v).updated ≡ now) vs → AreFrom state.seen state.cmp members before now source vs
   made_from source vs is all = subst (λ s. AreFrom state.seen state.cmp members before now s vs) (sym is) all
 
-  delivered_from : (old : InstanceState) (event : Event) (source : Source) (reply : Reply) (made : MadeHere) → HasSource state members before now event source → IsReply old event now reply made →
-      AreFrom state.seen state.cmp members before now source (state.versions_in (delivers event made))
+  delivered_from : (old : InstanceState) (event : Event) (source : Source) (reply : Reply) (made : MadeHere) → HasSource state old.config.unknown members before now event source → IsReply old event now reply made →
+      AreFrom state.seen state.cmp members before now source (state.versions_in (delivers old.config.unknown event made))
   delivered_from old (events.Frame sender frame) source reply made from is =
-      subst (λ (ds : List Delivery). AreFrom state.seen state.cmp members before now source (state.versions_in ds)) (sym (ap (λ ds. carries frame ++ ds) (frame_makes_nothing made is.1) ∙ append-nil (carries frame))) from
+      subst (λ (ds : List Delivery). AreFrom state.seen state.cmp members before now source (state.versions_in ds)) (sym (ap (λ ds. carries old.config.unknown frame ++ ds) (frame_makes_nothing made is.1) ∙ append-nil (carries old.config.unknown frame))) from
   delivered_from old (events.Request request) source reply made from is = made_from source _ from (facts.made now made (reply_now old (events.Request request) now reply made is))
   delivered_from old (events.Notified group_key receiver firing resolved repeat) source reply made from is =
       made_from source _ from (facts.made now made (reply_now old (events.Notified group_key receiver firing resolved repeat) now reply made is))
@@ -73,21 +76,21 @@ module _ {K X : Type 0} {state : StateOf K X} (facts : IsStateOf state) (members
   nothing_from source taken is =
       made_from source _ is (subst (All (λ v. (state.seen v).updated ≡ now)) (sym (ap state.versions_in (take-nil taken) ∙ facts.none)) (All-nil (λ v. (state.seen v).updated ≡ now)))
 
-  stopped_from : (event : Event) (source : Source) (taken : ℕ) → HasSource state members before now event source → AreFrom state.seen state.cmp members before now source (state.versions_in (take taken (brought event)))
-  stopped_from (events.Frame sender frame) source taken from =
-      let ds = carries frame in
+  stopped_from : (unknown : Unknown) (event : Event) (source : Source) (taken : ℕ) → HasSource state unknown members before now event source → AreFrom state.seen state.cmp members before now source (state.versions_in (take taken (brought unknown event)))
+  stopped_from unknown (events.Frame sender frame) source taken from =
+      let ds = carries unknown frame in
       let parts : state.versions_in ds ≡ state.versions_in (take taken ds) ++ state.versions_in (drop taken ds) = ap state.versions_in (sym (take-append-drop taken ds)) ∙ facts.append (take taken ds) (drop taken ds) in
       fewer_from source (state.versions_in (take taken ds)) (state.versions_in (drop taken ds)) (subst (λ vs. AreFrom state.seen state.cmp members before now source vs) parts from)
-  stopped_from (events.Request request) source taken from = nothing_from source taken from
-  stopped_from (events.Notified group_key receiver firing resolved repeat) source taken from = nothing_from source taken from
-  stopped_from (events.Decide group_key receiver firing resolved repeat send_resolved) source taken from = nothing_from source taken from
-  stopped_from (events.Mutes labels) source taken from = nothing_from source taken from
-  stopped_from events.Show source taken from = nothing_from source taken from
-  stopped_from events.Tick source taken from = nothing_from source taken from
-  stopped_from (events.PullFrom place) source taken from = nothing_from source taken from
+  stopped_from unknown (events.Request request) source taken from = nothing_from source taken from
+  stopped_from unknown (events.Notified group_key receiver firing resolved repeat) source taken from = nothing_from source taken from
+  stopped_from unknown (events.Decide group_key receiver firing resolved repeat send_resolved) source taken from = nothing_from source taken from
+  stopped_from unknown (events.Mutes labels) source taken from = nothing_from source taken from
+  stopped_from unknown events.Show source taken from = nothing_from source taken from
+  stopped_from unknown events.Tick source taken from = nothing_from source taken from
+  stopped_from unknown (events.PullFrom place) source taken from = nothing_from source taken from
 
   module _ (place : ℕ) (source : Source) (old new : InstanceState) (event : Event) (frames : List (ℕ × Frame))
-      (gone : HasGoneThrough state (member_of members place before).past (state.kept old)) (from : HasSource state members before now event source) where
+      (gone : HasGoneThrough state (member_of members place before).past (state.kept old)) (from : HasSource state old.config.unknown members before now event source) (whole : HoldsWhole old) where
     abbrev member : Member X
     member = member_of members place before
 
@@ -97,9 +100,9 @@ module _ {K X : Type 0} {state : StateOf K X} (facts : IsStateOf state) (members
         record { runs = runs; forward = omega (arith, last, forward) }
 
     -- the frames of an event that took versions
-    module _ (outcome : Outcome) (step : IsStep old event now (Ok outcome) new) (flying : AreInFlight (Ok outcome) frames) (are : AreValues event outcome new) where
+    module _ (outcome : Outcome) (step : IsStep old event now (Ok outcome) new) (flying : AreInFlight (Ok outcome) frames) (are : AreValues old.config.unknown event outcome new) where
       abbrev ds : List Delivery
-      ds = delivers event outcome.made
+      ds = delivers old.config.unknown event outcome.made
 
       abbrev cs : List Delivery
       cs = changed_of now (silence_at old.silences) (entry_at old.log) ds
@@ -117,28 +120,30 @@ module _ {K X : Type 0} {state : StateOf K X} (facts : IsStateOf state) (members
         all_held k v within = sym (goes.map _) ∙ held_at facts new are.maps k v within
 
         abbrev IsFine : ℕ × Frame → Type 0
-        IsFine = AreKnown facts IsHeld cs (changed state.seen state.cmp now (map_of state.seen state.cmp member.past) (state.versions_in ds)) same
+        IsFine = AreKnown facts old.config.unknown IsHeld cs (changed state.seen state.cmp now (map_of state.seen state.cmp member.past) (state.versions_in ds)) same
 
         fine_frames : All IsFine outcome.frames.items
         fine_frames =
+            let left = left_whole old new step.config (step.kept whole) in
             all_sent IsFine _ nothing_sent (sent_by outcome)
             (All-append (IfFits IsFine) (deltas_to (peers_but old.config (origin old.config event)) cs) (last_wanted event new)
             (all_deltas IsFine (peers_but old.config (origin old.config event)) cs
-            (deltas_known facts IsHeld cs _ same (changed_values now (silence_at old.silences) (entry_at old.log) ds are.delivered)))
+            (deltas_known facts old.config.unknown IsHeld cs _ same (changed_values IsValue now (silence_at old.silences) (entry_at old.log) ds are.delivered)
+            (changed_values (IsWhole old.config.unknown) now (silence_at old.silences) (entry_at old.log) ds (delivered_whole old.config.unknown old event now outcome.reply outcome.made whole.silences step.reply))))
             (last_holds IsFine event new
-            (pull_known facts IsHeld cs _ same new (state.kept new).held (facts.parted new) all_held are.silences are.log)
-            (push_known facts IsHeld cs _ same new (state.kept new).held (facts.parted new) all_held are.silences are.log)))
+            (pull_known facts old.config.unknown IsHeld cs _ same new (state.kept new).held (facts.parted new) all_held are.silences are.log left.0 left.1)
+            (push_known facts old.config.unknown IsHeld cs _ same new (state.kept new).held (facts.parted new) all_held are.silences are.log left.0 left.1)))
             (All-nil IsFine) step.sent
 
         in_flight : All IsFine frames
         in_flight = ⊎_elim (λ is. subst (All IsFine) (sym is) fine_frames) (λ is. subst (All IsFine) (sym is) (All-nil IsFine)) flying
 
-        all_are_sent : All (IsSent state.seen state.cmp members before place now (state.versions_in ds)) (sent_in state frames)
-        all_are_sent = all_picked state (IsSent state.seen state.cmp members before place now (state.versions_in ds)) frames in_flight
+        all_are_sent : All (IsSent state.seen state.cmp members before place now (state.versions_in ds)) (sent_in state old.config.unknown frames)
+        all_are_sent = all_picked state old.config.unknown (IsSent state.seen state.cmp members before place now (state.versions_in ds)) frames in_flight
 
       answered : (collecting : Bool) → member.runs ≡ true →
-          HasGoneThrough state (stepped member (if collecting then Ticked place now else Took place now source (state.versions_in ds) (sent_in state frames))).past (state.kept new) →
-          IsPossible state.seen state.cmp members before (if collecting then Ticked place now else Took place now source (state.versions_in ds) (sent_in state frames))
+          HasGoneThrough state (stepped member (if collecting then Ticked place now else Took place now source (state.versions_in ds) (sent_in state old.config.unknown frames))).past (state.kept new) →
+          IsPossible state.seen state.cmp members before (if collecting then Ticked place now else Took place now source (state.versions_in ds) (sent_in state old.config.unknown frames))
       answered true runs goes = acts runs step.accepted.forward
       answered false runs goes = record {
         acts = acts runs step.accepted.forward;
@@ -147,14 +152,14 @@ module _ {K X : Type 0} {state : StateOf K X} (facts : IsStateOf state) (members
       }
 
     possible : (answer : Result Outcome StepError) → (counts answer ≡ true → member.runs ≡ true) → IsStep old event now answer new → AreInFlight answer frames →
-        IfOk answer (λ outcome. AreValues event outcome new) → IsPossible state.seen state.cmp members before (event_step state place now source event answer frames)
+        IfOk answer (λ outcome. AreValues old.config.unknown event outcome new) → IsPossible state.seen state.cmp members before (event_step state old.config.unknown place now source event answer frames)
     possible (Ok outcome) runs step flying are =
         answered outcome step flying are (collects event) (runs refl)
         (members_go_on facts member place now source old new event (Ok outcome) frames gone step)
     possible (Err (Memory taken)) runs step flying are = record {
       acts = acts (runs refl) step.refused.0;
-      from = stopped_from event source taken from;
-      sent = All-nil (IsSent state.seen state.cmp members before place now (state.versions_in (take taken (brought event))));
+      from = stopped_from old.config.unknown event source taken from;
+      sent = All-nil (IsSent state.seen state.cmp members before place now (state.versions_in (take taken (brought old.config.unknown event))));
     }
     possible (Err (MomentBack last)) runs step flying are =
         let same = sym gone.last ∙ facts.last old in
@@ -164,5 +169,5 @@ module _ {K X : Type 0} {state : StateOf K X} (facts : IsStateOf state) (members
     possible (Err (FrameFault fault)) runs step flying are = tt
 
 pub steps_are_possible : {K X : Type 0} {state : StateOf K X} → IsStateOf state → StepsArePossible state
-steps_are_possible facts = λ members place now before source old new event answer frames runs gone step from flying are.
-    possible facts members before now place source old new event frames gone from answer runs step flying are
+steps_are_possible facts = λ members place now before source old new event answer frames runs gone step from whole flying are.
+    possible facts members before now place source old new event frames gone from whole answer runs step flying are

@@ -12,12 +12,12 @@ use Rattle.am_silence.specs.Matchers.{writes_matcher}
 use Rattle.am_silence.specs.declared.matcher.MatcherKind.TheVariants as kinds
 use Rattle.am_silence.specs.declared.silence.Silence.{Silence}
 use Rattle.am_silence.specs.Silences.{writes_silence}
-use Rattle.am_silence.specs.Mesh.{Mesh, writes_mesh_silence}
+use Rattle.am_silence.specs.Mesh.{plain_version, writes_mesh_silence}
 use Rattle.am_nflog.specs.declared.receiver.Receiver.{Receiver}
 use Rattle.am_nflog.specs.declared.entry.Entry.{Entry}
 use Rattle.am_nflog.specs.Receivers.{writes_receiver}
 use Rattle.am_nflog.specs.Entries.{writes_entry}
-use Rattle.am_nflog.specs.Mesh.{Mesh as LogMesh, writes_mesh_entry}
+use Rattle.am_nflog.specs.Mesh.{plain_version as plain_entry, writes_mesh_entry}
 use Rattle.am_nflog.specs.Made.{made_entry}
 use Rattle.am_schedule.specs.declared.step.SilenceLine.{SilenceLine}
 use Rattle.am_schedule.specs.declared.step.LogLine.{LogLine}
@@ -88,16 +88,24 @@ unfolding writes_silence
 silence_size s m matchers =
     omega (arith, length-append {A = ℕ}, text_size 1 s.id, matchers, part_moment_size 3 s.starts_at, part_moment_size 4 s.ends_at, part_moment_size 5 s.updated_at, text_size 8 s.created_by, text_size 9 s.comment)
 
-mesh_silence_size : (m : Mesh) → length (writes_mesh_silence m) ≤ 80 + length (writes_silence m.silence)
+mesh_silence_size : (s : Silence) (expires_at : ℕ) → length (writes_mesh_silence (plain_version s expires_at)) ≤ 80 + length (writes_silence s)
 unfolding writes_mesh_silence
-mesh_silence_size m =
-    omega (arith, length-append (writes_delimited 1 (writes_silence m.silence)) (writes_delimited 2 (writes_moment m.expires_at)), delimited_size 1 (writes_silence m.silence), part_moment_size 2 m.expires_at)
+mesh_silence_size s expires_at =
+    let text = writes_silence s ++ [] in
+    omega (
+      arith,
+      length-append (writes_silence s) [],
+      length-append (writes_delimited 1 text ++ writes_delimited 2 (writes_moment expires_at)) [],
+      length-append (writes_delimited 1 text) (writes_delimited 2 (writes_moment expires_at)),
+      delimited_size 1 text,
+      part_moment_size 2 expires_at,
+    )
 
 -- a line of short words
 pub silence_fits : (line : SilenceLine) → length line.id ≤ 1024 → length line.name ≤ 1024 → length line.value ≤ 1024 → length (writes_mesh_silence (silence_of line)) ≤ most
 silence_fits line id name value =
     let v = silence_of line in
-    omega (arith, mesh_silence_size v, silence_size v.silence (80 + (length line.name + length line.value)) (one_matcher line.name line.value), id, name, value)
+    omega (arith, mesh_silence_size v.silence v.expires_at, silence_size v.silence (80 + (length line.name + length line.value)) (one_matcher line.name line.value), id, name, value)
 
 -- ---- entries
 receiver_size : (r : Receiver) → length (writes_receiver r) ≤ 60 + (length r.group_name + length r.integration)
@@ -120,17 +128,25 @@ entry_size e =
       numbers_size 7 e.resolved_alerts,
     )
 
-mesh_entry_size : (m : LogMesh) → length (writes_mesh_entry m) ≤ 80 + length (writes_entry m.entry)
+mesh_entry_size : (e : Entry) (expires_at : ℕ) → length (writes_mesh_entry (plain_entry e expires_at)) ≤ 80 + length (writes_entry e)
 unfolding writes_mesh_entry
-mesh_entry_size m =
-    omega (arith, length-append (writes_delimited 1 (writes_entry m.entry)) (writes_delimited 2 (writes_moment m.expires_at)), delimited_size 1 (writes_entry m.entry), part_moment_size 2 m.expires_at)
+mesh_entry_size e expires_at =
+    let text = writes_entry e ++ [] in
+    omega (
+      arith,
+      length-append (writes_entry e) [],
+      length-append (writes_delimited 1 text ++ writes_delimited 2 (writes_moment expires_at)) [],
+      length-append (writes_delimited 1 text) (writes_delimited 2 (writes_moment expires_at)),
+      delimited_size 1 text,
+      part_moment_size 2 expires_at,
+    )
 
 -- a line of short words and lists
 pub entry_fits : (line : LogLine) → length line.group ≤ 1024 → length line.receiver ≤ 1024 → length line.firing ≤ 512 → length line.resolved ≤ 512
     → length (writes_mesh_entry (entry_of line)) ≤ most
 entry_fits line group receiver firing resolved =
     let e = entry_of line in
-    omega (arith, mesh_entry_size e, entry_size e.entry, group, receiver, firing, resolved)
+    omega (arith, mesh_entry_size e.entry e.expires_at, entry_size e.entry, group, receiver, firing, resolved)
 
 -- the entry that a notification leaves, whenever that is
 pub entry_made_fits : (group_key : List ℕ) (receiver : Receiver) (firing resolved : List ℕ) (repeat retention now : ℕ) → length group_key ≤ 1024
@@ -139,4 +155,4 @@ pub entry_made_fits : (group_key : List ℕ) (receiver : Receiver) (firing resol
 entry_made_fits group_key receiver firing resolved repeat retention now group name none few others =
     let m = made_entry group_key receiver firing resolved repeat retention now in
     let empty : length receiver.integration ≡ 0 = ap (λ (l : List ℕ). length l) none in
-    omega (arith, mesh_entry_size m, entry_size m.entry, group, name, empty, few, others)
+    omega (arith, mesh_entry_size m.entry m.expires_at, entry_size m.entry, group, name, empty, few, others)

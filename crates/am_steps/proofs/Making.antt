@@ -10,7 +10,7 @@ use Rattle.am_silence.specs.declared.error.SilenceError.{SilenceError}
 use Rattle.am_silence.specs.declared.error.SilenceError.TheVariants as errors
 use Rattle.am_silence.specs.declared.plan.Plan.TheVariants as plans
 use Rattle.am_silence.specs.States.{has_expired, is_expired, state_of}
-use Rattle.am_silence.specs.Plans.{Post, ended_in, ended_of, ended_version, held_silence, may_update, new_plan, new_version, plan_over, planned, post_of, updated_version, versions}
+use Rattle.am_silence.specs.Plans.{Post, ended_in, ended_of, ended_version, held_version, may_update, new_plan, new_version, plan_over, planned, post_of, updated_version, versions}
 use Rattle.am_silence.specs.Refusals.{◌when◌, ◌before◌, early_end_refusal, end_refusal, newer_refusal, size_refusal}
 use Rattle.am_nflog.specs.Mesh.{Mesh as LogMesh, mesh_version as entry_version}
 use Rattle.am_instance.specs.declared.event.Event.{Event}
@@ -58,24 +58,24 @@ ended_now states.Active held now not_expired = refl
 ended_now states.Pending held now not_expired = refl
 ended_now states.Expired held now not_expired = absurd cc
 
-new_plan_now : (held : Silence) (p : Post) (expired : Bool) → has_expired held p.now ≡ expired →
+new_plan_now : (held : Mesh) (p : Post) (expired : Bool) → has_expired held.silence p.now ≡ expired →
     All (IsNow p.now) (versions (if expired then plans.Create (new_version p) else plans.Replace (new_version p) (ended_version held p.now p.retention)))
 new_plan_now held p true is = one_now p.now (new_version p) refl
 new_plan_now held p false is =
     All-cons (IsNow p.now) (new_version p) (ended_version held p.now p.retention ∷ []) refl
-    (one_now p.now (ended_version held p.now p.retention) (ended_now (state_of held p.now) held p.now is))
+    (one_now p.now (ended_version held p.now p.retention) (ended_now (state_of held.silence p.now) held.silence p.now is))
 
-plan_now_by : (held : Silence) (p : Post) (updates : Bool) → All (IsNow p.now) (versions (if updates then plans.Update (updated_version held p) else new_plan (Some held) p))
+plan_now_by : (held : Mesh) (p : Post) (updates : Bool) → All (IsNow p.now) (versions (if updates then plans.Update (updated_version held p) else new_plan (Some held) p))
 plan_now_by held p true = one_now p.now (updated_version held p) refl
-plan_now_by held p false = new_plan_now held p (has_expired held p.now) refl
+plan_now_by held p false = new_plan_now held p (has_expired held.silence p.now) refl
 
-plan_now : (held : Option Silence) (p : Post) → All (IsNow p.now) (versions (plan_over held p))
+plan_now : (held : Option Mesh) (p : Post) → All (IsNow p.now) (versions (plan_over held p))
 plan_now None p = one_now p.now (new_version p) refl
-plan_now (Some held) p = plan_now_by held p (may_update held p.posted p.now)
+plan_now (Some held) p = plan_now_by held p (may_update held.silence p.posted p.now)
 
 planned_now : (held : Option Mesh) (p : Post) → All (IsNow p.now) (versions (planned held p))
 unfolding planned
-planned_now held p = plan_now (held_silence held p.posted) p
+planned_now held p = plan_now (held_version held p.posted) p
 
 -- ---- ends
 not_refused : (expired : Bool) (newer size : Option SilenceError) → ((errors.AlreadyExpired when expired before newer) before size) ≡ None → expired ≡ false
@@ -86,9 +86,9 @@ ended_of_now : (held : Option Mesh) (now retention : ℕ) → end_refusal held n
 unfolding end_refusal early_end_refusal
 ended_of_now None now retention passed = All-nil (IsNow now)
 ended_of_now (Some held) now retention passed =
-    one_now now (ended_version held.silence now retention)
+    one_now now (ended_version held now retention)
     (ended_now (state_of held.silence now) held.silence now
-    (not_refused (has_expired held.silence now) (newer_refusal held.silence now) (size_refusal (ended_version held.silence now retention ∷ [])) passed))
+    (not_refused (has_expired held.silence now) (newer_refusal held.silence now) (size_refusal (ended_version held now retention ∷ [])) passed))
 
 -- ---- replies
 refused_or : (now : ℕ) (refusal : Option SilenceError) (Done : Reply → Made → Type 0) (reply : Reply) (made : Made) →

@@ -4,6 +4,10 @@ use Rattle.std.specs.Prelude.{All, None, Ok, nat_lt, ◌&&◌}
 use Rattle.std.specs.List.{range_with_len}
 use Rattle.std.proofs.lemmas.Bool.{lt-ltb}
 use Rattle.std.proofs.lemmas.List.Elements.{All-nil, All-cons, All-head, All-tail, All-append, All-filter, filter_passes}
+use Rattle.am_wire.specs.declared.unknown.Unknown.{Unknown}
+use Rattle.am_wire.specs.Unknown.{StaysWhole}
+use Rattle.am_silence.specs.Mesh.{without_unknown}
+use Rattle.am_nflog.specs.Mesh.{without_unknown as entry_without_unknown}
 use Rattle.am_gossip.specs.declared.frame.Frame.{Frame}
 use Rattle.am_gossip.specs.declared.frame.Frame.TheVariants as frames
 use Rattle.am_instance.specs.declared.event.Event.{Event}
@@ -11,11 +15,12 @@ use Rattle.am_instance.specs.declared.event.Event.TheVariants as events
 use Rattle.am_instance.specs.declared.reply.Outcome.{Outcome}
 use Rattle.am_instance.specs.Changes.{changed_of}
 use Rattle.am_instance.specs.Configs.{Settings, is_other, is_peer, peers_but}
-use Rattle.am_instance.specs.Deliveries.{Delivery, first_fault, parts_of, rows_in}
+use Rattle.am_instance.specs.Deliveries.{Delivery, IsWhole, first_fault, parts_of, rows_in}
 use Rattle.am_instance.specs.OneStep.{IsStep}
 use Rattle.am_instance.specs.Sendings.{Sends, addressed, delta_of, deltas_to, nothing_sent, sent_by, whole_state}
-use Rattle.am_instance.specs.InstanceStates.{InstanceState, entry_at, silence_at}
+use Rattle.am_instance.specs.InstanceStates.{InstanceState, HoldsWhole, entry_at, silence_at}
 use Rattle.am_instance.specs.Steps.{collects, delivers, knows_peer, last_wanted, made_here, origin, peer_of}
+use Rattle.am_instance.proofs.Whole.{delivered_whole}
 use Rattle.am_steps.specs.Contents.{IsValue}
 use Rattle.am_steps.proofs.RoundTrip.{delta_readable, delta_rows, whole_readable, whole_sound}
 use Rattle.am_steps.specs.Recorded.{AreValues}
@@ -23,27 +28,42 @@ use Rattle.am_steps.proofs.Making.{frame_makes_nothing}
 use Rattle.am_steps.proofs.Sendings.{Delta_holds, IfFits, all_deltas, all_sent, changed_values, last_holds}
 
 -- ---- no row is at fault
-abbrev IsSound : ℕ × Frame → Type 0
-IsSound frame = first_fault (rows_in (parts_of frame.1)) ≡ None
+abbrev IsSound : Unknown → ℕ × Frame → Type 0
+IsSound unknown frame = first_fault (rows_in unknown (parts_of frame.1)) ≡ None
 
-deltas_sound : (ds : List Delivery) → All IsValue ds → All (Delta_holds IsSound) ds
-deltas_sound [] values = All-nil (Delta_holds IsSound)
-deltas_sound (d ∷ ds) values =
-    All-cons (Delta_holds IsSound) d ds (λ place fitting. ap first_fault (delta_rows d (delta_readable d (All-head IsValue d ds values) fitting)))
-    (deltas_sound ds (All-tail IsValue d ds values))
+deltas_sound : (unknown : Unknown) (ds : List Delivery) → All IsValue ds → All (IsWhole unknown) ds → All (Delta_holds (IsSound unknown)) ds
+deltas_sound unknown [] values whole = All-nil (Delta_holds (IsSound unknown))
+deltas_sound unknown (d ∷ ds) values whole =
+    All-cons (Delta_holds (IsSound unknown)) d ds
+    (λ place fitting. ap first_fault (delta_rows unknown d (delta_readable unknown d (All-head IsValue d ds values) (All-head (IsWhole unknown) d ds whole) fitting)))
+    (deltas_sound unknown ds (All-tail IsValue d ds values) (All-tail (IsWhole unknown) d ds whole))
 
-pub all_sound : (old new : InstanceState) (event : Event) (now : ℕ) (outcome : Outcome) → IsStep old event now (Ok outcome) new → AreValues event outcome new → All IsSound outcome.frames.items
-all_sound old new event now outcome step are =
+-- what a step leaves is whole by the mode that it began with
+pub left_whole : (old new : InstanceState) → new.config ≡ old.config → HoldsWhole new →
+    All (StaysWhole without_unknown old.config.unknown) new.silences × All (StaysWhole entry_without_unknown old.config.unknown) new.log
+left_whole old new same whole = (
+  subst (λ (config : Settings). All (StaysWhole without_unknown config.unknown) new.silences) same whole.silences,
+  subst (λ (config : Settings). All (StaysWhole entry_without_unknown config.unknown) new.log) same whole.log,
+)
+
+pub all_sound : (old new : InstanceState) (event : Event) (now : ℕ) (outcome : Outcome) → IsStep old event now (Ok outcome) new → AreValues old.config.unknown event outcome new → HoldsWhole old →
+    All (IsSound old.config.unknown) outcome.frames.items
+all_sound old new event now outcome step are whole =
+    let unknown : Unknown = old.config.unknown in
+    let left = left_whole old new step.config (step.kept whole) in
     let places : List ℕ = peers_but old.config (origin old.config event) in
-    let changing : List Delivery = changed_of now (silence_at old.silences) (entry_at old.log) (delivers event outcome.made) in
-    let values : All IsValue changing = changed_values now (silence_at old.silences) (entry_at old.log) (delivers event outcome.made) are.delivered in
-    all_sent IsSound (deltas_to places changing ++ last_wanted event new) nothing_sent (sent_by outcome)
-    (All-append (IfFits IsSound) (deltas_to places changing) (last_wanted event new)
-    (all_deltas IsSound places changing (deltas_sound changing values))
-    (last_holds IsSound event new
-    (λ place fitting. let both = whole_readable new.silences new.log are.silences are.log fitting in whole_sound new.silences new.log both.0 both.1)
-    (λ place fitting. let both = whole_readable new.silences new.log are.silences are.log fitting in whole_sound new.silences new.log both.0 both.1)))
-    (All-nil IsSound) step.sent
+    let ds : List Delivery = delivers unknown event outcome.made in
+    let changing : List Delivery = changed_of now (silence_at old.silences) (entry_at old.log) ds in
+    let values : All IsValue changing = changed_values IsValue now (silence_at old.silences) (entry_at old.log) ds are.delivered in
+    let all_whole : All (IsWhole unknown) changing =
+    changed_values (IsWhole unknown) now (silence_at old.silences) (entry_at old.log) ds (delivered_whole unknown old event now outcome.reply outcome.made whole.silences step.reply) in
+    all_sent (IsSound unknown) (deltas_to places changing ++ last_wanted event new) nothing_sent (sent_by outcome)
+    (All-append (IfFits (IsSound unknown)) (deltas_to places changing) (last_wanted event new)
+    (all_deltas (IsSound unknown) places changing (deltas_sound unknown changing values all_whole))
+    (last_holds (IsSound unknown) event new
+    (λ place fitting. let both = whole_readable unknown new.silences new.log are.silences are.log left.0 left.1 fitting in whole_sound unknown new.silences new.log both.0 both.1)
+    (λ place fitting. let both = whole_readable unknown new.silences new.log are.silences are.log left.0 left.1 fitting in whole_sound unknown new.silences new.log both.0 both.1)))
+    (All-nil (IsSound unknown)) step.sent
 
 -- ---- each goes to a peer
 both_hold : (one two three : Bool) → one ≡ true → (two && three) ≡ true → (one && two) ≡ true
@@ -103,7 +123,7 @@ module _ (config : Settings) where
 pub all_addressed : (old new : InstanceState) (event : Event) (now : ℕ) (outcome : Outcome) → IsStep old event now (Ok outcome) new → All (GoesToPeer old.config) outcome.frames.items
 all_addressed old new event now outcome step =
     let places : List ℕ = peers_but old.config (origin old.config event) in
-    let changing : List Delivery = changed_of now (silence_at old.silences) (entry_at old.log) (delivers event outcome.made) in
+    let changing : List Delivery = changed_of now (silence_at old.silences) (entry_at old.log) (delivers old.config.unknown event outcome.made) in
     all_sent (GoesToPeer old.config) (deltas_to places changing ++ last_wanted event new) nothing_sent (sent_by outcome)
     (All-append (IfFits (GoesToPeer old.config)) (deltas_to places changing) (last_wanted event new)
     (deltas_addressed old.config places changing (are_peers old.config (origin old.config event)))

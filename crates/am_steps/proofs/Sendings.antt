@@ -2,15 +2,17 @@
 use Rattle.std.proofs.Common.{◌≡◌, ◌⊎◌, inl, inr, ℕ, List, [], ◌∷◌, ◌++◌, Bool, true, false, refl, sym, subst}
 use Rattle.std.specs.Prelude.{All, Contains, Option, slice_index_or}
 use Rattle.std.proofs.lemmas.List.Elements.{All-nil, All-cons, All-head, All-tail, All-append, All-contains_itself, Contains-append_left, Contains-append_right}
-use Rattle.am_silence.specs.Mesh.{Mesh, IsMesh, mesh_version}
-use Rattle.am_nflog.specs.Mesh.{Mesh as LogMesh, IsMesh as IsLogMesh, mesh_version as entry_version}
+use Rattle.am_wire.specs.declared.unknown.Unknown.{Unknown}
+use Rattle.am_wire.specs.Unknown.{StaysWhole}
+use Rattle.am_silence.specs.Mesh.{Mesh, IsMesh, mesh_version, without_unknown}
+use Rattle.am_nflog.specs.Mesh.{Mesh as LogMesh, IsMesh as IsLogMesh, mesh_version as entry_version, without_unknown as entry_without_unknown}
 use Rattle.am_nflog.specs.LogKeys.{LogKey}
 use Rattle.am_gossip.specs.declared.frame.Frame.{Frame}
 use Rattle.am_gossip.specs.declared.frame.Frame.TheVariants as frames
 use Rattle.am_gossip.specs.Frames.{fits}
 use Rattle.am_instance.specs.declared.event.Event.{Event}
 use Rattle.am_instance.specs.declared.event.Event.TheVariants as events
-use Rattle.am_instance.specs.Deliveries.{Delivery}
+use Rattle.am_instance.specs.Deliveries.{Delivery, IsWhole}
 use Rattle.am_instance.specs.Deliveries.Delivery.{OfSilence, OfEntry}
 use Rattle.am_instance.specs.Changes.{changes, changed_of, only_if}
 use Rattle.am_instance.specs.Sendings.{IsSent, Sends, Sent, addressed, delta_of, deltas_to, one_more, whole_state}
@@ -82,19 +84,19 @@ module _ (P : ℕ × Frame → Type 0) where
   last_holds events.Tick new pull push = All-nil IfFits
   last_holds (events.PullFrom place) new pull push = one_wanted place (frames.Push (whole_state new.silences new.log)) (push place)
 
--- ---- values among those that change a map
-values_only : (test : Bool) (d : Delivery) (ds : List Delivery) → IsValue d → All IsValue ds → All IsValue (only_if test d ++ ds)
-values_only true d ds is are = All-cons IsValue d ds is are
-values_only false d ds is are = are
+-- ---- what holds of all versions holds of those that change a map
+values_only : (P : Delivery → Type 0) (test : Bool) (d : Delivery) (ds : List Delivery) → P d → All P ds → All P (only_if test d ++ ds)
+values_only P true d ds is are = All-cons P d ds is are
+values_only P false d ds is are = are
 
-pub changed_values : (now : ℕ) (silences : List ℕ → Option Mesh) (log : LogKey → Option LogMesh) (ds : List Delivery) → All IsValue ds → All IsValue (changed_of now silences log ds)
-changed_values now silences log [] are = All-nil IsValue
-changed_values now silences log (OfSilence v ∷ ds) are =
-    values_only (changes mesh_version now silences v) (OfSilence v) _ (All-head IsValue (OfSilence v) ds are)
-    (changed_values now (after mesh_version (slice_cmp nat_cmp) silences (Delivered v) now) log ds (All-tail IsValue (OfSilence v) ds are))
-changed_values now silences log (OfEntry e ∷ ds) are =
-    values_only (changes entry_version now log e) (OfEntry e) _ (All-head IsValue (OfEntry e) ds are)
-    (changed_values now silences (after entry_version key_cmp log (Delivered e) now) ds (All-tail IsValue (OfEntry e) ds are))
+pub changed_values : (P : Delivery → Type 0) (now : ℕ) (silences : List ℕ → Option Mesh) (log : LogKey → Option LogMesh) (ds : List Delivery) → All P ds → All P (changed_of now silences log ds)
+changed_values P now silences log [] are = All-nil P
+changed_values P now silences log (OfSilence v ∷ ds) are =
+    values_only P (changes mesh_version now silences v) (OfSilence v) _ (All-head P (OfSilence v) ds are)
+    (changed_values P now (after mesh_version (slice_cmp nat_cmp) silences (Delivered v) now) log ds (All-tail P (OfSilence v) ds are))
+changed_values P now silences log (OfEntry e ∷ ds) are =
+    values_only P (changes entry_version now log e) (OfEntry e) _ (All-head P (OfEntry e) ds are)
+    (changed_values P now silences (after entry_version key_cmp log (Delivered e) now) ds (All-tail P (OfEntry e) ds are))
 
 -- ---- of one state
 module _ {K X : Type 0} {state : StateOf K X} (facts : IsStateOf state) where
@@ -113,38 +115,39 @@ module _ {K X : Type 0} {state : StateOf K X} (facts : IsStateOf state) where
       (Contains-append_right (state.versions_in (d ∷ [])) (state.versions_in ds) _ (each_picked ds k e within j x inside)))
 
   -- each version in a frame is among those that changed the map, or is held
-  module _ (Held : X → Type 0) (cs : List Delivery) (changed : List X) (same : state.versions_in cs ≡ changed) where
+  module _ (unknown : Unknown) (Held : X → Type 0) (cs : List Delivery) (changed : List X) (same : state.versions_in cs ≡ changed) where
     abbrev pub IsKnown : X → Type 0
     IsKnown v = Contains changed v ⊎ Held v
 
     abbrev pub AreKnown : ℕ × Frame → Type 0
-    AreKnown frame = All IsKnown (state.versions_in (carries frame.1))
+    AreKnown frame = All IsKnown (state.versions_in (carries unknown frame.1))
 
-    delta_known : (d : Delivery) → IsValue d → IsPickedOf cs d → Delta_holds AreKnown d
-    delta_known d value among place fitting =
-        subst (λ (ds : List Delivery). All IsKnown (state.versions_in ds)) (sym (delta_carries d (delta_readable d value fitting)))
+    delta_known : (d : Delivery) → IsValue d → IsWhole unknown d → IsPickedOf cs d → Delta_holds AreKnown d
+    delta_known d value whole among place fitting =
+        subst (λ (ds : List Delivery). All IsKnown (state.versions_in ds)) (sym (delta_carries unknown d (delta_readable unknown d value whole fitting)))
         (λ k x within. inl (subst (λ (xs : List X). Contains xs (slice_index_or (state.versions_in (d ∷ [])) k x)) same (among k x within)))
 
-    pub deltas_known : All IsValue cs → All (Delta_holds AreKnown) cs
-    deltas_known values k d within = delta_known _ (values k d within) (each_picked cs k d within)
+    pub deltas_known : All IsValue cs → All (IsWhole unknown) cs → All (Delta_holds AreKnown) cs
+    deltas_known values whole k d within = delta_known _ (values k d within) (whole k d within) (each_picked cs k d within)
 
-    module _ (new : InstanceState) (held : List X) (parted : state.versions_in (held_in new.silences new.log) ≡ held) (all_held : All Held held) (is : All IsMesh new.silences) (are : All IsLogMesh new.log) where
+    module _ (new : InstanceState) (held : List X) (parted : state.versions_in (held_in new.silences new.log) ≡ held) (all_held : All Held held) (is : All IsMesh new.silences) (are : All IsLogMesh new.log)
+        (silences_whole : All (StaysWhole without_unknown unknown) new.silences) (log_whole : All (StaysWhole entry_without_unknown unknown) new.log) where
       all_known : All IsKnown (state.versions_in (held_in new.silences new.log))
       all_known = subst (All IsKnown) (sym parted) (λ k x within. inr (all_held k x within))
 
       pub pull_known : (place : ℕ) → fits (frames.Pull (whole_state new.silences new.log)) ≡ true → AreKnown (place, frames.Pull (whole_state new.silences new.log))
       pull_known place fitting =
-          let both = whole_readable new.silences new.log is are fitting in
-          subst (λ (ds : List Delivery). All IsKnown (state.versions_in ds)) (sym (whole_carries new.silences new.log both.0 both.1)) all_known
+          let both = whole_readable unknown new.silences new.log is are silences_whole log_whole fitting in
+          subst (λ (ds : List Delivery). All IsKnown (state.versions_in ds)) (sym (whole_carries unknown new.silences new.log both.0 both.1)) all_known
 
       pub push_known : (place : ℕ) → fits (frames.Push (whole_state new.silences new.log)) ≡ true → AreKnown (place, frames.Push (whole_state new.silences new.log))
       push_known place fitting =
-          let both = whole_readable new.silences new.log is are fitting in
-          subst (λ (ds : List Delivery). All IsKnown (state.versions_in ds)) (sym (whole_carries new.silences new.log both.0 both.1)) all_known
+          let both = whole_readable unknown new.silences new.log is are silences_whole log_whole fitting in
+          subst (λ (ds : List Delivery). All IsKnown (state.versions_in ds)) (sym (whole_carries unknown new.silences new.log both.0 both.1)) all_known
 
 -- said of the lists of versions
-pub all_picked : {K X : Type 0} (state : StateOf K X) (P : List X → Type 0) (fs : List (ℕ × Frame)) → All (λ frame. P (state.versions_in (carries frame.1))) fs → All P (sent_in state fs)
-all_picked state P [] all = All-nil P
-all_picked state P (f ∷ fs) all =
-    let Q : ℕ × Frame → Type 0 = λ frame. P (state.versions_in (carries frame.1)) in
-    All-cons P (state.versions_in (carries f.1)) (sent_in state fs) (All-head Q f fs all) (all_picked state P fs (All-tail Q f fs all))
+pub all_picked : {K X : Type 0} (state : StateOf K X) (unknown : Unknown) (P : List X → Type 0) (fs : List (ℕ × Frame)) → All (λ frame. P (state.versions_in (carries unknown frame.1))) fs → All P (sent_in state unknown fs)
+all_picked state unknown P [] all = All-nil P
+all_picked state unknown P (f ∷ fs) all =
+    let Q : ℕ × Frame → Type 0 = λ frame. P (state.versions_in (carries unknown frame.1)) in
+    All-cons P (state.versions_in (carries unknown f.1)) (sent_in state unknown fs) (All-head Q f fs all) (all_picked state unknown P fs (All-tail Q f fs all))

@@ -58,7 +58,7 @@ pub record IsStateOf {K X : Type 0} (state : StateOf K X) : Type 0 where
       ≡ changed state.seen state.cmp now (at state.seen state.cmp (state.kept stand).held) (state.versions_in ds)
   pub made : (now : ℕ) (made : Made) → MadeNow now made → All (λ v. (state.seen v).updated ≡ now) (state.versions_in (made_here made))
   pub left : (old new : InstanceState) (event : Event) (now : ℕ) (answer : Result Outcome StepError) → IsStep old event now answer new →
-      IsLeftBy state.seen state.cmp (state.kept old) (step_events state.event_of event now answer) (state.kept new)
+      IsLeftBy state.seen state.cmp (state.kept old) (step_events state.event_of old.config.unknown event now answer) (state.kept new)
 
 -- a map has each of its versions at that version's key
 pub held_at : {K X : Type 0} {state : StateOf K X} → IsStateOf state → (stand : InstanceState) → HasMaps stand →

@@ -1,4 +1,4 @@
--- The two states of an instance, of which the same is said: its silences and its log.
+-- The two states of an instance, its silences and its log, which contracts treat alike.
 use Rattle.std.specs.Prelude.{ℕ, List}
 use Rattle.std.specs.declared.cmp.Ordering.{Ordering}
 use Rattle.std.specs.Ordering.{nat_cmp}
@@ -14,8 +14,8 @@ use Rattle.am_instance.specs.Deliveries.{Delivery, to_silences, to_log}
 use Rattle.am_instance.specs.InstanceStates.{InstanceState, kept_log, kept_silences}
 use Rattle.am_steps.specs.Contents.{entries_in, silences_in}
 
--- One of them, by the types K of its keys and X of its versions: what the merge sees of a version, how keys compare, what a
--- delivery is to its map, which of the versions of both states are its own, and what an instance keeps of it.
+-- A state with the types K of its keys and X of its versions: what the merge sees of a version, how keys compare, what a delivery
+-- is to its map, which of the versions of both states are its own, and what an instance keeps of it.
 pub record StateOf (K X : Type 0) : Type 0 where
   pub seen : X → Version K
   pub cmp : K → K → Ordering
@@ -23,7 +23,7 @@ pub record StateOf (K X : Type 0) : Type 0 where
   pub versions_in : List Delivery → List X
   pub kept : InstanceState → Kept X
 
--- the silences
+-- the state of the silences
 abbrev pub silence_state : StateOf (List ℕ) Mesh
 silence_state = record {
   seen = mesh_version;
@@ -33,7 +33,7 @@ silence_state = record {
   kept = kept_silences;
 }
 
--- the log
+-- the state of the log
 abbrev pub log_state : StateOf LogKey LogMesh
 log_state = record {
   seen = entry_version;

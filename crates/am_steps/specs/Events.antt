@@ -1,5 +1,6 @@
--- What the lines of a schedule ask of a member.
+-- The steps that the lines of a schedule ask of a member.
 use Rattle.std.specs.Prelude.{◌≡◌, ◌≤◌, ℕ, Bool, List, [], map, All, Option, Some, None}
+use Rattle.am_wire.specs.declared.unknown.Unknown.{Unknown}
 use Rattle.am_silence.specs.declared.plan.Posted.{Posted}
 use Rattle.am_matcher.specs.declared.labels.Label.{Label}
 use Rattle.am_gossip.specs.declared.frame.Frame.TheVariants as frames
@@ -24,16 +25,16 @@ use Rattle.am_steps.specs.Versions.{wants, receiver_of, versions_of, part_of, up
 abbrev pub made : Event → Asked
 made event = asked.Event event sources.Made
 
--- a Delta of the versions comes from the member at a place
+-- the event of a Delta of the versions that comes from the member at a place
 abbrev pub delta_from : ℕ → Versions → Event
 delta_from sender versions = events.Frame sender (frames.Delta (part_of versions))
 
--- it counts as sent at the least update moment of the versions
+-- the step of that event, which counts as sent at the least update moment of the versions
 abbrev pub from : Option ℕ → Versions → Asked
 from None versions = asked.NoMember
 from (Some sender) versions = asked.Event (delta_from sender versions) (sources.Written (sent_at (versions_of versions)))
 
--- what is posted: one matcher, and no author or comment
+-- the post of a line: one matcher, and no author or comment
 abbrev pub posted : PostLine → Posted
 posted line = record {
   id = line.id;
@@ -44,24 +45,24 @@ posted line = record {
   comment = [];
 }
 
--- a group is notified
+-- the event that a group is notified
 abbrev pub notified : GroupLine → Event
 notified group = events.Notified group.group (receiver_of group.receiver) group.firing group.resolved group.repeat
 
--- whether a group is to be notified
+-- the event that asks whether a group is to be notified
 abbrev pub decide : GroupLine → Bool → Event
 decide group wanted = events.Decide group.group (receiver_of group.receiver) group.firing group.resolved group.repeat wanted
 
--- a pair of words of a line, as a label
+-- the label of a pair of words of a line
 abbrev pub label_of : Pair → Label
 label_of pair = record { name = pair.name; value = pair.value }
 
--- a Push goes to a peer, which answers with its own state
+-- the step that sends a Push to a peer, which answers with its own state
 abbrev pub pull : Option ℕ → Asked
 pull None = asked.NoMember
 pull (Some place) = made (events.PullFrom place)
 
--- what a line asks of a member with this configuration
+-- the step that a line asks of a member with this configuration
 abbrev pub asked_by : Settings → LineEvent → Asked
 asked_by config (lines.From peer versions) = from (place_named config peer) versions
 asked_by config (lines.Post line) = made (events.Request (requests.Post (posted line) line.bits))
@@ -79,7 +80,7 @@ abbrev pub brought_by : LineEvent → List Delivery
 brought_by (lines.From peer versions) = versions_of versions
 brought_by _ = []
 
--- an event has no fault of its own, whatever the instance and the moment
+-- the event has no fault of its own, whatever the instance and the moment
 abbrev pub IsFaultless : Event → Type 0
 IsFaultless event = (config : Settings) (now : ℕ) → fault_of config now event ≡ None
 
@@ -89,13 +90,13 @@ IsSound (asked.Event event source) = IsFaultless event
 IsSound asked.Start = Unit {0}
 IsSound asked.NoMember = Unit {0}
 
--- the event brings just these versions
+-- the step brings just these versions, whatever is done with unknown fields
 abbrev pub Brings : Asked → List Delivery → Type 0
-Brings (asked.Event event source) versions = brought event ≡ versions
+Brings (asked.Event event source) versions = (unknown : Unknown) → brought unknown event ≡ versions
 Brings asked.Start versions = Unit {0}
 Brings asked.NoMember versions = Unit {0}
 
--- what was written counts as sent when none of these versions was made yet, or just then
+-- a frame that was written counts as sent before any of these versions was made, or just when the first was
 abbrev pub IsSentBefore : Asked → List Delivery → Type 0
 IsSentBefore (asked.Event event (sources.Written sent)) versions = All (λ v. sent ≤ updated v) versions
 IsSentBefore _ versions = Unit {0}

@@ -1,4 +1,4 @@
--- What holds of all lines.
+-- Laws of all lines.
 use Rattle.std.specs.Prelude.{◌≡◌, ◌≤◌, ◌<◌, ℕ, List, length, All, Contains, Some, slice_get}
 use Rattle.am_version_order.specs.Moments.{greatest}
 use Rattle.am_instance.specs.Configs.{Settings, AreInOrder, place_named}
@@ -15,7 +15,7 @@ NamesAreFound =
 abbrev pub SentByThen : Type 0
 SentByThen = (versions : List Delivery) → All (λ v. sent_at versions ≤ updated v) versions
 
--- and one of the versions was updated just then
+-- one of the versions was updated just at this moment
 pub record IsUpdatedAt (versions : List Delivery) (at : ℕ) : Type 0 where
   pub version : Delivery
   pub among : Contains versions version

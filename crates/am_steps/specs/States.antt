@@ -3,7 +3,7 @@ use Rattle.std.specs.Prelude.{ℕ, List}
 use Rattle.am_silence.specs.Mesh.{Mesh}
 use Rattle.am_nflog.specs.Mesh.{Mesh as LogMesh}
 
--- the versions of each state, in their order, and for how many more versions there is room, whichever their state
+-- the versions of each state, in their order, and the number of further versions for which there is room, whichever their state
 pub record Sorted : Type 0 where
   pub silences : List Mesh
   pub log : List LogMesh

@@ -1,5 +1,6 @@
--- What holds of the steps of instances as steps of a run, for one of the states.
+-- Laws of the steps of instances as steps of a run, for one of the states.
 use Rattle.std.specs.Prelude.{◌≡◌, ◌≢◌, ◌++◌, [], ◌∷◌, List, ℕ, map, All, Some, true, IfOk, Result, slice_get}
+use Rattle.am_wire.specs.declared.unknown.Unknown.{Unknown}
 use Rattle.am_gossip.specs.declared.frame.Frame.{Frame}
 use Rattle.am_gossip.specs.declared.frame.Frame.TheVariants.{Pull}
 use Rattle.am_collect.specs.Kept.{Kept}
@@ -14,7 +15,7 @@ use Rattle.am_refusals.specs.declared.error.StepError.{StepError}
 use Rattle.am_instance.specs.declared.reply.Outcome.{Outcome}
 use Rattle.am_instance.specs.Deliveries.{Delivery}
 use Rattle.am_instance.specs.Deliveries.Delivery.{OfSilence, OfEntry}
-use Rattle.am_instance.specs.InstanceStates.{InstanceState}
+use Rattle.am_instance.specs.InstanceStates.{InstanceState, HoldsWhole}
 use Rattle.am_instance.specs.Steps.{counts}
 use Rattle.am_instance.specs.OneStep.{IsStep}
 use Rattle.am_instance.specs.Sendings.{whole_state}
@@ -30,23 +31,23 @@ module _ {K X : Type 0} (state : StateOf K X) where
       (m : Member X) (place now : ℕ) (source : Source) (old new : InstanceState) (event : Event) (answer : Result Outcome StepError)
       (frames : List (ℕ × Frame)) →
       HasGoneThrough state m.past (state.kept old) → IsStep old event now answer new →
-      HasGoneThrough state (stepped m (event_step state place now source event answer frames)).past (state.kept new)
+      HasGoneThrough state (stepped m (event_step state old.config.unknown place now source event answer frames)).past (state.kept new)
 
   -- a recorded step changes the member at its place
   abbrev pub OwnMemberChanges : Type 0
   OwnMemberChanges =
-      (members place now : ℕ) (source : Source) (before : List (RunStep X)) (event : Event) (answer : Result Outcome StepError)
+      (unknown : Unknown) (members place now : ℕ) (source : Source) (before : List (RunStep X)) (event : Event) (answer : Result Outcome StepError)
       (frames : List (ℕ × Frame)) →
-      let step = event_step state place now source event answer frames in
+      let step = event_step state unknown place now source event answer frames in
       member_of members place (before ++ step ∷ []) ≡ stepped (member_of members place before) step
 
-  -- and no other one
+  -- a recorded step changes no other member
   abbrev pub OthersStay : Type 0
   OthersStay =
-      (members place other now : ℕ) (source : Source) (before : List (RunStep X)) (event : Event) (answer : Result Outcome StepError)
+      (unknown : Unknown) (members place other now : ℕ) (source : Source) (before : List (RunStep X)) (event : Event) (answer : Result Outcome StepError)
       (frames : List (ℕ × Frame)) →
       place ≢ other →
-      member_of members other (before ++ event_step state place now source event answer frames ∷ []) ≡ member_of members other before
+      member_of members other (before ++ event_step state unknown place now source event answer frames ∷ []) ≡ member_of members other before
 
   -- a member that is started has the map that was saved of it, from the moment of the start
   abbrev pub StartsGoOn : Type 0
@@ -62,18 +63,18 @@ module _ {K X : Type 0} (state : StateOf K X) where
       let member = member_of members place before in
       (counts answer ≡ true → member.runs ≡ true) →
       HasGoneThrough state member.past (state.kept old) → IsStep old event now answer new →
-      HasSource state members before now event source →
-      AreInFlight answer frames → IfOk answer (λ outcome. AreValues event outcome new) →
-      IsPossible state.seen state.cmp members before (event_step state place now source event answer frames)
+      HasSource state old.config.unknown members before now event source →
+      HoldsWhole old → AreInFlight answer frames → IfOk answer (λ outcome. AreValues old.config.unknown event outcome new) →
+      IsPossible state.seen state.cmp members before (event_step state old.config.unknown place now source event answer frames)
 
-  -- what a Pull of the maps of a member that runs brings comes from that member
+  -- the versions that a Pull of the maps of a running member brings come from that member
   abbrev pub LentMapsAreItsLenders : Type 0
   LentMapsAreItsLenders =
-      (members lender now : ℕ) (before : List (RunStep X)) (lent : InstanceState) → (member_of members lender before).runs ≡ true →
+      (unknown : Unknown) (members lender now : ℕ) (before : List (RunStep X)) (lent : InstanceState) → (member_of members lender before).runs ≡ true →
       HasGoneThrough state (member_of members lender before).past (state.kept lent) → HasMaps lent →
-      All IsReadable (map OfSilence lent.silences) → All IsReadable (map OfEntry lent.log) →
+      All (IsReadable unknown) (map OfSilence lent.silences) → All (IsReadable unknown) (map OfEntry lent.log) →
       AreFrom state.seen state.cmp members before now (Lent lender)
-      (state.versions_in (carries (Pull (whole_state lent.silences lent.log))))
+      (state.versions_in (carries unknown (Pull (whole_state lent.silences lent.log))))
 
   -- the frames that a step left in flight are the flights that its recorded step adds
   abbrev pub FramesAreFlights : Type 0
@@ -81,15 +82,15 @@ module _ {K X : Type 0} (state : StateOf K X) where
       (place now : ℕ) (before : List (RunStep X)) (source : Source) (old new : InstanceState) (event : Event)
       (answer : Result Outcome StepError) (frames : List (ℕ × Frame)) →
       IsStep old event now answer new → AreInFlight answer frames →
-      flights_of (before ++ event_step state place now source event answer frames ∷ []) ≡ flights_of before ++ flights_in state now frames
+      flights_of (before ++ event_step state old.config.unknown place now source event answer frames ∷ []) ≡ flights_of before ++ flights_in state old.config.unknown now frames
 
   -- what a frame brings comes from its flight
   abbrev pub FramesComeFromFlights : Type 0
   FramesComeFromFlights =
-      (members now number sent : ℕ) (before : List (RunStep X)) (frame : Frame) →
-      slice_get (flights_of before) number ≡ Some (record { sent = sent; versions = state.versions_in (carries frame) }) →
-      AreFrom state.seen state.cmp members before now (Arrived number) (state.versions_in (carries frame))
+      (unknown : Unknown) (members now number sent : ℕ) (before : List (RunStep X)) (frame : Frame) →
+      slice_get (flights_of before) number ≡ Some (record { sent = sent; versions = state.versions_in (carries unknown frame) }) →
+      AreFrom state.seen state.cmp members before now (Arrived number) (state.versions_in (carries unknown frame))
 
-  -- of versions that come behind others, the state's own come behind theirs
+  -- if versions come behind others, the state's own come behind the state's own of the others
   abbrev pub VersionsStayInOrder : Type 0
   VersionsStayInOrder = (ds es : List Delivery) → state.versions_in (ds ++ es) ≡ state.versions_in ds ++ state.versions_in es

@@ -1,4 +1,4 @@
-//! What a line asks.
+//! The meaning of a line.
 
 ghost use Rattle.std.specs.Prelude.{◌≡◌};
 ghost use Rattle.am_steps.specs.Events.{made};
@@ -6,18 +6,18 @@ ghost use Rattle.am_steps.specs.Events.{made};
 use am_instance::Event;
 use am_runs::Source;
 
-/// What a line of a schedule asks of a member.
+/// The step that a line of a schedule asks of a member.
 #[derive(Drop)]
 pub enum Asked {
-    /// One step of its instance, and where the versions that the step delivers come from.
+    /// The member makes one step of its instance, with versions that come from the source.
     Event { event: Event, source: Source },
-    /// It starts from its last save.
+    /// The member starts from its last save.
     Start,
-    /// Nothing: no member has the name of the peer.
+    /// Nothing is asked: no member has the name of the peer.
     NoMember,
 }
 
-/// A step that brings no versions.
+/// Returns a step that brings no versions.
 pub(crate) fn made(event: Event) -> Asked
     ensures { result ≡ made event }
 {

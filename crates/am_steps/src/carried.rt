@@ -1,5 +1,5 @@
-//! The versions that a frame carries: how they are read, how they are parted by their state, and that a frame which was
-//! written of versions carries just these.
+//! The versions that a frame carries: how they are read and split by their state, and that a frame that was written of versions
+//! carries just these.
 
 pub mod laws;
 mod reading;

@@ -13,7 +13,7 @@ use am_matcher::{Label, Labels};
 use am_schedule::{LineEvent, Pair};
 use std::alloc::{AllocError, Global};
 
-/// The label of a pair.
+/// Converts a pair to a label.
 fn label_of(alloc: Global, pair: &Pair) -> Result<Label, AllocError>
     ensures { IfOk result (λ label. label ≡ label_of pair.now) }
 {
@@ -23,7 +23,7 @@ fn label_of(alloc: Global, pair: &Pair) -> Result<Label, AllocError>
     })
 }
 
-/// The labels of pairs.
+/// Converts pairs to labels.
 fn labels_of(alloc: Global, pairs: &[Pair]) -> Result<Labels, AllocError>
     ensures { IfOk result (λ labels. labels ≡ map label_of pairs.now) }
 {
@@ -34,7 +34,7 @@ fn labels_of(alloc: Global, pairs: &[Pair]) -> Result<Labels, AllocError>
     Ok(Labels::new(labels))
 }
 
-/// A Push goes to the member at a place.
+/// Returns the step that sends a Push to the member at a place.
 fn pull(place: Option<Place>) -> Asked
     ensures { result ≡ pull place }
 {
@@ -44,11 +44,11 @@ fn pull(place: Option<Place>) -> Asked
     }
 }
 
-/// What a line of a schedule asks of the member with this configuration.
+/// Returns what a line of a schedule asks of the member with this configuration.
 ///
 /// # Errors
 ///
-/// [`AllocError`] where memory runs out.
+/// [`AllocError`] if memory runs out.
 pub fn to_event(alloc: Global, config: &Config, event: &LineEvent) -> Result<Asked, AllocError>
     // PROMISE: A line of a schedule means exactly its event, or names no member.
     ensures asked { IfOk result (λ asked. asked ≡ asked_by config.now event.now) }

@@ -1,4 +1,4 @@
-//! Groups of alerts, as lines tell of them.
+//! The events of lines about groups of alerts.
 
 ghost use Rattle.std.specs.Prelude.{◌≡◌, IfOk};
 ghost use Rattle.am_steps.specs.Events.{IsFaultless, notified, decide};
@@ -8,7 +8,7 @@ use am_instance::Event;
 use am_schedule::GroupLine;
 use std::alloc::{AllocError, Global};
 
-/// A group is notified.
+/// Returns the event that a group is notified.
 pub(crate) fn notified(alloc: Global, group: &GroupLine) -> Result<Event, AllocError>
     ensures event { IfOk result (λ event. event ≡ notified group.now) }
     ensures sound { IfOk result IsFaultless }
@@ -22,7 +22,7 @@ pub(crate) fn notified(alloc: Global, group: &GroupLine) -> Result<Event, AllocE
     })
 }
 
-/// Whether a group is to be notified.
+/// Returns the event that asks whether a group is to be notified.
 pub(crate) fn decide(
     alloc: Global,
     group: &GroupLine,

@@ -1,6 +1,7 @@
-//! What holds of the steps of instances as steps of runs.
+//! Laws of the steps of instances as steps of runs.
 
 ghost use Rattle.std.specs.Prelude.{◌≡◌, ℕ, map, All, None, IfSome};
+ghost use Rattle.am_wire.specs.declared.unknown.Unknown.{Unknown};
 ghost use Rattle.am_silence.specs.Mesh.{IsMesh};
 ghost use Rattle.am_nflog.specs.Mesh.{IsMesh as IsLogMesh};
 ghost use Rattle.am_gossip.specs.declared.frame.Frame.TheVariants.{Pull};
@@ -19,13 +20,13 @@ ghost use Rattle.am_steps.specs.StepLaws.{OthersStay, OwnMemberChanges, StartsGo
 
 pub use crate::sent::{collecting_leaves_nothing_out, few_are_made, sent_frames_are_sound};
 
-/// A member's map goes on as its past does: after a step it is what the past with the recorded step leaves.
+/// States that a member's map goes on as its past does: after a step it is what the past with the recorded step leaves.
 pub fn members_go_on()
     ensures silences { MembersGoOn silence_state }
     ensures log { MembersGoOn log_state }
 {}
 
-/// A recorded step changes the member at its place, and no other one.
+/// States that a recorded step changes the member at its place, and no other one.
 pub fn only_the_member_changes()
     ensures silences { OwnMemberChanges silence_state }
     ensures log { OwnMemberChanges log_state }
@@ -33,42 +34,43 @@ pub fn only_the_member_changes()
     ensures other_logs { OthersStay log_state }
 {}
 
-/// A member that is started goes on with the map that was saved of it, from the moment of the start.
+/// States that a member that is started goes on with the map that was saved of it, from the moment of the start.
 pub fn starts_go_on()
     ensures silences { StartsGoOn silence_state }
     ensures log { StartsGoOn log_state }
 {}
 
-/// A step of an instance that is a member of a run can have happened in it.
+/// States that a step of an instance that is a member of a run can have happened in it.
 pub fn steps_are_possible()
     ensures silences { StepsArePossible silence_state }
     ensures log { StepsArePossible log_state }
 {}
 
-/// What a step brought and made are values, where each part is.
+/// States that what a step brought and made are values, if each part is.
 pub fn values_are_delivered()
-    ensures { (event : Event) (made : Made) → All IsValue (brought event) → All IsMesh made.silences.items → IfSome made.log IsLogMesh →
-        All IsValue (delivers event made) }
+    ensures { (unknown : Unknown) (event : Event) (made : Made) → All IsValue (brought unknown event) → All IsMesh made.silences.items → IfSome made.log IsLogMesh →
+        All IsValue (delivers unknown event made) }
 {}
 
-/// A Pull of the maps of a member that runs brings them whole, without a fault, and they come from that member.
+/// States that a Pull of the maps of a running member brings them whole, without a fault, and that they come from that member.
 pub fn lent_maps_come_from_their_lender()
     ensures silences { LentMapsAreItsLenders silence_state }
     ensures log { LentMapsAreItsLenders log_state }
-    ensures sound { (config : Settings) (sender now : ℕ) (lent : InstanceState) → All IsReadable (map OfSilence lent.silences) →
-        All IsReadable (map OfEntry lent.log) →
+    ensures sound { (config : Settings) (sender now : ℕ) (lent : InstanceState) → All (IsReadable config.unknown) (map OfSilence lent.silences) →
+        All (IsReadable config.unknown) (map OfEntry lent.log) →
         fault_of config now (events.Frame sender (Pull (whole_state lent.silences lent.log))) ≡ None }
-    ensures whole { (sender : ℕ) (lent : InstanceState) → All IsReadable (map OfSilence lent.silences) → All IsReadable (map OfEntry lent.log) →
-        brought (events.Frame sender (Pull (whole_state lent.silences lent.log))) ≡ held_in lent.silences lent.log }
+    ensures whole { (unknown : Unknown) (sender : ℕ) (lent : InstanceState) → All (IsReadable unknown) (map OfSilence lent.silences) →
+        All (IsReadable unknown) (map OfEntry lent.log) →
+        brought unknown (events.Frame sender (Pull (whole_state lent.silences lent.log))) ≡ held_in lent.silences lent.log }
 {}
 
-/// The frames that a step left in flight are the flights that its recorded step adds.
+/// States that the frames that a step left in flight are the flights that its recorded step adds.
 pub fn frames_are_flights()
     ensures silences { FramesAreFlights silence_state }
     ensures log { FramesAreFlights log_state }
 {}
 
-/// What a frame brings comes from its flight.
+/// States that what a frame brings comes from its flight.
 pub fn frames_come_from_their_flights()
     ensures silences { FramesComeFromFlights silence_state }
     ensures log { FramesComeFromFlights log_state }

@@ -1,5 +1,5 @@
-//! From a line of a schedule to the event of an instance, and from a step of an instance to the steps of both runs: the
-//! event of each line; the versions that frames carry, parted by their state, and what holds of the steps, for each of both
+//! The way from a line of a schedule to the event of an instance, and from a step of an instance to the steps of both runs: the
+//! event of each line; the versions that frames carry, split by their state; and the laws of the steps, for each of the two
 //! states.
 #![tactic(auto)]
 

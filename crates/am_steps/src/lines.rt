@@ -3,6 +3,7 @@
 ghost use Rattle.std.specs.Prelude.{◌≡◌, ◌++◌, ℕ, map, IfOk, OnOk};
 ghost use Rattle.am_wire.specs.Inputs.{AreMessages};
 ghost use Rattle.am_wire.specs.Writing.{delimited};
+ghost use Rattle.am_wire.specs.declared.unknown.Unknown.{Unknown};
 ghost use Rattle.am_snapshot.specs.Texts.{row_text};
 ghost use Rattle.am_steps.specs.Versions.{IsReadAgain, least};
 
@@ -14,24 +15,26 @@ use std::alloc::{AllocError, Global};
 
 /// A line of a schedule that writes a version of a state.
 pub(crate) trait VersionLine<V: Record>: Drop {
-    /// The version that it writes.
+    /// The version that the line writes.
     ghost version_of: { Self → V };
 
-    /// When that was made.
+    /// The update moment of that version.
     ghost updated_of: { Self → ℕ };
 
     fn updated(&self) -> Moment
         ensures { result ≡ updated_of self.now };
 
+    /// Returns the version that the line writes.
+    ///
     /// # Errors
     ///
-    /// [`AllocError`] where memory runs out.
+    /// [`AllocError`] if memory runs out.
     fn version(&self, alloc: Global) -> Result<V, AllocError>
         ensures version { IfOk result (λ version. version ≡ version_of self.now) }
         ensures again { OnOk result (IsReadAgain V.seen V.reads (version_of self.now)) };
 }
 
-/// The least update moment of the versions of lines.
+/// Returns the least update moment of the versions of lines.
 #[tactic(auto, using(crate::proofs::Least::least_low))]
 pub(crate) fn first_updated<V: Record, L: VersionLine<V>>(lines: &[Shared<L>]) -> Moment
     ensures { result ≡ least (map L.updated_of lines.now) }
@@ -43,7 +46,7 @@ pub(crate) fn first_updated<V: Record, L: VersionLine<V>>(lines: &[Shared<L>]) -
     first
 }
 
-/// Writes the version of a line at the end of a row.
+/// Appends the version of a line to a row.
 fn append<V: Record, L: VersionLine<V>>(
     alloc: Global,
     row: &mut Vec<u8>,
@@ -56,13 +59,13 @@ fn append<V: Record, L: VersionLine<V>>(
     append_delimited(row, version.canonical())
 }
 
-/// The row of the versions of lines.
+/// Returns the row of the versions of lines.
 pub(crate) fn row<V: Record, L: VersionLine<V>>(
     alloc: Global,
     lines: &[Shared<L>],
 ) -> Result<Bytes, AllocError>
     ensures row { IfOk result (λ row. row ≡ row_text V.seen (map L.version_of lines.now)) }
-    ensures read { IfOk result (λ row. AreMessages V.reads row (map L.version_of lines.now)) }
+    ensures read { IfOk result (λ row. (unknown : Unknown) → AreMessages (V.reads unknown) row (map L.version_of lines.now)) }
 {
     let mut row = Vec::new(alloc);
     for line in lines {

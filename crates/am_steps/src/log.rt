@@ -13,7 +13,7 @@ use am_version_order::Moment;
 use am_wire::Bytes;
 use std::alloc::{AllocError, Global};
 
-/// The entry of a line.
+/// Returns the entry of a line.
 #[tactic(auto, using(crate::proofs::Lengths::entry_fits))]
 fn entry(alloc: Global, line: &LogLine) -> Result<Entry, AllocError>
     ensures entry { IfOk result (λ entry. entry ≡ (entry_of line.now).entry) }
@@ -47,7 +47,7 @@ impl VersionLine<MeshEntry> for LogLine {
     #[tactic(auto, using(crate::proofs::ReadAgain::entry_again))]
     fn version(&self, alloc: Global) -> Result<MeshEntry, AllocError> {
         let entry = entry(alloc, self)?;
-        // It fits, so what is refused is for want of memory.
+        // The entry fits, so an error means that memory ran out.
         match MeshEntry::new(alloc, entry, self.expires) {
             Ok(version) => Ok(version),
             Err(_) => Err(AllocError),

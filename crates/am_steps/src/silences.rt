@@ -1,4 +1,4 @@
-//! The silences of lines: versions that are written, and what is posted.
+//! The silences of lines: versions that are written, and posts.
 
 ghost use Rattle.std.specs.Prelude.{◌≡◌, ◌≤◌, length, IfOk, OnOk};
 ghost use Rattle.am_wire.specs.Limits.{most};
@@ -14,7 +14,7 @@ use am_version_order::Moment;
 use am_wire::Text;
 use std::alloc::{AllocError, Global};
 
-/// The one matcher, which wants the value of a label.
+/// Returns the one matcher, which wants the value of a label.
 fn wanted(alloc: Global, name: &Word, value: &Word) -> Result<Matchers, AllocError>
     ensures matchers { IfOk result (λ matchers. matchers ≡ wants name.now value.now) }
     ensures short { (length name.now ≤ 1024) × (length value.now ≤ 1024) }
@@ -25,7 +25,7 @@ fn wanted(alloc: Global, name: &Word, value: &Word) -> Result<Matchers, AllocErr
     Ok(matchers)
 }
 
-/// The silence of a line.
+/// Returns the silence of a line.
 #[tactic(auto, using(crate::proofs::Lengths::silence_fits))]
 fn silence(alloc: Global, line: &SilenceLine) -> Result<Silence, AllocError>
     ensures silence { IfOk result (λ silence. silence ≡ (silence_of line.now).silence) }
@@ -54,7 +54,7 @@ impl VersionLine<MeshSilence> for SilenceLine {
     #[tactic(auto, using(crate::proofs::ReadAgain::silence_again))]
     fn version(&self, alloc: Global) -> Result<MeshSilence, AllocError> {
         let silence = silence(alloc, self)?;
-        // It fits, so what is refused is for want of memory.
+        // The silence fits, so an error means that memory ran out.
         match MeshSilence::new(alloc, silence, self.expires) {
             Ok(version) => Ok(version),
             Err(_) => Err(AllocError),
@@ -62,7 +62,7 @@ impl VersionLine<MeshSilence> for SilenceLine {
     }
 }
 
-/// The identifier that is posted, if one is.
+/// Copies the identifier that is posted, if there is one.
 fn identifier(alloc: Global, id: &Option<Word>) -> Result<Option<Text>, AllocError>
     ensures { IfOk result (λ copy. copy ≡ id.now) }
 {
@@ -72,7 +72,7 @@ fn identifier(alloc: Global, id: &Option<Word>) -> Result<Option<Text>, AllocErr
     }
 }
 
-/// What a line posts.
+/// Returns the post of a line.
 pub(crate) fn post(alloc: Global, line: &PostLine) -> Result<Posted, AllocError>
     ensures { IfOk result (λ post. post ≡ posted line.now) }
 {

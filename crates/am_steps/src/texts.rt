@@ -8,7 +8,7 @@ use am_schedule::{HashList, Word};
 use am_wire::{Bytes, Text};
 use std::alloc::{AllocError, Global};
 
-/// The text of a word.
+/// Converts a word to a text.
 pub(crate) fn text_of(alloc: Global, word: &Word) -> Result<Text, AllocError>
     ensures text { IfOk result (λ text. text ≡ word.now) }
     ensures short { length word.now ≤ 1024 }
@@ -16,7 +16,7 @@ pub(crate) fn text_of(alloc: Global, word: &Word) -> Result<Text, AllocError>
     Text::copied(alloc, word.as_str())
 }
 
-/// The bytes of a word.
+/// Converts a word to bytes.
 pub(crate) fn bytes_of(alloc: Global, word: &Word) -> Result<Bytes, AllocError>
     ensures bytes { IfOk result (λ bytes. bytes ≡ word.now) }
     ensures short { length word.now ≤ 1024 }
@@ -24,14 +24,14 @@ pub(crate) fn bytes_of(alloc: Global, word: &Word) -> Result<Bytes, AllocError>
     Bytes::copied(alloc, word.as_str().as_bytes())
 }
 
-/// No text.
+/// Returns the empty text.
 pub(crate) fn no_text(alloc: Global) -> Text
     ensures { result ≡ [] }
 {
     Text::new(String::new(alloc))
 }
 
-/// The hashes of a list.
+/// Converts a list to hashes.
 pub(crate) fn hashes_of(alloc: Global, hashes: &HashList) -> Result<Hashes, AllocError>
     ensures hashes { IfOk result (λ copy. copy ≡ hashes.now) }
     ensures few { length hashes.now ≤ 512 }
@@ -40,7 +40,7 @@ pub(crate) fn hashes_of(alloc: Global, hashes: &HashList) -> Result<Hashes, Allo
     Ok(Hashes::new(copy))
 }
 
-/// The receiver that is a group name alone.
+/// Returns the receiver that has only a group name.
 pub(crate) fn receiver_of(alloc: Global, name: &Word) -> Result<Receiver, AllocError>
     ensures receiver { IfOk result (λ receiver. receiver ≡ receiver_of name.now) }
     ensures short { length name.now ≤ 1024 }

@@ -1,6 +1,7 @@
-//! What a `from` line writes.
+//! The frames that `from` lines write.
 
 ghost use Rattle.std.specs.Prelude.{◌≡◌, [], ◌∷◌, Some, None, IfOk};
+ghost use Rattle.am_wire.specs.declared.unknown.Unknown.{Unknown};
 ghost use Rattle.am_instance.specs.Deliveries.{before_fault, first_fault, rows_in};
 ghost use Rattle.am_steps.specs.Versions.{part_of, sent_at, versions_of};
 ghost use Rattle.am_steps.specs.Events.{Brings, IsSentBefore, IsSound, from};
@@ -16,7 +17,7 @@ use am_silence::MeshSilence;
 use am_version_order::Moment;
 use std::alloc::{AllocError, Global};
 
-/// When the frame of these versions counts as sent.
+/// Returns when the frame of these versions counts as sent.
 #[tactic(auto, using(crate::proofs::Least::silence_updates, crate::proofs::Least::entry_updates))]
 fn sent_at(versions: &Versions) -> Moment
     ensures { result ≡ sent_at (versions_of versions.now) }
@@ -27,11 +28,11 @@ fn sent_at(versions: &Versions) -> Moment
     }
 }
 
-/// The part that has these versions.
+/// Returns the part that has these versions.
 fn part(alloc: Global, versions: &Versions) -> Result<Part, AllocError>
     ensures part { IfOk result (λ part. part ≡ part_of versions.now) }
-    ensures clean { IfOk result (λ part. first_fault (rows_in (part ∷ [])) ≡ None) }
-    ensures read { IfOk result (λ part. before_fault (rows_in (part ∷ [])) ≡ versions_of versions.now) }
+    ensures clean { IfOk result (λ part. (unknown : Unknown) → first_fault (rows_in unknown (part ∷ [])) ≡ None) }
+    ensures read { IfOk result (λ part. (unknown : Unknown) → before_fault (rows_in unknown (part ∷ [])) ≡ versions_of versions.now) }
 {
     match versions {
         Versions::Silences(lines) => Ok(Part {
@@ -45,7 +46,7 @@ fn part(alloc: Global, versions: &Versions) -> Result<Part, AllocError>
     }
 }
 
-/// A Delta of these versions comes from a member.
+/// Returns the step of a Delta of these versions that comes from a member.
 pub(crate) fn from(alloc: Global, sender: Place, versions: &Versions) -> Result<Asked, AllocError>
     ensures asked { IfOk result (λ asked. asked ≡ from (Some sender) versions.now) }
     ensures sound { IfOk result IsSound }

@@ -1,17 +1,17 @@
--- Bytes that grow by what a reader gives.
+-- Bytes read from a reader and appended to a list.
 use Rattle.std.specs.Prelude.{◌≡◌, ℕ, ◌+◌, ◌<◌, ◌≤◌, Bool, true, false, List, ◌++◌, length, Option, Result, Ok, Err}
 use Rattle.std.specs.Io.KnownBytes.{Consumes, IsAtEnd}
 use Rattle.am_streams.specs.declared.reading.Stop.{Stop}
 use Rattle.am_streams.specs.declared.reading.Stop.TheVariants.{Read, Memory}
 
--- what the reader gave was appended
+-- what the reader gave is appended
 pub record HasGrown (old new : Option (List ℕ)) (before after : List ℕ) : Type 0 where
   pub piece : List ℕ
   pub consumed : Consumes old new piece
   pub appended : after ≡ before ++ piece
 
--- One read: at most 4,096 bytes came, up to `most` in all; or none, since the input ended, the read failed, or there was no
--- memory for what came.
+-- One read: at most 4,096 bytes came, for a total of at most `most`; or none came, because the input ended, the read failed,
+-- or there was no memory for them.
 abbrev pub ReadsOnce : ℕ → Option (List ℕ) → Option (List ℕ) → List ℕ → List ℕ → Result Bool Stop → Type 0
 ReadsOnce most old new before after (Ok true) =
     HasGrown old new before after × (length before < length after) × (length after ≤ most) × (length after ≤ length before + 4096)
@@ -21,7 +21,7 @@ ReadsOnce most old new before after (Err Memory) =
     (lost : List ℕ) × HasGrown old new before (after ++ lost) × (after ≡ before) × (length (after ++ lost) ≤ most)
     × (length (after ++ lost) ≤ length before + 4096)
 
--- Reads, one after the other: `IsOpen` holds of the bytes behind which the last one was made, and it gave the result.
+-- Successive reads: `IsOpen` holds of the bytes present before the last read, and the last read gave the result.
 pub record ReadsOn (IsOpen : List ℕ → Type 0) (most : ℕ) (old new : Option (List ℕ)) (before after : List ℕ) (result : Result Bool Stop) : Type 0 where
   pub mid : List ℕ
   pub left : Option (List ℕ)

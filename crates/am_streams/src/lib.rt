@@ -1,4 +1,4 @@
-//! Bytes from any reader, up to a limit, and bytes to any writer, with the count of those that went out.
+//! Reading bytes from any reader, up to a limit, and writing bytes to any writer, with a count of those that went out.
 #![tactic(auto)]
 
 mod reading;

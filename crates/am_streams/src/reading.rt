@@ -1,27 +1,27 @@
-//! Bytes from any reader.
+//! Reading bytes from any reader.
 
 ghost use Rattle.std.specs.Prelude.{◌≡◌, ◌<◌, true, Ok, length, vec_len};
 ghost use Rattle.am_streams.specs.Reading.{ReadsOn, ReadsOnce};
 
 use std::io::Read;
 
-/// Why no bytes came, though the input has not ended.
+/// The reason no bytes came though the input has not ended.
 #[derive(Clone, Copy, PartialEq, Eq)]
 pub enum Stop {
     /// A read failed.
     Read,
-    /// There was no memory for what came.
+    /// There was no memory for the bytes read.
     Memory,
 }
 
-/// How many bytes are asked for at once.
+/// The number of bytes requested in one read.
 const PIECE: usize = 4_096;
 
-/// Reads once, so that there are at most `most` bytes then, and answers whether any came.
+/// Reads once, up to a total of `most` bytes, and returns whether any bytes came.
 ///
 /// # Errors
 ///
-/// [`Stop`] where the read fails, or there is no memory for what came; the bytes are as they were.
+/// Returns [`Stop`] if the read fails or there is no memory for the bytes read; `bytes` is then unchanged.
 pub fn read_some<R: Read>(reader: &mut R, bytes: &mut Vec<u8>, most: usize) -> Result<bool, Stop>
     requires room { vec_len bytes.old < most }
     ensures once { ReadsOnce most (R.remaining reader.old) (R.remaining reader.new) bytes.old.items bytes.new.items result }
@@ -37,11 +37,11 @@ pub fn read_some<R: Read>(reader: &mut R, bytes: &mut Vec<u8>, most: usize) -> R
     Ok(count > 0)
 }
 
-/// Reads until there are `end` bytes, and answers whether they came: where not, the input ended before.
+/// Reads until there are `end` bytes, and returns whether they all came: if not, the input ended before.
 ///
 /// # Errors
 ///
-/// [`Stop`] at the first read that fails, which is not tried again, or where there is no memory for what came.
+/// Returns [`Stop`] at the first read that fails, which is not retried, or if there is no memory for the bytes read.
 pub fn fill<R: Read>(reader: &mut R, bytes: &mut Vec<u8>, end: usize) -> Result<bool, Stop>
     requires wanting { vec_len bytes.old < end }
     ensures reads { ReadsOn (λ came. length came < end) end (R.remaining reader.old) (R.remaining reader.new)

@@ -1,4 +1,4 @@
-//! Bytes to any writer.
+//! Writing bytes to any writer.
 
 ghost use Rattle.std.specs.Prelude.{◌<◌, length, take, OnOk, IfErr};
 ghost use Rattle.std.specs.Io.KnownBytes.{Appends};
@@ -6,7 +6,7 @@ ghost use Rattle.am_streams.specs.Writing.{WritesPart};
 
 use std::io::Write;
 
-/// A write failed or took nothing, when so many bytes had gone out.
+/// A write that failed or took nothing, with the number of bytes that had gone out.
 #[derive(Clone, Copy, PartialEq, Eq)]
 pub struct WriteFault {
     pub written: u64,
@@ -16,7 +16,7 @@ pub struct WriteFault {
 ///
 /// # Errors
 ///
-/// [`WriteFault`] at the first call that fails or takes nothing; it is not tried again.
+/// Returns [`WriteFault`] at the first call that fails or takes nothing; it is not retried.
 pub fn send<W: Write>(writer: &mut W, bytes: &[u8]) -> Result<(), WriteFault>
     // PROMISE: All bytes go out, in order.
     ensures all { OnOk result (Appends (W.contents writer.old) (W.contents writer.new) bytes.now) }
@@ -25,7 +25,7 @@ pub fn send<W: Write>(writer: &mut W, bytes: &[u8]) -> Result<(), WriteFault>
 {
     let mut written = 0;
     while written < bytes.len() {
-        // A write that fails takes nothing.
+        // A failed write takes nothing.
         let taken = writer.write(&bytes[written..]).unwrap_or(0);
         if taken == 0 {
             return Err(WriteFault {

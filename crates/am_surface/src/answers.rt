@@ -1,4 +1,4 @@
-//! Requests that are answered by a step, of a value and over a reader and a writer.
+//! Requests that are answered by a step, given as a value or over a reader and a writer.
 
 use crate::api_silences::request;
 use crate::samples::{at, holds, instance};
@@ -7,7 +7,7 @@ use am_gossip::Frame;
 use am_instance::{Place, Unsent};
 use std::alloc::Global;
 
-/// Calls what is public of am_api_silences and makes a step.
+/// Calls the public functions of am_api_silences that make a step.
 pub fn calls(alloc: Global) -> Option<()> {
     answers(alloc)?;
     serves(alloc)?;
@@ -55,7 +55,7 @@ fn serves(alloc: Global) -> Option<()> {
     holds(reply.starts_with(b"HTTP/1.1 404 Not Found"))
 }
 
-/// Returns the count of bytes that a fault has.
+/// Returns the number of bytes that a fault has.
 fn count_in(fault: ServeFault) -> u64 {
     match fault {
         ServeFault::Read { at } => at,

@@ -5,7 +5,7 @@ use am_api_silences::{Read, Refusal, Request, read_request, to_bytes, to_event};
 use am_instance::{Event, Reply};
 use std::alloc::{AllocError, Global};
 
-/// Calls what is public of am_api_silences and makes no step.
+/// Calls the public functions of am_api_silences that make no step.
 pub fn calls(alloc: Global) -> Option<()> {
     let request = request(alloc)?;
     let event: Result<Event, Refusal> = to_event(alloc, &request, 0u128);

@@ -1,4 +1,4 @@
-//! Keepers: held maps that know their last moment.
+//! Keepers, which are held maps that know their last moment.
 
 use crate::samples::{at, held, holds, text, version};
 use am_collect::{Keeper, KeeperError, Step, Stepped};
@@ -6,7 +6,7 @@ use am_merge::{Held, Taken};
 use am_silence::MeshSilence;
 use std::alloc::Global;
 
-/// Calls all that is public of am_collect.
+/// Calls everything public of am_collect.
 pub fn calls(alloc: Global) -> Option<()> {
     starts(alloc)?;
     pairs(alloc)?;

@@ -1,4 +1,4 @@
-//! Connections, and what goes out to a peer.
+//! Connections, and the bytes that go out to a peer.
 
 use crate::samples::{at, holds, instance};
 use am_connection::{Ended, SendError, connection, send, turn};
@@ -10,7 +10,7 @@ use std::alloc::Global;
 use std::io;
 use std::net::TcpListener;
 
-/// Calls all that is public of am_connection, but [`turn`], which waits for a peer.
+/// Calls everything public of am_connection except [`turn`], which waits for a peer.
 pub fn calls(alloc: Global) -> Option<()> {
     sends(alloc)?;
     connects(alloc)?;

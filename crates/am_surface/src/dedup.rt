@@ -5,7 +5,7 @@ use am_dedup::{Decision, Reason, decide, due};
 use am_version_order::Moment;
 use std::alloc::Global;
 
-/// Calls all that is public of am_dedup.
+/// Calls everything public of am_dedup.
 pub fn calls(alloc: Global) -> Option<()> {
     let entry = entry(alloc)?;
     let decision: Decision = decide(Some(&entry), &[3], &[], second()?, false, at(10));
@@ -13,7 +13,7 @@ pub fn calls(alloc: Global) -> Option<()> {
     holds(number_of(decision) == 2 && due == Some(at(12)))
 }
 
-/// Returns the place of a decision in the table of decisions; 0 for none to notify.
+/// Returns the place of a decision in the table of decisions, or 0 if nothing is to be notified.
 fn number_of(decision: Decision) -> usize {
     match decision {
         Decision::Skip => 0,

@@ -1,4 +1,4 @@
-//! Frames and the stream that they come in.
+//! Frames, and the stream that they come in.
 
 use crate::samples::{ROW, holds};
 use am_gossip::{
@@ -7,7 +7,7 @@ use am_gossip::{
 use am_wire::{Bytes, WireError};
 use std::alloc::Global;
 
-/// Calls all that is public of am_gossip.
+/// Calls everything public of am_gossip.
 pub fn calls(alloc: Global) -> Option<()> {
     greetings()?;
     encodes(alloc)?;
@@ -50,7 +50,7 @@ fn feeds(alloc: Global) -> Option<()> {
     holds(frames.len() == 1 && fault.is_none() && waiting == 1)
 }
 
-/// Returns the fault in a payload, if it is one.
+/// Returns the fault in a payload, if an error is one.
 fn fault_in(error: FrameError) -> Option<WireError> {
     match error {
         FrameError::Wire(fault) => Some(fault),

@@ -1,4 +1,4 @@
-//! Instances, their events and what a step answers.
+//! Instances, their events, and the answers of their steps.
 
 use crate::matcher::labels;
 use crate::samples::{
@@ -17,7 +17,7 @@ use am_version_order::{Interval, Moment};
 use am_wire::{Bytes, Text};
 use std::alloc::{AllocError, Global};
 
-/// Calls all that is public of am_instance.
+/// Calls everything public of am_instance.
 pub fn calls(alloc: Global) -> Option<()> {
     configs(alloc)?;
     starts(alloc)?;

@@ -12,7 +12,7 @@ use am_replay::laws::{
 };
 use am_silence::MeshSilence;
 
-/// Calls the laws that are public of am_merge and am_replay.
+/// Calls the public laws of am_merge and am_replay.
 pub fn calls() {
     of_joins();
     of_sweeps();

@@ -1,5 +1,5 @@
-//! Calls each public call of the crates once, with the types of what it takes and answers written out: where a name goes, or a
-//! type changes, this no longer compiles. Says of each crate whether its calls answered as they should.
+//! Calls each public function of the crates once, with the types of its arguments and its result written out: if a name is
+//! removed or a type changes, this no longer compiles. Says for each crate whether its calls answered as they should.
 #![tactic(auto)]
 
 mod answers;
@@ -66,7 +66,7 @@ fn say_members(rt: &HostRuntime) -> io::Result<()> {
     say(rt, "am_replay", replay::calls(alloc))
 }
 
-/// Says whether the calls of a crate answered as they should.
+/// Prints whether the calls of a crate answered as they should.
 fn say(rt: &HostRuntime, name: &str, answer: Option<()>) -> io::Result<()> {
     match answer {
         Some(()) => println!(rt; "{name} answers"),

@@ -7,7 +7,7 @@ use am_matcher::{
 use am_silence::Verdict;
 use std::alloc::{AllocError, Global};
 
-/// Calls all that is public of am_matcher.
+/// Calls everything public of am_matcher.
 pub fn calls(alloc: Global) -> Option<()> {
     compiled(alloc)?;
     verdicts(alloc)?;
@@ -41,7 +41,7 @@ fn filters(alloc: Global) -> Option<()> {
     holds(answer.ok()?)
 }
 
-/// Returns the labels of an alert of that job.
+/// Returns the labels of an alert with that job.
 pub fn labels(alloc: Global) -> Option<Labels> {
     let name = text(alloc, "job")?;
     let value = text(alloc, "x")?;

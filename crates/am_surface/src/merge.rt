@@ -6,7 +6,7 @@ use am_silence::MeshSilence;
 use am_version_order::{Moment, Version};
 use std::alloc::{AllocError, Global};
 
-/// Calls all that is public of am_merge.
+/// Calls everything public of am_merge.
 pub fn calls(alloc: Global) -> Option<()> {
     takes(alloc)?;
     takes_two(alloc)?;
@@ -45,7 +45,7 @@ fn merges(alloc: Global) -> Option<()> {
     holds(count_in(changed) == 1)
 }
 
-/// Counts the versions that were taken, or the keys that have another one.
+/// Returns the number of versions that were taken, or of keys whose version changed.
 fn count_in(merged: Result<usize, MergeError>) -> usize {
     match merged {
         Ok(changed) => changed,

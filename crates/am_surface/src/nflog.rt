@@ -6,7 +6,7 @@ use am_version_order::{Moment, Version};
 use am_wire::WireError;
 use std::alloc::Global;
 
-/// Calls all that is public of am_nflog.
+/// Calls everything public of am_nflog.
 pub fn calls(alloc: Global) -> Option<()> {
     let version: Result<MeshEntry, WireError> = MeshEntry::new(alloc, entry(alloc)?, at(200));
     holds(version.is_ok())?;

@@ -14,7 +14,7 @@ use am_version_order::Moment;
 use am_wire::Text;
 use std::alloc::Global;
 
-/// Calls all that is public of am_replay.
+/// Calls everything public of am_replay.
 pub fn calls(alloc: Global) -> Option<()> {
     views(alloc)?;
     runs(alloc)?;
@@ -50,7 +50,7 @@ fn runs(alloc: Global) -> Option<()> {
     }
 }
 
-/// Returns the count that an error of a replay has; 0 where it has none.
+/// Returns the number that an error of a replay has, or 0 if it has none.
 fn place_in(error: ReplayError) -> u64 {
     match error {
         ReplayError::Read { at } => at as u64,

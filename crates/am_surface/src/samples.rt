@@ -1,4 +1,4 @@
-//! Values that are handed to the calls.
+//! The values that are passed to the calls.
 
 use am_instance::{Config, Instance};
 use am_merge::Held;
@@ -15,22 +15,22 @@ pub const ROW: [u8; 33] = [
     0x01,
 ];
 
-/// Goes on if a test holds.
+/// Returns `Some(())` if a test holds.
 pub fn holds(test: bool) -> Option<()> {
     test.then_some(())
 }
 
-/// Makes the moment of so many seconds since 1970.
+/// Makes the moment that is `seconds` seconds after 1970.
 pub fn at(seconds: u32) -> Moment {
     Moment::from_parts(i64::from(seconds), 0).unwrap_or(Moment::LEAST)
 }
 
-/// Makes an interval of a second.
+/// Makes an interval of one second.
 pub fn second() -> Option<Interval> {
     Interval::from_nanos(1_000_000_000)
 }
 
-/// Makes a text of its own.
+/// Makes an owned text.
 pub fn text(alloc: Global, text: &str) -> Option<Text> {
     Text::copied(alloc, text).ok()
 }
@@ -53,7 +53,7 @@ pub fn matcher_list(alloc: Global) -> Option<Vec<Matcher>> {
     Some(list)
 }
 
-/// Makes that matcher, as those of a silence are kept.
+/// Makes that matcher in the form in which a silence keeps its matchers.
 pub fn matchers(alloc: Global) -> Option<Matchers> {
     let list = matcher_list(alloc)?;
     Matchers::new(alloc, &list).ok()
@@ -97,7 +97,7 @@ pub fn posted(alloc: Global) -> Option<Posted> {
     })
 }
 
-/// Makes the map of that version.
+/// Makes the map with that version.
 pub fn held(alloc: Global) -> Option<Held<MeshSilence>> {
     let mut held = Held::new(alloc);
     held.take(version(alloc)?, at(10)).ok()?;
@@ -142,13 +142,13 @@ pub fn entry(alloc: Global) -> Option<Entry> {
     })
 }
 
-/// Makes its version, kept until 200.
+/// Makes the version of that entry, kept until 200.
 pub fn logged(alloc: Global) -> Option<MeshEntry> {
     let entry = entry(alloc)?;
     MeshEntry::new(alloc, entry, at(200)).ok()
 }
 
-/// Makes the names of the peers of `a`: `b` alone.
+/// Makes the names of the peers of `a`, which are only `b`.
 pub fn peers(alloc: Global) -> Option<Vec<Text>> {
     let mut peers = Vec::new(alloc);
     peers.push(text(alloc, "b")?).ok()?;

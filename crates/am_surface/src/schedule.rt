@@ -5,7 +5,7 @@ use am_schedule::{FaultKind, Line, Schedule, ScheduleError, Step, parse};
 use am_version_order::{Interval, Moment};
 use std::alloc::Global;
 
-/// A schedule of two members: a post, its frame's way to the other, and what all say of it.
+/// A schedule of two members: a post, the way of its frame to the other member, a settle, and reports.
 pub const TEXT: &str = "cluster 100 1 a b
 at 10 a post - 00000000000000000000000000000000 10 100 job x
 frames
@@ -15,7 +15,7 @@ timely 2 1
 at 13 b show
 ";
 
-/// Calls all that is public of am_schedule.
+/// Calls everything public of am_schedule.
 pub fn calls(alloc: Global) -> Option<()> {
     let schedule: Result<Schedule, ScheduleError> = parse(alloc, TEXT.as_bytes());
     let schedule = schedule.ok()?;
@@ -45,7 +45,7 @@ fn number_of(kind: FaultKind) -> usize {
     }
 }
 
-/// Returns the step of a line, if it is one.
+/// Returns the step of a line, if it has one.
 pub fn step_of(line: &Line) -> Option<&Step> {
     match line {
         Line::Step(step) => Some(step),

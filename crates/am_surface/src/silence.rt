@@ -1,4 +1,4 @@
-//! Silences: their versions and states, and what posting and ending one makes.
+//! Silences: their versions and states, and the plans of posting and ending one.
 
 use crate::samples::{at, holds, posted, second, silence, version};
 use am_silence::{
@@ -9,7 +9,7 @@ use am_version_order::{Interval, Moment};
 use am_wire::WireError;
 use std::alloc::Global;
 
-/// Calls all that is public of am_silence.
+/// Calls everything public of am_silence.
 pub fn calls(alloc: Global) -> Option<()> {
     made(alloc)?;
     moments(&version(alloc)?)?;
@@ -82,7 +82,7 @@ fn expires(alloc: Global) -> Option<()> {
     holds(ended.ends_at() == at(20))
 }
 
-/// Returns the moment that a refusal has.
+/// Returns the moment that a refusal has, if any.
 fn moment_in(refusal: SilenceError) -> Option<Moment> {
     match refusal {
         SilenceError::Newer { held } => Some(held),

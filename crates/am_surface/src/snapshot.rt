@@ -7,7 +7,7 @@ use am_snapshot::{FoldError, SnapshotError, fold, load, save};
 use am_wire::WireError;
 use std::alloc::Global;
 
-/// Calls all that is public of am_snapshot.
+/// Calls everything public of am_snapshot.
 pub fn calls(alloc: Global) -> Option<()> {
     saves(alloc)?;
     loads(alloc)?;
@@ -41,7 +41,7 @@ fn folds(alloc: Global) -> Option<()> {
     holds(folded.ok()? == 33 && row.as_slice() == ROW.as_slice())
 }
 
-/// Returns the count that a fault has; 0 where it has none.
+/// Returns the number that a fault has, or 0 if it has none.
 fn place_in(fault: SnapshotError) -> u64 {
     match fault {
         SnapshotError::Read { at } => at as u64,
@@ -53,7 +53,7 @@ fn place_in(fault: SnapshotError) -> u64 {
     }
 }
 
-/// Returns the same of a fold.
+/// Returns the number that a fault of a fold has, or 0 if it has none.
 fn place_in_fold(fault: FoldError) -> u64 {
     match fault {
         FoldError::Read { at } => at as u64,

@@ -8,7 +8,7 @@ use am_wire::Text;
 use std::alloc::{AllocError, Global};
 use std::cmp::Ordering;
 
-/// Calls all that is public of am_version_order.
+/// Calls everything public of am_version_order.
 pub fn calls(alloc: Global) -> Option<()> {
     moments()?;
     silence_key(alloc, &version(alloc)?)?;

@@ -8,7 +8,7 @@ use am_wire::{
 };
 use std::alloc::Global;
 
-/// Calls all that is public of am_wire.
+/// Calls everything public of am_wire.
 pub fn calls(alloc: Global) -> Option<()> {
     varints()?;
     fields()?;
@@ -34,7 +34,7 @@ fn fields() -> Option<()> {
     holds(number == 1 && at == 0 && number_in(field.value) == 5)
 }
 
-/// Returns the number of a value, or how many bytes it has.
+/// Returns a value if it is a number, and otherwise the number of its bytes.
 fn number_in(value: Value<'_>) -> u64 {
     match value {
         Value::Varint(number) | Value::Eight(number) => number,
@@ -66,7 +66,7 @@ fn read_rows(alloc: Global) -> Option<()> {
     holds(matches!(first, Ok(Some(_))) && matches!(end, Ok(None)))
 }
 
-/// Returns the place that a fault of a row has; 0 where it has none.
+/// Returns the place that a fault of a row has, or 0 if it has none.
 fn place_in(fault: RowFault) -> usize {
     match fault {
         RowFault::Read { at } => at,
@@ -75,7 +75,7 @@ fn place_in(fault: RowFault) -> usize {
     }
 }
 
-/// Returns the place, or the field's number, that a fault has; 0 where it has none.
+/// Returns the place, or the field's number, that a fault has, or 0 if it has none.
 fn place_of(fault: WireError) -> usize {
     match fault {
         WireError::Truncated { at }

@@ -1,4 +1,4 @@
-//! Lists in blocks beside plain sorted lists, over runs.
+//! Lists in blocks compared with plain sorted lists, over runs.
 
 ghost use Rattle.std.specs.Prelude.{◌<◌};
 ghost use Rattle.std.specs.List.{AllPairs};
@@ -10,7 +10,7 @@ use am_merge::blocks::{Blocks, Cursor, Probe, Walk};
 use std::alloc::{AllocError, Global};
 use std::cmp::Ordering;
 
-// A number that is looked for.
+// A number to look for.
 #[derive(Clone, Copy)]
 struct Number(u64);
 
@@ -22,7 +22,7 @@ impl Probe<u64> for Number {
     }
 }
 
-// Puts a number in, where it isn't there.
+// Inserts a number if it isn't there.
 fn put(blocks: &mut Blocks<u64>, number: u64) -> Result<(), AllocError>
     requires { AllPairs (λ x y. x < y) (entries blocks.old) }
     ensures { AllPairs (λ x y. x < y) (entries blocks.new) }
@@ -34,7 +34,7 @@ fn put(blocks: &mut Blocks<u64>, number: u64) -> Result<(), AllocError>
     Ok(())
 }
 
-// Takes a number out, where it is there.
+// Removes a number if it is there.
 fn take(blocks: &mut Blocks<u64>, number: u64)
     requires { AllPairs (λ x y. x < y) (entries blocks.old) }
     ensures { AllPairs (λ x y. x < y) (entries blocks.new) }
@@ -75,7 +75,7 @@ impl Twins {
         }
     }
 
-    // A number is found in the same place near any guess and by any hint.
+    // Returns whether a number is found at the same place near any guess and with any hint.
     fn finds_anyhow(&self, number: u64) -> bool {
         let probe = Number(number);
         let place = self.blocks.search(&probe);
@@ -88,7 +88,7 @@ impl Twins {
             && self.blocks.search_by(&Number(1000), &probe) == place
     }
 
-    // The blocks have the items of the plain list from a number on, and the same first one.
+    // Returns whether the blocks have the items of the plain list from a number on, and the same first one.
     fn agree(&self, number: u64) -> bool {
         if self.blocks.first() != self.plain.first().copied() {
             return false;
@@ -107,7 +107,7 @@ impl Twins {
     }
 }
 
-// The walk gives these numbers and no other.
+// Returns whether a walk yields exactly these numbers.
 fn is_walk_of(walk: Walk<'_, u64>, numbers: &[u64]) -> bool {
     let mut walked = 0;
     for number in walk {
@@ -119,7 +119,7 @@ fn is_walk_of(walk: Walk<'_, u64>, numbers: &[u64]) -> bool {
     walked == numbers.len()
 }
 
-// The number that a step of a run puts in or takes out: of run 0 those on both sides of 1000, else drawn.
+// Returns the number that a step of a run inserts or removes: in run 0 those on both sides of 1000, and otherwise a drawn one.
 fn number_of(run: u64, step: u64) -> u64 {
     match (run, step % 2) {
         (0, 0) => 1000 + step / 2,
@@ -128,7 +128,7 @@ fn number_of(run: u64, step: u64) -> u64 {
     }
 }
 
-// Takes so many steps of a run, of 16 steps so many that put, and says whether both lists agreed all along.
+// Takes the steps of a run, of which about `puts` in 16 insert, and returns whether both lists agreed all along.
 fn run(twins: &mut Twins, run: u64, steps: u64, puts: u64) -> Result<bool, AllocError> {
     let mut agreed = true;
     for step in 0..steps {
@@ -145,7 +145,7 @@ fn run(twins: &mut Twins, run: u64, steps: u64, puts: u64) -> Result<bool, Alloc
     Ok(agreed)
 }
 
-// Runs one after another, from an empty list on.
+// Takes runs one after another, from an empty list on, and returns whether the lists agreed.
 fn runs_agree(alloc: Global, runs: &[(u64, u64, u64)]) -> Result<bool, AllocError> {
     let mut twins = Twins::new(alloc);
     for (number, steps, puts) in runs {
@@ -159,7 +159,7 @@ fn runs_agree(alloc: Global, runs: &[(u64, u64, u64)]) -> Result<bool, AllocErro
 
 #[test]
 fn runs_agree_with_a_plain_list(rt: HostRuntime) {
-    // It grows to both sides of the middle; it grows to some thousand numbers, stays, and shrinks to few.
+    // One list grows to both sides of the middle; the other one grows to some thousand numbers, stays, and shrinks to few.
     let outward = runs_agree(rt.alloc(), &[(0, 1000, 16)]);
     let random = runs_agree(rt.alloc(), &[(1, 3000, 15), (2, 2000, 8), (3, 6000, 1)]);
     assert!(rt; outward == Ok(true) && random == Ok(true));

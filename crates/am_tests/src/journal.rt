@@ -10,7 +10,7 @@ const FOLDER: &str = "am_journal_test";
 
 const PATH: &str = "am_journal_test/log";
 
-// A whole block of the batch 5 50, and a torn one behind it.
+// A whole block of the batch 5 50, followed by a torn one.
 const TORN: [u8; 14] = [1, 2, 0, 0, 0, 0, 0, 0, 0, 5, 50, 1, 9, 0];
 
 #[test]
@@ -27,7 +27,7 @@ fn a_torn_block_is_dropped(rt: HostRuntime) -> Result<(), Fail> {
     Ok(())
 }
 
-/// An empty file with the batches 5 50 and 6.
+/// Returns the journal of an empty file after the batches 5 50 and 6.
 #[tactic(auto, unfolding(am_journal::specs::Blocks::recovered, am_journal::specs::Blocks::recovered_within))]
 fn written(alloc: Global) -> Result<Journal<Memory>, LogError> {
     let file = Memory::new(alloc, Vec::new(alloc));

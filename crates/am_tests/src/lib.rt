@@ -1,6 +1,6 @@
-//! Tests of what no case of text reaches: impls at types of a test's own, lists in blocks, versions of 64 MiB, connections of
-//! 128 MiB, random runs, a log in a file, a member's clock, and a connection over a socket. What they see is public, so they stand here, and no other proof
-//! waits for them.
+//! Tests of what no case in a text reaches: impls at types of a test's own, lists in blocks, versions of 64 MiB, connections of
+//! 128 MiB, random runs, a log in a file, a member's clock, and a connection over a socket. They only see what is public, so
+//! they are a crate of their own, and no other proof waits for them.
 #![tactic(auto)]
 
 #[cfg(test)]

@@ -1,4 +1,4 @@
-//! Connections of 134,217,728 bytes, as many as one may have, and of more.
+//! Connections of 134,217,728 bytes, the maximum, and of more.
 
 use crate::members::{PEER, at, instance};
 use am_http::session::Session;
@@ -13,12 +13,12 @@ const FRONT: &[u8] = &[
     0x01, 0xFD, 0x1F, 0x0A, 0x03, 0x73, 0x69, 0x6C, 0x7A, 0xF5, 0x1F,
 ];
 
-/// A reader that gives some bytes, and then others over and over; it keeps no more of them than these.
+/// A reader that gives some bytes, and then others over and over, without keeping more than one copy of them.
 #[derive(Clone, Copy)]
 struct Repeating<'a> {
     rest: &'a [u8],
     others: &'a [u8],
-    /// After so many bytes it ends.
+    /// The number of bytes after which the reader ends.
     left: usize,
 }
 
@@ -35,18 +35,18 @@ impl Read for Repeating<'_> {
     }
 }
 
-/// How many silences are held, how many frames are to be sent, and why the connection ended.
+/// The number of silences that are held, the number of frames to be sent, and the reason that the connection ended.
 type Told = (usize, usize, Option<Fault>);
 
-// That Delta.
+// Returns that Delta.
 fn delta(alloc: Global) -> Result<Vec<u8>, AllocError> {
     let mut delta = FRONT.to_vec(alloc)?;
     delta.extend_from_slice(&[0; 4_085])?;
     Ok(delta)
 }
 
-// What comes of a connection of so many bytes until no more is heard of it: a peer's Delta of a silence, and behind it a frame
-// over and over.
+// Returns the outcome of a connection of this many bytes, until it hears no more: a peer's Delta of a silence, followed by a
+// frame over and over.
 fn connected(alloc: Global, instance: &mut Instance, frame: &[u8], bytes: usize) -> Option<Told> {
     let mut session = Session::new(alloc);
     let mut reader = Repeating {
@@ -75,14 +75,14 @@ fn connected(alloc: Global, instance: &mut Instance, frame: &[u8], bytes: usize)
     Some((instance.silences().len(), sent, fault))
 }
 
-// The same of a new member; `None` without memory.
+// Returns the outcome with a new member, or `None` if memory runs out.
 fn told(alloc: Global, bytes: usize) -> Option<Told> {
     let delta = delta(alloc).ok()?;
     let mut instance = instance(alloc)?;
     connected(alloc, &mut instance, delta.as_slice(), bytes)
 }
 
-// Byte 134,217,729 is told. The steps before it stand, and what they send is to be sent.
+// Byte 134,217,729 is a fault. The steps before it stand, and their frames are to be sent.
 #[test]
 fn a_byte_past_the_limit_ends_a_connection(rt: HostRuntime) {
     for (bytes, fault) in [

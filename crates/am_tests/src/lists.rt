@@ -1,4 +1,4 @@
-//! Lists of labels and identifiers give back what they were made of.
+//! Lists of labels and identifiers, which give back what they were made of.
 
 use am_matcher::{Ids, Label, Labels};
 use am_wire::Text;

@@ -1,4 +1,4 @@
-//! Maps of notes beside plain lists of them, over random runs.
+//! Maps of notes compared with plain lists of them, over random runs.
 
 use crate::notes::{Note, at, mixed};
 use am_merge::Held;
@@ -6,13 +6,13 @@ use am_version_order::{Moment, Version};
 use std::alloc::{AllocError, Global};
 use std::test::Fail;
 
-/// The buckets that notes are in, and one that none is in.
+/// The buckets that notes are in, and one that no note is in.
 const BUCKETS: [&[u8]; 5] = [b"", b"x", b"y", b"z", b"none"];
 
-/// When notes are taken, in seconds.
+/// The moment at which notes are taken, in seconds.
 const NOW: u32 = 30;
 
-/// Notes in a map, and the same in a plain list in the order of their letters.
+/// Notes in a map, and the same notes in a plain list in the order of their letters.
 #[derive(Drop)]
 struct Twins {
     held: Held<Note>,
@@ -41,7 +41,7 @@ impl Twins {
         Ok(())
     }
 
-    // Takes all notes of another map, and says whether as many letters of both have another note then.
+    // Takes all notes of another map, and returns whether the note of equally many letters changed in both.
     fn merge(&mut self, other: &Twins) -> Result<bool, AllocError> {
         let mut changed: usize = 0;
         for &note in &other.plain {
@@ -58,7 +58,7 @@ impl Twins {
         self.held.sweep(now);
     }
 
-    // Map and list have the same notes, by whichever way the map is read.
+    // Returns whether map and list have the same notes, whichever way the map is read.
     fn agree(&self) -> bool {
         self.held.len() == self.plain.len()
             && self.held.next_expiry() == least_expiry(&self.plain)
@@ -87,7 +87,7 @@ impl Twins {
     }
 }
 
-// Puts a note in where it is greater than the one of its letter, and says whether it did.
+// Puts a note in if it is greater than the one of its letter, and returns whether it did.
 fn put(plain: &mut Vec<Note>, note: Note) -> Result<bool, AllocError> {
     match plain.binary_search_by(|held| held.id.cmp(&note.id)) {
         Ok(place) => {
@@ -125,7 +125,7 @@ fn least_expiry(plain: &[Note]) -> Option<Moment> {
     least
 }
 
-// A note that follows from a number. The moments tie often, and the buckets are few.
+// Returns the note that follows from a number. The moments tie often, and the buckets are few.
 fn note(mixed: u64) -> Note {
     Note {
         id: (mixed % 256) as u8,
@@ -138,7 +138,7 @@ fn note(mixed: u64) -> Note {
     }
 }
 
-// A map of so many notes that follow from a number.
+// Returns a map of `count` notes that follow from a seed.
 fn many(alloc: Global, seed: u64, count: u64) -> Result<Twins, AllocError> {
     let mut twins = Twins::new(alloc);
     for number in 0..count {
@@ -152,7 +152,7 @@ fn merge_many(twins: &mut Twins, seed: u64, count: u64) -> Result<bool, AllocErr
     twins.merge(&other)
 }
 
-// Whether two maps of so many notes merge as lists do.
+// Returns whether two maps with this many notes merge as lists do.
 fn merge_as_lists(alloc: Global, count: u64, others: u64) -> Result<bool, AllocError> {
     let mut twins = many(alloc, 1, count)?;
     Ok(merge_many(&mut twins, 2, others)? && twins.agree())
@@ -167,7 +167,7 @@ fn large_maps_merge_as_lists_do(rt: HostRuntime) -> Result<(), Fail> {
     Ok(())
 }
 
-// One event that the number decides. Says false where map and list answer otherwise.
+// Makes the event that a number decides. Returns `false` if map and list answer differently.
 fn step(twins: &mut Twins, number: u64) -> Result<bool, AllocError> {
     let (first, second) = (mixed(1, number), mixed(2, number));
     match mixed(3, number) % 32 {

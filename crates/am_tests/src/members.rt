@@ -1,4 +1,4 @@
-//! The member that tests reach, and the moment of its next event.
+//! The member that tests use, and the moment of its next event.
 
 use am_instance::{Config, Instance};
 use am_merge::Held;
@@ -10,20 +10,20 @@ use std::io;
 use std::rt::Clock;
 use std::time::Duration;
 
-/// What the peer `b` writes: its greeting, and a Delta of the silence `a`, which wants job `x` from 10 s to 100 s, was updated
-/// at 10 s and expires at 200 s.
+/// The bytes that the peer `b` writes: its greeting, and a Delta of the silence `a`, which matches job `x` from 10 s to 100 s,
+/// was updated at 10 s and expires at 200 s.
 pub const PEER: &[u8] = &[
     0x00, 0x01, 0x62, 0x01, 0x28, 0x0A, 0x03, 0x73, 0x69, 0x6C, 0x12, 0x21, 0x20, 0x0A, 0x19, 0x0A,
     0x01, 0x61, 0x12, 0x08, 0x12, 0x03, 0x6A, 0x6F, 0x62, 0x1A, 0x01, 0x78, 0x1A, 0x02, 0x08, 0x0A,
     0x22, 0x02, 0x08, 0x64, 0x2A, 0x02, 0x08, 0x0A, 0x12, 0x03, 0x08, 0xC8, 0x01,
 ];
 
-/// The moment of so many seconds since 1970.
+/// Returns the moment that is `seconds` seconds after 1970.
 pub fn at(seconds: i64) -> Moment {
     Moment::from_parts(seconds, 0).unwrap_or(Moment::LEAST)
 }
 
-/// The configuration of the member `a` of `a`, `b` and `c`; `None` without memory.
+/// Returns the configuration of the member `a` of `a`, `b` and `c`, or `None` if memory runs out.
 pub fn config(alloc: Global) -> Option<Config> {
     let mut peers = Vec::new(alloc);
     peers.push(Text::copied(alloc, "c").ok()?).ok()?;
@@ -34,13 +34,13 @@ pub fn config(alloc: Global) -> Option<Config> {
     Config::new(alloc, name, peers, retention, peer_timeout).ok()
 }
 
-/// That member, which holds nothing, at 10 s; `None` without memory.
+/// Returns that member, which holds nothing, at 10 s, or `None` if memory runs out.
 pub fn instance(alloc: Global) -> Option<Instance> {
     let config = config(alloc)?;
     Some(Instance::start(config, Held::new(alloc), Held::new(alloc), at(10)))
 }
 
-/// A clock that says the same always, or can't be read.
+/// A clock that always says the same, or can't be read.
 #[derive(Clone, Copy)]
 struct Standing(Option<Duration>);
 

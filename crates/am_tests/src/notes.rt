@@ -1,4 +1,4 @@
-//! Versions of which the tests speak, and the numbers that runs follow from.
+//! The versions that tests use, and the numbers that runs follow from.
 
 ghost use Rattle.std.specs.Prelude.{◌≡◌};
 ghost use Rattle.std.proofs.Common.{refl, sym};
@@ -8,7 +8,7 @@ ghost use Rattle.std.specs.Cmp.{ranked};
 use am_version_order::{Interval, Moment, Version};
 use std::alloc::{AllocError, Global};
 
-/// Two bytes under a letter. The first one is the bucket, where it isn't 0.
+/// Two bytes under a letter. The first byte is the bucket, unless it is 0.
 #[derive(Clone, Copy, Debug, PartialEq, Eq)]
 pub struct Note {
     pub id: u8,
@@ -17,7 +17,7 @@ pub struct Note {
     pub content: [u8; 2],
 }
 
-/// The moment so many seconds after the least one.
+/// Returns the moment that is `seconds` seconds after the least one.
 pub fn at(seconds: u32) -> Moment {
     match Interval::from_seconds(u64::from(seconds)) {
         Some(span) => Moment::LEAST.capped_add(span),
@@ -25,7 +25,7 @@ pub fn at(seconds: u32) -> Moment {
     }
 }
 
-/// A number that follows from two, as if it were drawn.
+/// Returns a number that follows from two others, as if it were drawn.
 pub fn mixed(seed: u64, number: u64) -> u64 {
     let spread = seed
         .wrapping_mul(0x9E37_79B9_7F4A_7C15)

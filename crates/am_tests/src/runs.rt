@@ -1,45 +1,45 @@
-//! Runs that follow from a number: a run tells of calm what plain loops over its steps tell.
+//! Runs that follow from a number, whose reports on calm are compared with those of plain loops over their steps.
 
 use crate::notes::{Note, at, mixed};
 use am_runs::{Run, RunStep, Source, plain};
 use am_version_order::{Interval, Moment};
 use std::alloc::{AllocError, Global};
 
-/// How the acts of a run follow from their numbers.
+/// The way that the acts of a run follow from their numbers.
 #[derive(Clone, Copy)]
 enum Draw {
-    /// Three members take what was made last, with up to four versions from before, in an order that a seed gives. Where it
-    /// is odd time goes fast, so that versions expire, and moments go back.
+    /// Three members take what was made last, with up to four versions from before, in an order that a seed gives. If the seed
+    /// is odd, time goes fast, so that versions expire and moments go back.
     Crowd,
-    /// The first of two members takes 40 versions, and the second one takes them after that. It is saved between, stopped
-    /// and started, and takes all of them again or not.
+    /// The first of two members takes 40 versions, and the second one takes them after that. Meanwhile the second one is saved,
+    /// stopped and started, and takes all of them again or not.
     Far(bool),
 }
 
 #[derive(Clone, Copy)]
 enum Verb {
-    /// So many versions, made one after another up to the one of this number.
+    /// A number of versions, made one after another up to the one of the second number.
     Take(u32, u32),
     Tick,
     Save,
     Stop,
-    /// From what was saved.
+    /// A start from what was saved.
     Start,
-    /// Refused, since the moment is before its last one.
+    /// A step that is refused, since its moment is before the member's last one.
     Back,
 }
 
-/// What, at which place, and when, in seconds.
+/// The action, the place of its member, and its moment in seconds.
 type Act = (Verb, usize, u32);
 
-/// What was told.
+/// The reports on a run.
 #[derive(Clone, Copy, Debug)]
 struct Tally {
-    /// Whether it was ever other than what plain loops tell.
+    /// True if a report ever differed from that of plain loops.
     differs: bool,
     timely: usize,
     untimely: usize,
-    /// Whether the run was timely when that was last asked.
+    /// True if the run was timely when that was last asked.
     last: bool,
 }
 
@@ -75,7 +75,7 @@ fn far_act(taken_again: bool, number: u32) -> Act {
     }
 }
 
-// The version that was made as one of this number. It lasts.
+// Returns the version of this number. It stays live.
 fn note(made: u32) -> Note {
     let updated = made.saturating_mul(3).saturating_add(20);
     Note {
@@ -94,7 +94,7 @@ fn notes(alloc: Global, count: u32, last: u32) -> Result<Vec<Note>, AllocError> 
     Ok(notes)
 }
 
-// Writes down that a member took versions, where that is possible, and says whether it was.
+// Records that a member took versions if that is possible, and returns whether it was.
 fn take(
     alloc: Global,
     run: &mut Run<Note>,
@@ -116,7 +116,7 @@ fn take(
     Ok(true)
 }
 
-// Likewise of what takes no versions.
+// Records an action that takes no versions if that is possible, and returns whether it was.
 fn turn(run: &mut Run<Note>, verb: Verb, place: usize, now: Moment) -> Result<bool, AllocError> {
     run.make_room(1)?;
     let runs = run.runs(place);
@@ -134,7 +134,7 @@ fn turn(run: &mut Run<Note>, verb: Verb, place: usize, now: Moment) -> Result<bo
     Ok(true)
 }
 
-// Of each member, and of one that isn't there.
+// Asks for the first fault of each member, and of one that doesn't exist.
 fn ask_faults(run: &Run<Note>, tally: &mut Tally) {
     for place in 0..4 {
         let fault = run.first_fault(place);
@@ -152,7 +152,7 @@ fn ask_timely(run: &Run<Note>, spread: Interval, tally: &mut Tally) {
     }
 }
 
-// Writes down a run, and asks after each fourth act.
+// Records a run, and asks about it after each fourth act.
 fn play(alloc: Global, draw: Draw, seed: u64, tally: &mut Tally) -> Result<(), AllocError> {
     let (members, acts) = match draw {
         Draw::Crowd => (3, 48),
@@ -187,7 +187,7 @@ fn ask(run: &Run<Note>, tally: &mut Tally) {
     }
 }
 
-// What is told of the runs of so many seeds.
+// Returns the reports on the runs of this many seeds.
 fn told(alloc: Global, draw: Draw, seeds: u64) -> Result<Tally, AllocError> {
     let mut tally = Tally {
         differs: false,
@@ -201,7 +201,7 @@ fn told(alloc: Global, draw: Draw, seeds: u64) -> Result<Tally, AllocError> {
     Ok(tally)
 }
 
-// Whether plain loops told the same of calm, and runs were timely and untimely at least so many times.
+// Returns whether plain loops gave the same reports, and runs were timely, and untimely, at least `both` times each.
 fn has_agreed(told: &Result<Tally, AllocError>, both: usize) -> bool {
     match told {
         Ok(tally) => !tally.differs && tally.timely.min(tally.untimely) >= both,

@@ -1,4 +1,4 @@
-//! What has at most 67,108,864 bytes, with as many, and with one more.
+//! Versions and rows of at most 67,108,864 bytes: some with exactly as many, and some with one more.
 
 use crate::members::config;
 use am_instance::{Event, Instance, Reply, Request};
@@ -16,29 +16,29 @@ use std::io::{self, Read};
 
 const MOST: usize = 67_108_864;
 
-/// What is made of a text of some length.
+/// A thing that is made from a text of some length.
 #[derive(Clone, Copy, Debug)]
 enum Made {
-    /// The bytes of a silence that has it as comment.
+    /// The bytes of a silence that has the text as its comment.
     Silence,
     /// A version of that silence, which is active from 10 s to 100 s.
     Held,
-    /// A row of that version alone.
+    /// A row of only that version.
     Row,
-    /// The version of a new silence, by a post that has it as comment.
+    /// The version of a new silence, by a post that has the text as its comment.
     Posted,
     /// Another version of the silence, by such a post.
     Updated,
-    /// The version that ends the silence 1 ns after 20 s, since a post replaces it. Its three moments have nanoseconds
-    /// then, so that a silence which is held may be too large to be ended.
+    /// The version that ends the silence 1 ns after 20 s, because a post replaces it. Its three moments then have nanoseconds,
+    /// so that a silence which is held may be too large to be ended.
     Replaced,
-    /// The same without a post.
+    /// The version that ends the silence without a post.
     Ended,
-    /// A version of a log entry that has it as group key.
+    /// A version of a log entry that has the text as its group key.
     Entry,
 }
 
-/// How many bytes there are in all, or why there are none.
+/// The number of bytes in all, or the reason that there are none.
 type Length = Result<usize, SilenceError>;
 
 fn length(alloc: Global, made: Made, len: usize) -> Length {
@@ -54,7 +54,7 @@ fn length(alloc: Global, made: Made, len: usize) -> Length {
     }
 }
 
-// Whether the most bytes are made where there are so many beside the text, and none where the text has one more.
+// Returns whether exactly the maximum is made with `beside` bytes besides the text, and nothing if the text has one more.
 fn is_limit(alloc: Global, made: Made, beside: usize) -> bool {
     let len = MOST.saturating_sub(beside);
     length(alloc, made, len) == Ok(MOST)
@@ -100,7 +100,7 @@ fn retention() -> Interval {
     Interval::from_nanos(100_000_000_000).unwrap()
 }
 
-// A text of so many `x`.
+// Returns a text of `len` letters `x`.
 fn text_of(alloc: Global, len: usize) -> Result<Text, AllocError> {
     let mut string = "xxxxxxxxxxxxxxxxxxxxxxxxxxxxxxxx".repeat(alloc, len / 32)?;
     for _ in 0..len % 32 {
@@ -109,14 +109,14 @@ fn text_of(alloc: Global, len: usize) -> Result<Text, AllocError> {
     Ok(Text::new(string))
 }
 
-// EQUAL job `x`.
+// Returns the matcher that asks for the job `x`.
 fn job_is_x(alloc: Global) -> Result<Matchers, AllocError> {
     let mut matchers = Matchers::none(alloc);
     matchers.push(alloc, &MatcherRef::new(MatcherKind::Equal, "job", "x"))?;
     Ok(matchers)
 }
 
-// The silence `a` with a comment of so many bytes.
+// Returns the silence `a` with a comment of `len` bytes.
 fn silence(alloc: Global, starts_at: i64, len: usize) -> Result<Silence, AllocError> {
     let comment = text_of(alloc, len)?;
     let matchers = job_is_x(alloc)?;
@@ -143,7 +143,7 @@ fn held(alloc: Global, len: usize) -> Result<MeshSilence, SilenceError> {
     MeshSilence::new(alloc, silence, at(200, 0)).map_err(of_wire)
 }
 
-// A map of that version alone.
+// Returns a map of only that version.
 fn map(alloc: Global, len: usize) -> Result<Held<MeshSilence>, SilenceError> {
     let version = held(alloc, len)?;
     let mut map = Held::new(alloc);
@@ -151,7 +151,7 @@ fn map(alloc: Global, len: usize) -> Result<Held<MeshSilence>, SilenceError> {
     Ok(map)
 }
 
-// (where the row is refused, nothing of it is written)
+// (if the row is refused, nothing of it is written)
 fn length_saved(alloc: Global, len: usize) -> Length {
     let map = map(alloc, len)?;
     let mut out = Vec::new(alloc);
@@ -161,7 +161,7 @@ fn length_saved(alloc: Global, len: usize) -> Length {
     }
 }
 
-// What is posted under the identifier of a silence: its matchers, its moments and its words.
+// Returns the post of a silence under its identifier: its matchers, its moments and its words.
 fn posted(alloc: Global, starts_at: i64, len: usize) -> Result<Posted, AllocError> {
     let silence = silence(alloc, starts_at, len)?;
     Ok(Posted {
@@ -174,8 +174,8 @@ fn posted(alloc: Global, starts_at: i64, len: usize) -> Result<Posted, AllocErro
     })
 }
 
-// What a post makes over a held silence: the length of the comment that is held, and the start of the post and the length
-// of its comment.
+// Returns the length of what a post makes over a held silence, from the length of the comment that is held, the start of the
+// post, and the length of its comment.
 fn length_posted(
     alloc: Global,
     made: Made,
@@ -218,10 +218,10 @@ fn length_ended(alloc: Global, len: usize, now: Moment) -> Length {
     Ok(ended.canonical().len())
 }
 
-/// Whether a silence is refused as too large; how many frames are to be sent, and how many are over their limit.
+/// The refusal of a silence as too large, the number of frames to be sent, and the number of those over their limit.
 type Answered = (bool, usize, usize);
 
-// What a member answers that is to end the silence 1 ns after 20 s.
+// Returns the answer of a member that is to end the silence 1 ns after 20 s.
 fn answered(alloc: Global, member: &mut Instance) -> Option<Answered> {
     let id = Text::copied(alloc, "a").ok()?;
     let event = Event::Request(Request::Delete { id });
@@ -230,14 +230,14 @@ fn answered(alloc: Global, member: &mut Instance) -> Option<Answered> {
     Some((is_refused, outcome.frames.len(), outcome.unsent.limit))
 }
 
-// The same of a member that holds that version alone.
+// Returns the answer of a member that holds only that version.
 fn answered_by(alloc: Global, len: usize) -> Option<Answered> {
     let map = map(alloc, len).ok()?;
     let mut member = Instance::start(config(alloc)?, map, Held::new(alloc), at(10, 0));
     answered(alloc, &mut member)
 }
 
-// A version of the most bytes is made, and is too large for a Delta to either peer; with a byte more none is made.
+// A version of the maximum size is made, and is too large for a Delta to either peer; with one byte more none is made.
 #[test]
 fn a_member_makes_no_version_of_a_byte_more(rt: HostRuntime) {
     for (len, wanted) in [(MOST - 45, (false, 0, 2)), (MOST - 44, (true, 0, 0))] {
@@ -245,7 +245,7 @@ fn a_member_makes_no_version_of_a_byte_more(rt: HostRuntime) {
     }
 }
 
-// The entry of a group key of so many `g`, and the receiver `r`, `w`, 0: at 10 s, with 1 and 2 firing.
+// Returns the entry of a group key of `len` letters `g` and the receiver `r`, `w`, 0, at 10 s, with 1 and 2 firing.
 fn entry(alloc: Global, len: usize) -> Result<Entry, AllocError> {
     let group_key = vec![in alloc; b'g'; len]?;
     let key = LogKey::of_parts(alloc, group_key.as_slice(), "r", "w", 0)?;
@@ -266,7 +266,7 @@ fn length_of_entry(alloc: Global, len: usize) -> Result<usize, WireError> {
     Ok(version.canonical().len())
 }
 
-/// The length of a row of 67,108,866 bytes, of which an input has as many as it may have, or one more.
+/// The length of a row of 67,108,866 bytes, of which an input has the maximum that it may have, or one more.
 const TOO_LONG: [u8; 4] = [0xFE, 0xFF, 0xFF, 0x1F];
 
 #[test]

@@ -9,7 +9,7 @@ use std::net::{TcpListener, TcpStream};
 /// A request for all silences.
 const LIST: &[u8] = b"GET /api/v2/silences HTTP/1.1\r\n\r\n";
 
-// What comes of a peer that writes, and closes its connection.
+// Returns the outcome of a peer that writes, and closes its connection.
 fn of_peer(rt: &HostRuntime, listener: &TcpListener, instance: &mut Instance) -> io::Result<Ended> {
     let mut peer = TcpStream::connect(rt, listener.local_addr()?)?;
     peer.write_all(PEER)?;
@@ -17,7 +17,7 @@ fn of_peer(rt: &HostRuntime, listener: &TcpListener, instance: &mut Instance) ->
     turn(rt.alloc(), listener, instance, 0, at(11))
 }
 
-// What a client reads that closes its connection behind the reply.
+// Returns what a client reads whose connection is closed after the reply.
 fn of_client(
     rt: &HostRuntime,
     listener: &TcpListener,
@@ -31,7 +31,7 @@ fn of_client(
     Ok(reply)
 }
 
-// How many frames the peer's Delta sends, and whether the silence that it brought is listed then.
+// Returns how many frames the peer's Delta sends, and whether the silence that it brought is then listed.
 fn lists(rt: &HostRuntime) -> Option<(usize, bool)> {
     let mut instance = instance(rt.alloc())?;
     let listener = TcpListener::bind(rt, "127.0.0.1:0").ok()?;

@@ -1,4 +1,4 @@
-//! The program: plays a schedule, does the commands over snapshots and rows, runs a member.
+//! The program: it plays a schedule, runs the commands over snapshots and rows, or runs a member.
 #![tactic(auto)]
 
 mod refusal;
@@ -9,7 +9,7 @@ use am_jobs::Job;
 use am_player::run_replay;
 use std::process::ExitCode;
 
-/// Does what the words ask for, and answers the exit status of the program.
+/// Does the job that the words ask for, and returns the exit status of the program.
 fn run<'a>(rt: &'a HostRuntime, job: Job<'a>) -> u8 {
     match job {
         Job::Replay(file) => run_replay(rt, &mut rt.stdin(), &mut rt.stdout(), file),
@@ -23,7 +23,7 @@ fn run<'a>(rt: &'a HostRuntime, job: Job<'a>) -> u8 {
     }
 }
 
-/// The standard streams of the process.
+/// Returns the standard streams of the process.
 fn streams_of(rt: &HostRuntime) -> Streams {
     Streams {
         input: rt.stdin(),
@@ -39,7 +39,7 @@ fn main(rt: HostRuntime) -> ExitCode {
     ExitCode::from(status)
 }
 
-/// Does what the words ask for, or says why there is nothing to be done, and answers the exit status of the program.
+/// Does what the words ask for, or says why there is nothing to do, and returns the exit status of the program.
 fn start<'a>(rt: &'a HostRuntime, words: &'a [String]) -> u8 {
     match job_of(rt, words) {
         Ok(job) => run(rt, job),

@@ -1,4 +1,4 @@
-//! What is printed where the words of the command line give no job.
+//! The texts that are printed if the words of the command line give no job.
 
 use am_command_line::WordsError;
 use am_faults::{Fault, report, status};
@@ -7,8 +7,8 @@ use am_streams::send;
 use clap::error::ErrorKind;
 use std::alloc::AllocError;
 
-/// Prints why there is no job: a help text and the version on standard output, all else on standard error. Answers the exit
-/// status of the program.
+/// Prints why there is no job: a help text or the version on standard output, everything else on standard error. Returns the
+/// exit status of the program.
 pub fn refuse(rt: &HostRuntime, error: &WordsError) -> u8 {
     match error {
         WordsError::NotUtf8 => {
@@ -25,12 +25,12 @@ pub fn refuse(rt: &HostRuntime, error: &WordsError) -> u8 {
     }
 }
 
-/// Whether a text was asked for: a help text, or the version.
+/// Returns whether a text was asked for, which is a help text or the version.
 fn is_asked_for(kind: ErrorKind) -> bool {
     matches!(kind, ErrorKind::DisplayHelp | ErrorKind::DisplayVersion)
 }
 
-/// Prints a text that was asked for on standard output.
+/// Prints a text that was asked for on standard output, and returns the exit status of the program.
 fn print_help(rt: &HostRuntime, help: &clap::Error) -> u8 {
     let Ok(text) = help.to_string(rt.alloc()) else {
         return report(rt, Fault::Memory(AllocError));

@@ -1,4 +1,5 @@
-//! The files of a member that keeps logs, written anew while it serves: a stage in a turn of the loop, one file at a time.
+//! Compaction of the files of a member that keeps logs: they are written anew while it serves, a stage in a turn of the loop, one
+//! file at a time.
 
 use crate::upkeep::{Upkeep, sooner};
 use am_disk::FileFault;
@@ -12,18 +13,18 @@ use std::mem;
 use std::rt::{Clock, Files};
 use std::time::{Duration, Instant};
 
-/// After how many milliseconds a file is begun again at the earliest, where it wasn't written anew.
+/// The least time in milliseconds after which a compaction that failed is begun again.
 const AGAIN_AFTER: u64 = 1_000;
 
-/// Whether a file is to be written anew.
+/// The wish to write a file anew, and the time from which that may begin.
 #[derive(Clone, Copy)]
 struct Want {
     is_wanted: bool,
-    /// Before this it isn't begun, since that failed.
+    /// The moment before which it isn't begun, since it failed.
     not_before: Option<Instant>,
 }
 
-/// What is written anew now.
+/// The file that is being written anew.
 #[derive(Drop)]
 enum Work {
     Nothing,
@@ -31,7 +32,7 @@ enum Work {
     Log(Compaction<LogKey>),
 }
 
-/// Which files are to be written anew, and which one is.
+/// The files that are to be written anew, and the one that is.
 #[derive(Drop)]
 pub struct Compacting {
     silences: Want,
@@ -40,7 +41,7 @@ pub struct Compacting {
 }
 
 impl Want {
-    /// It isn't wanted.
+    /// Returns a file that isn't to be written anew.
     fn none() -> Want {
         Want {
             is_wanted: false,
@@ -48,7 +49,7 @@ impl Want {
         }
     }
 
-    /// How long it is until it is to be begun, where it is wanted.
+    /// Returns the time until the file is to be begun, if it is wanted.
     fn left(&self, now: Instant) -> Option<Duration> {
         if !self.is_wanted {
             return None;
@@ -59,7 +60,7 @@ impl Want {
         }
     }
 
-    /// Whether it is to be begun. Then it is wanted no more.
+    /// Returns whether the file is to be begun. If so, it is no longer wanted.
     fn begins(&mut self, now: Instant) -> bool {
         let begins = self.left(now) == Some(Duration::ZERO);
         if begins {
@@ -68,7 +69,7 @@ impl Want {
         begins
     }
 
-    /// It failed: it is wanted again, and not before a second is over.
+    /// Notes that it failed: it is wanted again, but not before a second is over.
     fn fails(&mut self, now: Instant) {
         self.is_wanted = true;
         self.not_before = now.checked_add(Duration::from_millis(AGAIN_AFTER));
@@ -76,7 +77,7 @@ impl Want {
 }
 
 impl Compacting {
-    /// Nothing is written anew, or wanted.
+    /// Returns a state in which no file is written anew, or wanted.
     pub fn new() -> Compacting {
         Compacting {
             silences: Want::none(),
@@ -85,12 +86,12 @@ impl Compacting {
         }
     }
 
-    /// This is written anew from now on.
+    /// Sets the file that is written anew from now on.
     fn go_on(&mut self, work: Work) {
         self.work = work;
     }
 
-    /// How long it is until something is to be done.
+    /// Returns the time until something is to be done.
     pub(crate) fn left(&self, now: Instant) -> Option<Duration> {
         match self.work {
             Work::Nothing => sooner(self.silences.left(now), self.log.left(now)),
@@ -115,7 +116,7 @@ impl<R> Upkeep<'_, R> {
 }
 
 impl<R: Files + AllocGlobal> Upkeep<'_, R> {
-    /// No file is written anew any more, since both are saved.
+    /// Gives up writing files anew, since both are saved.
     pub(crate) fn give_up_compaction(&mut self) {
         match self.compacting.work {
             Work::Nothing => {}
@@ -143,7 +144,7 @@ impl<R: Clock + Eprint> Upkeep<'_, R> {
         self.fail(config, Fault::Log(fault), is_trusted);
     }
 
-    /// Tells why a file isn't written anew. Where its log isn't trusted any more, that lacks what comes.
+    /// Tells why a file isn't written anew. If its log isn't trusted any more, the log lacks what comes.
     fn fail(&mut self, config: &Config, fault: Fault, is_trusted: bool) {
         self.is_changed = true;
         self.tell(config, fault);
@@ -154,7 +155,7 @@ impl<R: Clock + Eprint> Upkeep<'_, R> {
 }
 
 impl<R: AllocGlobal + Clock + Eprint + Files<File = File>> Upkeep<'_, R> {
-    /// Does a stage of what is written anew.
+    /// Does the next stage of the file that is being written anew.
     pub(crate) fn compact_on(&mut self, instance: &Instance, now: Instant) {
         match mem::replace(&mut self.compacting.work, Work::Nothing) {
             Work::Nothing => self.begin_compaction(instance, now),

@@ -1,4 +1,4 @@
-//! What a member counts of frames, links and saves.
+//! The counts of frames, links and saves.
 
 use crate::upkeep::Upkeep;
 use am_figures::{Cause, Figures, Kind, Step};
@@ -8,7 +8,7 @@ use am_reactor::LinkFault;
 use std::rt::Clock;
 use std::time::{Duration, Instant};
 
-/// What a frame is counted as.
+/// Returns the kind that a frame is counted as.
 fn kind_of_frame(frame: &Frame) -> Kind {
     match frame {
         Frame::Delta(_) => Kind::Update,
@@ -17,7 +17,7 @@ fn kind_of_frame(frame: &Frame) -> Kind {
     }
 }
 
-/// The step that a frame is taken by, where it is one.
+/// Returns the step by which a frame is taken, if there is one.
 fn step_of_frame(frame: &Frame) -> Option<Step> {
     match frame {
         Frame::Delta(_) => Some(Step::Delta),
@@ -26,18 +26,20 @@ fn step_of_frame(frame: &Frame) -> Option<Step> {
     }
 }
 
-/// What a fault of a link is counted as.
+/// Returns the cause that a fault of a link is counted as.
 pub fn cause_of(fault: LinkFault) -> Cause {
     match fault {
         LinkFault::Connect(_) | LinkFault::NoPeer => Cause::Connect,
-        LinkFault::Write { .. } | LinkFault::Read { .. } => Cause::Write,
+        LinkFault::Write { .. } | LinkFault::Read { .. } | LinkFault::Unanswered { .. } => {
+            Cause::Write
+        }
         LinkFault::Time { .. } => Cause::Time,
         LinkFault::Full | LinkFault::TooLong => Cause::Full,
         LinkFault::Memory => Cause::Memory,
     }
 }
 
-/// What the clock says, as the time since 1970; 0 where it can't be read.
+/// Returns what the clock says, as the time since 1970, or 0 if it can't be read.
 pub fn since_1970<C: Clock>(clock: &C) -> Duration {
     clock.since_1970().unwrap_or(Duration::ZERO)
 }

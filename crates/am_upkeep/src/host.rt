@@ -1,4 +1,4 @@
-//! What a member takes of the system.
+//! The parts of the system that a member uses.
 
 use std::fs::File;
 use std::io::Input;

@@ -1,6 +1,6 @@
-//! What is asked of who keeps what a member holds.
+//! The keeper of what a member holds, as those who make its steps see it.
 
-ghost use Rattle.std.specs.Prelude.{◌≡◌, ◌≤◌, ℕ, Result};
+ghost use Rattle.std.specs.Prelude.{◌≡◌, ◌≤◌, IfSome, Result};
 ghost use Rattle.am_instance.specs.OneStep.{IsStep};
 ghost use Rattle.am_instance.specs.declared.event.Event.TheVariants as events;
 ghost use Rattle.am_instance.specs.declared.reply.Outcome.{Outcome};
@@ -16,8 +16,9 @@ use am_figures::{Figures, Step};
 use am_gossip::Frame;
 use am_instance::{Config, Event, FrameSender, Instance, Place};
 use am_jobs::Options;
-use am_lines::{Told, signals};
+use am_lines::{TickVerdict, Told, signals};
 use am_peers::{Fault as ConnectionFault, Parted, split_by_peer};
+use am_seal::Sequence;
 use am_self::Process;
 use am_version_order::Moment;
 use std::fs::File;
@@ -25,81 +26,88 @@ use std::mem;
 use std::rt::{Clock, Files};
 use std::time::{Duration, Instant};
 
-/// By how many bytes a silence may grow where it ends.
+/// The most bytes by which a silence grows when it ends.
 const FOR_AN_END: u64 = 64;
 
-/// By how many bytes so many silences and one more may grow where they end.
+/// Returns the most bytes by which this many silences and one more may grow when they end.
 fn bytes_for_ends(silences: usize) -> u64 {
     FOR_AN_END.saturating_mul((silences as u64).saturating_add(1))
 }
 
-/// Who keeps what a member holds: its files and logs, the lines that it prints, what it counts, and the frames that wait for
-/// peers. Who makes the steps of a member goes by this alone.
+/// A keeper of what a member holds: its files and logs, the lines that it prints, what it counts, and the frames that wait for
+/// peers. Whoever makes the steps of a member relies on this trait alone.
 pub trait Keeper {
-    /// What is to be on the disk, and whether it is.
+    /// The state of what is to be on the disk.
     ghost keeping_of: { Self → KeepingState };
 
-    /// What the member was told at its start.
+    /// Returns the options that the member was started with.
     fn options(&self) -> &Options<'_>;
 
-    /// What the clock says that only runs on, where it can be read.
+    /// Returns the moment of the monotonic clock, if it can be read.
     fn now(&self) -> Option<Instant>;
 
-    /// What the clock says, as the time since 1970; 0 where it can't be read.
+    /// Returns what the clock says, as the time since 1970, or 0 if it can't be read.
     fn since_1970(&self) -> Duration;
 
-    /// The moment of the next event, where this is that of the last one.
+    /// Returns the moment of the next event; `last` is that of the last one.
     fn next_moment(&self, last: Moment) -> Moment
         ensures { last ≤ result };
 
-    /// Whether the process is told to end.
+    /// Returns whether the process is told to end.
     fn is_told_to_end(&self) -> bool;
 
-    /// What the system tells of the process.
+    /// Returns the resources that the process takes.
     fn process(&self) -> Process;
 
-    /// What is counted.
+    /// Returns the figures, for counting.
     fn figures(&mut self) -> &mut Figures;
 
-    /// What was counted.
+    /// Returns the figures.
     fn counted(&self) -> &Figures;
 
-    /// What is to be on the disk, and whether it is.
+    /// Returns the state of what is to be on the disk.
     fn keeping(&self) -> Keeping
         ensures { result ≡ keeping_of self.now };
 
-    /// Something comes that may change what is held, and brings so many bytes for the silences and for the log at the most.
+    /// Notes that something comes that may change what is held, with at most this many bytes for the silences and for the log.
     fn take(&mut self, silences: u64, log: u64, is_change: bool);
 
-    /// Whether there is room for so many bytes of a post, and for the ends of all silences. Where it doesn't look so, the
-    /// silences are counted anew, once a second.
+    /// Returns whether there is room for `post` bytes of a post, and for the ends of all silences. If there doesn't seem to be,
+    /// the silences are counted anew, once a second.
     fn has_room_for_post(&mut self, instance: &Instance, post: u64) -> bool;
 
-    /// Whether the log has room for so many bytes of a notice. Where it doesn't look so, it is counted anew, once a second.
+    /// Returns whether the log has room for `notice` bytes of a notice. If it doesn't seem to, it is counted anew, once a second.
     fn has_room_for_notice(&mut self, instance: &Instance, notice: u64) -> bool;
 
-    /// Drops what has expired, and saves both states.
-    fn tick(&mut self, instance: &mut Instance)
-        ensures { (now : ℕ) × (answer : Result Outcome StepError) × IsStep instance.old events.Tick now answer instance.new };
+    /// Returns the moment of a Tick after the last event, unless that is too far ahead of the time that has passed, and the clock
+    /// isn't trusted.
+    fn moment_of_tick(&self, last: Moment) -> Option<Moment>
+        ensures { IfSome result (λ moment. last ≤ moment) };
 
-    /// Saves both states, where something may have changed since the last save: when that is due, and at the start, where a log
+    /// Drops what has expired at a moment, and saves both states.
+    fn tick(&mut self, instance: &mut Instance, moment: Moment)
+        ensures { (answer : Result Outcome StepError) × IsStep instance.old events.Tick moment answer instance.new };
+
+    /// Saves both states, if something may have changed since the last save: when a save is due, and at the start, if a log
     /// stands that is to go. Without logs that is before anything comes: what ended a version that such a log has would be in no
     /// log, and could have gone before the log does.
     fn save_owed(&mut self, instance: &Instance);
 
-    /// Makes sure of what was done so far: it is in the logs, or, where they lack something, in the files.
+    /// Makes sure of what was done so far: it is in the logs or, if they lack something, in the files.
     fn keep(&mut self, instance: &Instance);
 
-    /// Does a stage of what is written anew, if the logs lack nothing, and answers how long it is until the next one.
+    /// Does the next stage of the file that is being written anew, if the logs lack nothing, and returns the time until the next
+    /// one.
     fn compact(&mut self, instance: &Instance, now: Instant) -> Option<Duration>;
 
-    /// Tells where the clock is behind the moment of the last event, and where it is no more.
+    /// Tells that the clock is behind the moment of the last event, and that it no longer is; and that it went far ahead, unless
+    /// it is trusted.
     fn look_at_clock(&mut self, instance: &Instance, now: Instant);
 
-    /// Whether there is room for a line.
+    /// Returns whether there is room for a line.
     fn has_room_for_line(&mut self) -> bool;
 
-    /// Prints how many bytes were cut off from the logs, where some were.
+    /// Prints how many bytes were cut off from the logs, if any were.
     fn tell_torn(&mut self, config: &Config);
 
     /// Prints a fault that is about a peer, if its place is known.
@@ -108,10 +116,10 @@ pub trait Keeper {
     /// Prints how many lines were left out of each kind for which that is due.
     fn settle_due_lines(&mut self, config: &Config, now: Instant);
 
-    /// How long it is until that is due for a kind.
+    /// Returns the time until that is due for a kind.
     fn lines_left(&self, now: Instant) -> Option<Duration>;
 
-    /// What follows the steps of a connection, perhaps of a peer, and why no more is heard of it.
+    /// Follows up the steps of a connection, perhaps of a peer: sends their frames, and tells why no more is heard of it.
     fn follow(
         &mut self,
         config: &Config,
@@ -120,17 +128,27 @@ pub trait Keeper {
         fault: Option<ConnectionFault>,
     );
 
-    /// Whether no frame waits.
+    /// Returns whether no frame waits.
     fn sends_nothing(&self) -> bool;
 
-    /// The frames that wait for the peer of the first of them, and its place.
+    /// Takes out the frames that wait for the peer of the first of them, with its place.
     fn next_frames(&mut self, config: &Config) -> Option<(Place, Vec<Frame>)>;
 
-    /// The text of frames for a peer. Where there is none, they are told unsent.
-    fn text_of(&mut self, config: &Config, peer: Place, frames: &[Frame]) -> Option<Vec<u8>>;
+    /// Returns whether members have a secret, so that frames go out sealed.
+    fn is_sealed(&self) -> bool;
 
-    /// Saves both states, now that nobody is served any more, be it since the listener failed. Answers the fault with which it
-    /// ends: that of the listener, or else why a state isn't saved, which is told.
+    /// Returns the text of frames for a peer, sealed from a place in its connection on if members have a secret. If there is
+    /// none, the frames are told unsent.
+    fn text_of(
+        &mut self,
+        config: &Config,
+        peer: Place,
+        from: Option<Sequence>,
+        frames: &[Frame],
+    ) -> Option<Vec<u8>>;
+
+    /// Saves both states, now that nobody is served any more, be it because the listener failed. Returns the fault with which the
+    /// member ends: that of the listener, or else the reason why a state isn't saved, which is told.
     fn end(&mut self, instance: &Instance, failed: Option<Fault>) -> Option<Fault>;
 }
 
@@ -189,8 +207,20 @@ impl<R: AllocGlobal + Clock + Eprint + Files<File = File>> Keeper for Upkeep<'_,
         self.log_room.makes(self.rt, instance.log(), notice)
     }
 
-    fn tick(&mut self, instance: &mut Instance) {
-        if self.step(instance, Event::Tick) {
+    fn moment_of_tick(&self, last: Moment) -> Option<Moment> {
+        let moment = self.next_moment(last);
+        if self.options.trusts_clock {
+            return Some(moment);
+        }
+        let now = self.now()?;
+        match self.advance.judge(moment, now) {
+            TickVerdict::Made => Some(moment),
+            TickVerdict::HeldBack => None,
+        }
+    }
+
+    fn tick(&mut self, instance: &mut Instance, moment: Moment) {
+        if self.step(instance, Event::Tick, moment) {
             self.figures.step(Step::Tick, 1);
             self.save_in_turn(instance);
         }
@@ -233,6 +263,7 @@ impl<R: AllocGlobal + Clock + Eprint + Files<File = File>> Keeper for Upkeep<'_,
         if let Some(fault) = self.watch.look(since_1970, instance.last(), now) {
             self.tell(instance.config(), fault);
         }
+        self.look_far(instance, since_1970);
     }
 
     fn has_room_for_line(&mut self) -> bool {
@@ -293,8 +324,18 @@ impl<R: AllocGlobal + Clock + Eprint + Files<File = File>> Keeper for Upkeep<'_,
         Some((place, own))
     }
 
-    fn text_of(&mut self, config: &Config, peer: Place, frames: &[Frame]) -> Option<Vec<u8>> {
-        match self.bytes_for(config, peer, frames) {
+    fn is_sealed(&self) -> bool {
+        self.lock.is_some()
+    }
+
+    fn text_of(
+        &mut self,
+        config: &Config,
+        peer: Place,
+        from: Option<Sequence>,
+        frames: &[Frame],
+    ) -> Option<Vec<u8>> {
+        match self.bytes_for(config, peer, from, frames) {
             Some(bytes) => {
                 count_handed(&mut self.figures, peer, frames);
                 Some(bytes)

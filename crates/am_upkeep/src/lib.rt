@@ -1,5 +1,5 @@
-//! What a member does with what it holds: steps of its own, its files and logs, the lines that it prints, what it counts, and the
-//! frames that wait for peers.
+//! The upkeep of what a member holds: the member's own steps, its files and logs, the lines that it prints, what it counts, and
+//! the frames that wait for peers.
 #![tactic(auto)]
 
 mod compaction;

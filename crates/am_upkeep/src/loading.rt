@@ -1,4 +1,4 @@
-//! What a member holds at its start.
+//! Loading of what a member holds at its start.
 
 use crate::compaction::Compacting;
 use crate::counting::since_1970;
@@ -11,7 +11,7 @@ use am_figures::Figures;
 use am_files::{OpenedState, StateFile, open_state};
 use am_instance::{Config, ConfigError, Instance};
 use am_jobs::Options;
-use am_lines::{Lines, Watch};
+use am_lines::{Advance, Lines, Watch};
 use am_nflog::MeshEntry;
 use am_peers::{Peer, name_beside, next_moment};
 use am_seal::{Lock, Secret, read_secret};
@@ -22,8 +22,9 @@ use std::alloc::{AllocError, Global};
 use std::fs::File;
 use std::net::Net;
 use std::rt::{Clock, Files};
+use std::time::Duration;
 
-/// What a member holds, and the files that hold it.
+/// The instance of a member, and the files that hold its states.
 #[derive(Drop)]
 struct Loaded {
     instance: Instance,
@@ -31,12 +32,12 @@ struct Loaded {
     log: StateFile,
 }
 
-/// Whether the member or one of its peers has a name.
+/// Returns whether the member or one of its peers has a name.
 fn is_named(options: &Options<'_>, name: &str) -> bool {
     options.name == name || options.peers.iter().any(|peer| peer.name == name)
 }
 
-/// Whether each Alertmanager beside it has a name, which is none of a member.
+/// Checks that each Alertmanager beside the member has a name, and not one of a member.
 fn check_replicas(options: &Options<'_>) -> Result<(), ConfigError> {
     for replica in &options.replicas {
         if replica.name.is_empty() {
@@ -49,7 +50,7 @@ fn check_replicas(options: &Options<'_>) -> Result<(), ConfigError> {
     Ok(())
 }
 
-/// The names of the members, and how long things are kept.
+/// Returns the names of the members, and how long things are kept.
 ///
 /// # Errors
 ///
@@ -63,10 +64,14 @@ pub fn config_of(alloc: Global, options: &Options<'_>) -> Result<Config, Fault> 
         return Err(Fault::Config(ConfigError::Memory));
     };
     let config = Config::new(alloc, name, peers, options.retention, options.peer_timeout)?;
-    Ok(config.with_dialect(options.dialect))
+    Ok(
+        config
+            .with_dialect(options.dialect)
+            .with_unknown(options.unknown),
+    )
 }
 
-/// The names of peers, and behind them those of Alertmanagers beside it, and of the disk where logs are kept.
+/// Returns the names of peers, followed by those of the Alertmanagers beside the member, and that of the disk if logs are kept.
 fn names(alloc: Global, options: &Options<'_>) -> Result<Vec<Text>, AllocError> {
     let mut names = peer_names(alloc, &options.peers)?;
     for replica in &options.replicas {
@@ -78,7 +83,7 @@ fn names(alloc: Global, options: &Options<'_>) -> Result<Vec<Text>, AllocError> 
     Ok(names)
 }
 
-/// The names of peers.
+/// Returns the names of peers.
 fn peer_names(alloc: Global, peers: &[Peer<'_>]) -> Result<Vec<Text>, AllocError> {
     let mut names = Vec::with_capacity(alloc, peers.len())?;
     for peer in peers {
@@ -87,18 +92,19 @@ fn peer_names(alloc: Global, peers: &[Peer<'_>]) -> Result<Vec<Text>, AllocError
     Ok(names)
 }
 
-/// The instance that holds what its files hold, and the files of the silences and of the log.
+/// Loads the instance from the files of the silences and of the log, and returns it with them.
 fn load<R: AllocGlobal + Clock + Files<File = File>>(
     rt: &R,
     config: Config,
     options: &Options<'_>,
 ) -> Result<Loaded, Fault> {
+    let unknown = config.unknown();
     let most = options.most_bytes;
-    let silences = match open_state(rt, options.silences, most, options.keeps_log) {
+    let silences = match open_state(rt, unknown, options.silences, most, options.keeps_log) {
         Ok(opened) => opened,
         Err(fault) => return Err(Fault::Silences(fault)),
     };
-    let log = match open_state(rt, options.log, most, options.keeps_log) {
+    let log = match open_state(rt, unknown, options.log, most, options.keeps_log) {
         Ok(opened) => opened,
         Err(fault) => return Err(Fault::Log(fault)),
     };
@@ -106,7 +112,7 @@ fn load<R: AllocGlobal + Clock + Files<File = File>>(
     Ok(loaded_of(config, silences, log, now))
 }
 
-/// An instance that starts with what was opened, and its files.
+/// Returns the instance that starts with what was opened, and its files.
 fn loaded_of(
     config: Config,
     silences: OpenedState<MeshSilence>,
@@ -125,7 +131,7 @@ fn loaded_of(
     }
 }
 
-/// The secret of the members, where they have one. It is told where others may read it.
+/// Reads the secret of the members, if they have one. Warns if others may read it.
 ///
 /// # Errors
 ///
@@ -147,7 +153,7 @@ pub fn secret_of<R: Host>(rt: &R, options: &Options<'_>) -> Result<Option<Secret
     }
 }
 
-/// What a member prints by and counts by, before anything comes.
+/// Returns the empty figures and lines of a member, before anything comes.
 fn empty<R: AllocGlobal + Clock + Net>(
     rt: &R,
     config: &Config,
@@ -158,8 +164,8 @@ fn empty<R: AllocGlobal + Clock + Net>(
     Ok((figures, lines))
 }
 
-/// The instance that was loaded, and the upkeep of it.
-fn upkeep_of<'a, R: AllocGlobal>(
+/// Returns the instance that was loaded, and its upkeep.
+fn upkeep_of<'a, R: AllocGlobal + Clock>(
     rt: &'a R,
     options: &'a Options<'a>,
     lock: Option<Lock<'a>>,
@@ -189,6 +195,7 @@ fn upkeep_of<'a, R: AllocGlobal>(
         queue: Vec::new(rt.alloc()),
         lines,
         watch: Watch::new(),
+        advance: Advance::begin(rt, Duration::from_secs(options.retention_seconds)),
         figures,
         is_changed,
     };
@@ -196,7 +203,7 @@ fn upkeep_of<'a, R: AllocGlobal>(
 }
 
 impl<'a, R: Host> Upkeep<'a, R> {
-    /// An instance that holds what its files hold, and the upkeep of it.
+    /// Loads the instance from its files, and returns it with its upkeep.
     ///
     /// # Errors
     ///

@@ -1,6 +1,6 @@
-//! What a member has taken, on the disk before it is answered.
+//! The log of what a member has taken, on the disk before it is answered.
 //!
-//! The disk is told as a peer is: it has a name of its own, behind those of all members, so each version that changes a map is
+//! The disk is told as a peer is: it has a name of its own, after those of all members, so each version that changes a map is
 //! sent to it too, and what is sent to it goes into the logs.
 
 use crate::upkeep::Upkeep;
@@ -11,7 +11,7 @@ use am_peers::{Parted, split_by_peer};
 use std::rt::Clock;
 
 impl<R: Clock + Eprint> Upkeep<'_, R> {
-    /// Tells why the logs lack something, where they do.
+    /// Tells why the logs lack something, if they do.
     pub(crate) fn tell_behind(&mut self, config: &Config, fault: Option<Fault>) {
         if let Some(fault) = fault {
             self.keeping.lose();
@@ -21,7 +21,7 @@ impl<R: Clock + Eprint> Upkeep<'_, R> {
 }
 
 impl<R: AllocGlobal + Clock + Eprint> Upkeep<'_, R> {
-    /// Puts what goes to the disk into the logs, and gives what goes to peers.
+    /// Puts the frames for the disk into the logs, and returns those for peers.
     pub(crate) fn log_frames(
         &mut self,
         config: &Config,
@@ -51,7 +51,7 @@ impl<R: AllocGlobal + Clock + Eprint> Upkeep<'_, R> {
         }
     }
 
-    /// Puts rows into the log of their state. Where that fails, it is told, and the logs lack something.
+    /// Puts rows into the log of their state. If that fails, it is told, and the logs lack something.
     fn log_part(&mut self, config: &Config, part: &Part) {
         let alloc = self.rt.alloc();
         let rows = part.bytes.as_slice();

@@ -1,4 +1,4 @@
-//! How much room is left for a state.
+//! The room that is left for a state.
 
 use am_merge::Held;
 use am_snapshot::row_length_within;
@@ -6,23 +6,23 @@ use am_version_order::Version;
 use std::rt::Clock;
 use std::time::{Duration, Instant};
 
-/// After how many milliseconds the row is counted anew at the earliest.
+/// The least time in milliseconds between two counts of the row.
 const COUNT_EVERY: u64 = 1_000;
 
-/// How many bytes the row of a state may have, and how many it has at the most.
+/// The most bytes that the row of a state may have, and the most that it can have now.
 #[derive(Clone, Copy)]
 pub struct Room {
     most: u32,
-    /// How many bytes it had when it was last counted.
+    /// The number of bytes that the row had when it was last counted.
     counted: u64,
-    /// How many bytes have come since: it has grown by no more.
+    /// The number of bytes that have come since: the row has grown by no more.
     come: u64,
-    /// Before this it isn't counted anew.
+    /// The moment before which the row isn't counted anew.
     next_count: Option<Instant>,
 }
 
 impl Room {
-    /// For a state that holds these, whose row may have so many bytes.
+    /// Returns the room of a state that holds these versions, whose row may have at most `most` bytes.
     pub fn of<V: Version>(held: &Held<V>, most: u32) -> Room {
         let mut room = Room {
             most,
@@ -34,29 +34,30 @@ impl Room {
         room
     }
 
-    /// Counts the row, which takes no memory.
+    /// Counts the row. Takes no memory.
     pub fn count<V: Version>(&mut self, held: &Held<V>) {
         self.is_counted(row_length_within(held, self.most).unwrap_or(u64::MAX));
     }
 
-    /// The row has so many bytes.
+    /// Notes that the row has this many bytes.
     pub fn is_counted(&mut self, bytes: u64) {
         self.counted = bytes;
         self.come = 0;
     }
 
-    /// So many bytes came.
+    /// Notes that this many bytes came.
     pub fn add(&mut self, bytes: u64) {
         self.come = self.come.saturating_add(bytes);
     }
 
-    /// Whether there is room for so many bytes more.
+    /// Returns whether there is room for this many more bytes.
     pub fn holds(&self, bytes: u64) -> bool {
         let had = self.counted.saturating_add(self.come);
         had.saturating_add(bytes) <= u64::from(self.most)
     }
 
-    /// Whether there is room for so many bytes more. Where it doesn't look so, the row is counted anew, once a second.
+    /// Returns whether there is room for this many more bytes. If there doesn't seem to be, the row is counted anew, once a
+    /// second.
     pub fn makes<R: Clock, V: Version>(&mut self, rt: &R, held: &Held<V>, bytes: u64) -> bool {
         if self.holds(bytes) {
             return true;
@@ -69,7 +70,7 @@ impl Room {
         self.holds(bytes)
     }
 
-    /// Whether the row may be counted anew. If so, it may not again before a second is over.
+    /// Returns whether the row may be counted anew. If so, it may not again before a second is over.
     pub fn is_count_due(&mut self, now: Instant) -> bool {
         if let Some(next) = self.next_count
             && now < next

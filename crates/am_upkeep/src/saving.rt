@@ -7,7 +7,7 @@ use std::fs::File;
 use std::rt::{Clock, Files};
 use std::time::Instant;
 
-/// The first of two faults, where there is one.
+/// Returns the first of two faults, if there is one.
 pub(crate) fn first_of(one: Option<Fault>, other: Option<Fault>) -> Option<Fault> {
     match one {
         Some(fault) => Some(fault),
@@ -16,7 +16,7 @@ pub(crate) fn first_of(one: Option<Fault>, other: Option<Fault>) -> Option<Fault
 }
 
 impl<R: AllocGlobal + Clock + Eprint + Files<File = File>> Upkeep<'_, R> {
-    /// Saves the silences, and then the log, while everybody waits. Answers the first fault; each is told.
+    /// Saves the silences, and then the log, while everybody waits. Returns the first fault; each is told.
     pub(crate) fn save(&mut self, instance: &Instance) -> Option<Fault> {
         self.give_up_compaction();
         self.count_save_begun(true);
@@ -32,7 +32,7 @@ impl<R: AllocGlobal + Clock + Eprint + Files<File = File>> Upkeep<'_, R> {
         first_of(silences, log)
     }
 
-    /// Saves the silences, and answers why they are not saved, which is told.
+    /// Saves the silences, and returns the reason why they are not saved, if they aren't, which is told.
     fn save_silences(&mut self, instance: &Instance) -> Option<Fault> {
         let most = self.options.most_bytes;
         match self.silences.save(self.rt, instance.silences(), most) {
@@ -47,7 +47,7 @@ impl<R: AllocGlobal + Clock + Eprint + Files<File = File>> Upkeep<'_, R> {
         }
     }
 
-    /// Saves the log, and answers why it is not saved, which is told.
+    /// Saves the log, and returns the reason why it is not saved, if it isn't, which is told.
     fn save_log(&mut self, instance: &Instance) -> Option<Fault> {
         let most = self.options.most_bytes;
         match self.log.save(self.rt, instance.log(), most) {
@@ -62,7 +62,7 @@ impl<R: AllocGlobal + Clock + Eprint + Files<File = File>> Upkeep<'_, R> {
         }
     }
 
-    /// Saves both states: at once, or where logs are kept, behind the duties and while it serves.
+    /// Saves both states: at once or, if logs are kept, after the duties and while the member serves.
     pub(crate) fn save_in_turn(&mut self, instance: &Instance) {
         if self.keeping.is_on() {
             self.want_both();
@@ -71,7 +71,7 @@ impl<R: AllocGlobal + Clock + Eprint + Files<File = File>> Upkeep<'_, R> {
         }
     }
 
-    /// Saves, where the last such save is a second ago.
+    /// Saves both states, if the last such save was at least a second ago.
     pub(crate) fn save_behind(&mut self, instance: &Instance) {
         if let Ok(now) = Instant::now(self.rt)
             && self.keeping.may_save(now)

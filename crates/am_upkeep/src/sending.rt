@@ -6,10 +6,10 @@ use am_gossip::Frame;
 use am_instance::{Config, Place};
 use am_jobs::Options;
 use am_peers::frames_text;
-use am_seal::{Lock, Secret, sealed_text};
+use am_seal::{Lock, Secret, Sequence, sealed_text};
 use std::rt::Clock;
 
-/// What members of a cluster know one another by: the secret, where they have one, and the name of this one.
+/// Returns the lock by which members of a cluster know one another: the secret, if they have one, and the name of this one.
 pub fn lock_of<'a>(options: &Options<'a>, secret: &'a Option<Secret>) -> Option<Lock<'a>> {
     match secret {
         Some(secret) => Some(Lock {
@@ -21,11 +21,13 @@ pub fn lock_of<'a>(options: &Options<'a>, secret: &'a Option<Secret>) -> Option<
 }
 
 impl<R: AllocGlobal> Upkeep<'_, R> {
-    /// The bytes of frames for a peer, sealed where members have a secret. Where there is no memory for them there are none.
+    /// Returns the bytes of frames for a peer, sealed from a place in its connection on if members have a secret: then there are
+    /// none without a place. If there is no memory for them, there are none.
     pub(crate) fn bytes_for(
         &self,
         config: &Config,
         peer: Place,
+        from: Option<Sequence>,
         frames: &[Frame],
     ) -> Option<Vec<u8>> {
         let alloc = self.rt.alloc();
@@ -33,7 +35,10 @@ impl<R: AllocGlobal> Upkeep<'_, R> {
             return frames_text(alloc, frames).ok();
         };
         let name = config.members().get(peer as usize)?;
-        sealed_text(alloc, lock, name.as_str(), frames).ok()
+        match sealed_text(alloc, lock, name.as_str(), from?, frames) {
+            Ok(sealed) => Some(sealed.text),
+            Err(_) => None,
+        }
     }
 }
 

@@ -1,6 +1,6 @@
-//! A member without what it holds, and without those who connect to it.
+//! A member apart from what it holds, and from those who connect to it.
 
-ghost use Rattle.std.specs.Prelude.{ℕ, Result};
+ghost use Rattle.std.specs.Prelude.{Result};
 ghost use Rattle.am_instance.specs.OneStep.{IsStep};
 ghost use Rattle.am_instance.specs.declared.reply.Outcome.{Outcome};
 ghost use Rattle.am_refusals.specs.declared.error.StepError.{StepError};
@@ -14,38 +14,41 @@ use am_files::StateFile;
 use am_gossip::Frame;
 use am_instance::{Config, Event, FrameSender, Instance, Place, Unsent};
 use am_jobs::Options;
-use am_lines::{Lines, Told, Watch};
-use am_peers::{Fault as ConnectionFault, next_moment};
+use am_lines::{Advance, Lines, Told, Watch};
+use am_peers::Fault as ConnectionFault;
 use am_seal::Lock;
+use am_version_order::Moment;
 use std::rt::Clock;
-use std::time::Duration;
+use std::time::{Duration, Instant};
 
 /// The files of what a member holds, and what it prints and counts.
 pub struct Upkeep<'a, R> {
     pub(crate) rt: &'a R,
     pub(crate) options: &'a Options<'a>,
-    /// What members know one another by, where they have a secret.
+    /// The lock by which members know one another, if they have a secret.
     pub(crate) lock: Option<Lock<'a>>,
     /// The file of the silences.
     pub(crate) silences: StateFile,
     /// The file of the notification log.
     pub(crate) log: StateFile,
-    /// How much room is left for silences.
+    /// The room that is left for silences.
     pub(crate) silences_room: Room,
-    /// How much room is left for entries of the log.
+    /// The room that is left for entries of the log.
     pub(crate) log_room: Room,
-    /// What is to be in the logs, where they are kept.
+    /// The state of what is to be in the logs, if they are kept.
     pub(crate) keeping: Keeping,
-    /// Which files are written anew while it serves.
+    /// The files that are written anew while the member serves.
     pub(crate) compacting: Compacting,
     /// The frames that wait to be handed out, each with the place of its peer.
     pub(crate) queue: Vec<(Place, Frame)>,
-    /// The faults that it printed.
+    /// The lines of faults that the member printed.
     pub(crate) lines: Lines,
     pub(crate) watch: Watch,
-    /// What it counts.
+    /// The watch on how far the clock went, compared with the time that has passed.
+    pub(crate) advance: Advance,
+    /// The figures that the member counts.
     pub(crate) figures: Figures,
-    /// Something may have changed since the last save, or since one was begun.
+    /// True if something may have changed since the last save, or since one was begun.
     pub(crate) is_changed: bool,
 }
 
@@ -65,13 +68,14 @@ impl<R> Drop for Upkeep<'_, R> {
             queue: _,
             lines: _,
             watch: _,
+            advance: _,
             figures: _,
             is_changed: _,
         } = self;
     }
 }
 
-/// The shorter one of two times, where there are such.
+/// Returns the shorter one of two times, if there is one.
 pub fn sooner(one: Option<Duration>, other: Option<Duration>) -> Option<Duration> {
     match (one, other) {
         (Some(one), Some(other)) => Some(one.min(other)),
@@ -80,7 +84,7 @@ pub fn sooner(one: Option<Duration>, other: Option<Duration>) -> Option<Duration
     }
 }
 
-/// The place of the peer that greeted with this name, if one did.
+/// Returns the place of the peer that greeted with this name, if one did.
 pub fn place_of(config: &Config, name: Option<&str>) -> Option<Place> {
     let place = config.place_named(name?)?;
     if place == config.place() {
@@ -113,8 +117,22 @@ impl<R: Clock + Eprint> Upkeep<'_, R> {
     }
 }
 
+impl<R: Clock + Eprint> Upkeep<'_, R> {
+    /// Checks whether what the clock says, as the time since 1970, went far ahead, unless the clock is trusted.
+    pub(crate) fn look_far(&mut self, instance: &Instance, since_1970: Duration) {
+        if self.options.trusts_clock {
+            return;
+        }
+        if let Ok(now) = Instant::now(self.rt)
+            && let Some(fault) = self.advance.look(since_1970, instance.last(), now)
+        {
+            self.tell(instance.config(), fault);
+        }
+    }
+}
+
 impl<R: AllocGlobal + Clock + Eprint> Upkeep<'_, R> {
-    /// What follows steps: their frames go out.
+    /// Follows up a step: its frames go out.
     pub(crate) fn follow_step(&mut self, config: &Config, outbox: FrameSender) {
         let FrameSender { frames, unsent } = outbox;
         if unsent.memory > 0 || unsent.limit > 0 {
@@ -125,11 +143,10 @@ impl<R: AllocGlobal + Clock + Eprint> Upkeep<'_, R> {
         self.queue_frames(config, frames);
     }
 
-    /// Makes a step by itself, and answers whether it was made.
-    pub(crate) fn step(&mut self, instance: &mut Instance, event: Event) -> bool
-        ensures { (now : ℕ) × (answer : Result Outcome StepError) × IsStep instance.old event now answer instance.new }
+    /// Makes a step of its own at a moment, and returns whether the step was made.
+    pub(crate) fn step(&mut self, instance: &mut Instance, event: Event, now: Moment) -> bool
+        ensures { (answer : Result Outcome StepError) × IsStep instance.old event now answer instance.new }
     {
-        let now = next_moment(self.rt, instance.last());
         match instance.step(event, now) {
             Ok(outcome) => {
                 let (_, outbox) = outcome.into_parts();

@@ -1,7 +1,7 @@
--- Numbers that go by the order of texts, so that most comparisons of two texts look at their numbers alone.
+-- Numbers that follow the order of texts, so that most comparisons of two texts need only their numbers.
 use Rattle.std.specs.Prelude.{ℕ, ◌+◌, ◌*◌, List, [], ◌∷◌, nat_lt, if◌then◌else◌}
 
--- the bytes up to the last weight, each times its weight; a byte of 255 or more counts as the greatest and ends it
+-- the sum of the bytes times their weights, as far as there are weights; a byte of 255 or more counts as 255 and is the last
 abbrev pub weighed : List ℕ → List ℕ → ℕ
 weighed [] bytes = 0
 weighed (weight ∷ weights) [] = 0

@@ -14,20 +14,20 @@ seconds_before_1970 = 62_135_596_800
 abbrev pub since_least : ℤ → ℕ → ℤ
 since_least seconds nanos = ((seconds +ℤ pos seconds_before_1970) *ℤ pos 1_000_000_000) +ℤ pos nanos
 
--- seconds since 1970, rounded down, and the nanoseconds left, that make a moment
+-- the seconds since 1970, rounded down, and the remaining nanoseconds make a moment
 pub record AreParts (seconds : ℤ) (nanos : ℕ) : Type 0 where
   pub not_before : pos 0 ≤ℤ (seconds +ℤ pos seconds_before_1970)
   pub not_after : seconds ≤ℤ pos 253_402_300_799
   pub below_second : nanos < 1_000_000_000
 
--- ---- a moment's seconds and nanoseconds are found in their number again
+-- ---- the seconds and nanoseconds of a moment are recovered from its number
 pub whole_of : (seconds nanos : ℕ) → nanos < 1_000_000_000 → (seconds * 1_000_000_000 + nanos) / 1_000_000_000 ≡ seconds
 whole_of seconds nanos h = omega arith
 
 pub rest_of : (seconds nanos : ℕ) → nanos < 1_000_000_000 → (seconds * 1_000_000_000 + nanos) % 1_000_000_000 ≡ nanos
 rest_of seconds nanos h = omega arith
 
--- ---- and the halves of its seconds in theirs
+-- ---- the halves of its seconds are recovered from theirs
 pub high_of : (high low : ℕ) → low < 4_294_967_296 → (high * 4_294_967_296 + low) / 4_294_967_296 ≡ high
 high_of high low h = omega arith
 

@@ -1,9 +1,9 @@
-//! Numbers that go by the order of texts.
+//! Numbers that follow the order of texts.
 
 ghost use Rattle.std.specs.Prelude.{◌≡◌};
 ghost use Rattle.am_version_order.specs.Heads.{head_of_text};
 
-/// What a byte of a text counts, from the first one on: the powers of 256, down from the seventh.
+/// The weights of a text's bytes, from the first one on: the powers of 256, down from the seventh.
 const WEIGHTS: [u64; 8] = [
     1 << 56,
     1 << 48,
@@ -15,8 +15,8 @@ const WEIGHTS: [u64; 8] = [
     1,
 ];
 
-/// The first eight bytes as one number, which goes by the order of the texts: of two texts whose
-/// numbers differ, the one with the lesser number is the lesser one. A byte of 255 ends it.
+/// Returns the first eight bytes as one number, which follows the order of the texts: if the numbers of two texts differ,
+/// the text with the lesser number is the lesser one. A byte of 255 ends the number.
 pub fn head_of_text(bytes: &[u8]) -> u64
     ensures { result ≡ head_of_text bytes.now }
 {

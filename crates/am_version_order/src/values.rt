@@ -1,10 +1,10 @@
-//! That versions which are kept are values of their type.
+//! The fact that versions are values of their type.
 
 ghost use Rattle.std.specs.Prelude.{All};
 
 use crate::version::Version;
 
-/// Says that versions are values of their type. It changes nothing.
+/// States that versions are values of their type. Calling it has no effect.
 pub fn versions_are_values<V: Version>(versions: &[V])
     ensures { All V.is_value versions.now }
 {

@@ -21,3 +21,8 @@ pub mod Sizes
 pub mod Offsets
 pub mod AsciiTexts
 pub mod Passings
+pub mod Kept
+pub mod Overlooked
+pub mod ExpiringKept
+pub mod WrittenKept
+pub mod Dropping

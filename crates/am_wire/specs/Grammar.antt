@@ -1,4 +1,4 @@
--- Which bytes spell which numbers, fields and messages: relations on whole texts, where the code reads byte by byte.
+-- The spellings of numbers, fields and messages: relations on whole texts, while the code reads byte by byte.
 use Rattle.std.specs.Prelude.{◌≡◌, ℕ, ◌+◌, ◌*◌, ◌^◌, ◌<◌, ◌≤◌, Bool, List, [], ◌∷◌, ◌++◌, length}
 use Rattle.std.specs.Int.{w32, w64, from_le_bytes}
 use Rattle.am_wire.specs.declared.value.WireType.{WireType}
@@ -7,21 +7,21 @@ use Rattle.am_wire.specs.Limits.{most}
 use Rattle.am_wire.specs.Varint.{IsVarint}
 use Rattle.am_wire.specs.Fields.{Payload, varint, eight, four, delimited_at, FieldAt}
 
--- The bytes are texts of these things, one after the other, the first of which stands at the offset `at`.
+-- The bytes are the texts of these items, one after another, and begin at the offset `at`.
 abbrev pub AreSpelled : {A : Type 0} → (A → ℕ → List ℕ → Type 0) → List A → ℕ → List ℕ → Type 0
 AreSpelled Spells [] at bytes = bytes ≡ []
 AreSpelled Spells (x ∷ xs) at bytes =
     (text : List ℕ) × (rest : List ℕ) × (bytes ≡ text ++ rest) × Spells x at text × AreSpelled Spells xs (at + length text) rest
 
 -- ---- fields
--- a length, and that many bytes, the first of which stands at the offset `inside`
+-- the text is these bytes behind their length, and they begin at the offset `inside`
 pub record IsDelimitedAt (inside : ℕ) (bytes : List ℕ) (at : ℕ) (text : List ℕ) : Type 0 where
   pub size : List ℕ
   pub size_is : IsVarint size (length bytes)
   pub text_is : text ≡ size ++ bytes
   pub inside_is : inside ≡ at + length size
 
--- what stands behind a tag: a number, eight or four bytes with the lowest first, or bytes behind their length
+-- the text is the payload: a number, eight or four bytes with the lowest first, or bytes behind their length
 abbrev pub IsPayload : Payload → ℕ → List ℕ → Type 0
 IsPayload (varint n) at text = IsVarint text n
 IsPayload (eight n) at text = (length text ≡ 8) × (n ≡ from_le_bytes w64 text)
@@ -35,14 +35,14 @@ wire_type_of (eight n) = kinds.Eight
 wire_type_of (delimited_at inside bytes) = kinds.Bytes
 wire_type_of (four n) = kinds.Four
 
--- the wire type in a tag
+-- the code of a wire type in a tag
 abbrev pub wire_code : WireType → ℕ
 wire_code kinds.Varint = 0
 wire_code kinds.Eight = 1
 wire_code kinds.Bytes = 2
 wire_code kinds.Four = 5
 
--- the text is the field's tag, which says its number and wire type, and its payload
+-- the text is the field's tag, which gives its number and wire type, and its payload
 pub record IsField (e : FieldAt) (at : ℕ) (text : List ℕ) : Type 0 where
   pub tag : List ℕ
   pub payload : List ℕ
@@ -62,7 +62,7 @@ abbrev pub field_fits : (ℕ → WireType → Bool) → FieldAt → Bool
 field_fits fits e = fits e.number (wire_type_of e.payload)
 
 -- ---- rows
--- a length, which is not too large, and the message
+-- the text is the message's length, which is not too large, and the message
 pub record IsRow (message : List ℕ) (at : ℕ) (text : List ℕ) : Type 0 where
   pub size : List ℕ
   pub size_is : IsVarint size (length message)

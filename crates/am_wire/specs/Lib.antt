@@ -19,3 +19,4 @@ pub mod Reader
 pub mod Inputs
 pub mod Offsets
 pub mod Passing
+pub mod Unknown

@@ -1,4 +1,4 @@
--- What the bytes of a message mean: which fields they spell, and what its table, its tests and its value say of these.
+-- The meaning of a message's bytes: the fields that they spell, and what its table, its tests and its value make of these.
 use Rattle.std.specs.Prelude.{◌≡◌, ℕ, List, [], ◌∷◌, ◌++◌, Option, Some, None, All, ◌⊎◌}
 use Rattle.std.specs.List.{AllPass}
 use Rattle.am_wire.specs.declared.error.WireError.{WireError}
@@ -7,17 +7,17 @@ use Rattle.am_wire.specs.Grammar.{AreFields, field_fits}
 use Rattle.am_wire.specs.Faults.{AreFieldsUntil}
 use Rattle.am_wire.specs.Reading.{Table}
 
--- nothing is at fault inside the fields
+-- the fields have no fault inside
 abbrev pub AreClean : Table → List FieldAt → Type 0
 AreClean table es = All (λ e. table.inside e ≡ None) es
 
--- the bytes are these fields, which fit the table, and nothing is at fault inside them
+-- the bytes are these fields, which fit the table and have no fault inside
 pub record AreSound (table : Table) (es : List FieldAt) (at : ℕ) (bytes : List ℕ) : Type 0 where
   pub fields : AreFields es at bytes
   pub fit : AllPass (field_fits table.fits) es
   pub clean : AreClean table es
 
--- the bytes are sound fields, the tests pass, and v is their value
+-- the bytes are sound fields, the tests pass, and v is the value of the fields
 pub record IsMessage {A : Type 0} (table : Table) (tests : ℕ → List FieldAt → Option WireError) (value : List FieldAt → A)
     (place at : ℕ) (bytes : List ℕ) (v : A) : Type 0 where
   pub fields : List FieldAt
@@ -25,7 +25,7 @@ pub record IsMessage {A : Type 0} (table : Table) (tests : ℕ → List FieldAt 
   pub passes : tests place fields ≡ None
   pub value_is : value fields ≡ v
 
--- sound fields, and then a field inside which the fault is; nothing is said of the bytes behind it
+-- the bytes are sound fields, then a field that has the fault inside, and then any bytes
 pub record HasFaultInside (table : Table) (fault : WireError) (at : ℕ) (bytes : List ℕ) : Type 0 where
   pub before : List FieldAt
   pub field : FieldAt
@@ -37,23 +37,23 @@ pub record HasFaultInside (table : Table) (fault : WireError) (at : ℕ) (bytes 
   pub clean : AreClean table before
   pub inside : table.inside field ≡ Some fault
 
--- sound fields, and then bytes at whose front no field stands
+-- the bytes are sound fields, and then bytes with no field at their front, for this fault
 pub record HasNoField (table : Table) (fault : WireError) (at : ℕ) (bytes : List ℕ) : Type 0 where
   pub before : List FieldAt
   pub fields : AreFieldsUntil table.fits before fault at bytes
   pub clean : AreClean table before
 
--- the first fault that is met in the bytes
+-- the fault is the first one in the bytes
 abbrev pub HasFault : Table → WireError → ℕ → List ℕ → Type 0
 HasFault table fault at bytes = HasFaultInside table fault at bytes ⊎ HasNoField table fault at bytes
 
--- sound fields that a test refuses
+-- the bytes are sound fields that a test refuses
 pub record FailsTests (table : Table) (tests : ℕ → List FieldAt → Option WireError)
     (fault : WireError) (place at : ℕ) (bytes : List ℕ) : Type 0 where
   pub fields : List FieldAt
   pub sound : AreSound table fields at bytes
   pub fails : tests place fields ≡ Some fault
 
--- a field of bytes, the first of which stands at the offset `inside`
+-- a field of these bytes, which begin at the offset `inside`
 abbrev pub bytes_field : ℕ → ℕ → ℕ → List ℕ → FieldAt
 bytes_field n at inside bytes = record { number = n; payload = delimited_at inside bytes; at = at }

@@ -3,13 +3,13 @@ use Rattle.std.specs.Prelude.{◌≡◌, ℕ, ◌<◌, ◌≤◌, ◌^◌, ◌�
 use Rattle.am_wire.specs.Varint.{shortest}
 use Rattle.am_wire.specs.declared.offset.Offset.{Offset}
 
--- behind so many bytes of a text a part follows, behind its length
+-- after `start` bytes of the text, the part follows behind its length
 pub record Follows (start : ℕ) (part text : List ℕ) : Type 0 where
   pub rest : List ℕ
   pub within : start ≤ length text
   pub short : length part < 2 ^ 64
   pub is : drop start text ≡ shortest (length part) ++ (part ++ rest)
 
--- a part of a text stands at an offset; a text that has parts begins with a tag, so 0 is left to be the offset of the empty part
+-- the part is at the offset; a text that has parts begins with a tag, so 0 is free to be the offset of the empty part
 abbrev pub StandsAt : List ℕ → Offset → List ℕ → Type 0
 StandsAt part offset text = ((offset.start ≡ 0) × (part ≡ [])) ⊎ ((0 < offset.start) × Follows offset.start part text)

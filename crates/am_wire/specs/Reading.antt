@@ -1,4 +1,4 @@
--- How a message is read from the list of its fields: its first fault, or its value.
+-- The result of reading a message from the list of its fields: its first fault, or its value.
 use Rattle.std.specs.Prelude.{◌≡◌, ◌≢◌, ℕ, Bool, true, false, List, [], ◌∷◌, Option, Some, None, Result, Ok, Err, ◌==◌, if◌then◌else◌}
 use Rattle.std.specs.List.{flat_map}
 use Rattle.std.specs.Str.{is_utf8}
@@ -17,7 +17,7 @@ abbrev pub ◌then◌ : Option WireError → Option WireError → Option WireErr
 (Some e) then later = Some e
 None then later = later
 
--- The first fault of fields that are met one after the other, where `inside` is the fault inside a field.
+-- The first fault of fields that are read one after another; `inside` gives the fault inside a field.
 abbrev pub scan : (FieldAt → Option WireError) → List (Result FieldAt WireError) → Option WireError
 scan inside [] = None
 scan inside (Ok e ∷ items) = inside e then scan inside items
@@ -29,11 +29,11 @@ sound_fields [] = []
 sound_fields (Ok e ∷ items) = e ∷ sound_fields items
 sound_fields (Err fault ∷ items) = []
 
--- a call's error is the first fault, unless memory ran out
+-- a call fails with the first fault, unless memory ran out
 abbrev pub FailsUnlessMemory : WireError → Option WireError → Type 0
 FailsUnlessMemory e fault = e ≢ errors.Memory → fault ≡ Some e
 
--- ---- a message: which wire types its numbers have, and what is at fault inside a field
+-- ---- a message: the wire types that its numbers may have, and the fault inside a field
 pub record Table : Type 0 where
   pub fits : ℕ → WireType → Bool
   pub inside : FieldAt → Option WireError
@@ -46,66 +46,66 @@ fields_in table at bytes = sound_fields (fields_of table.fits at bytes)
 abbrev pub faults_in : Table → ℕ → List ℕ → Option WireError
 faults_in table at bytes = scan table.inside (fields_of table.fits at bytes)
 
--- what `fault` finds inside a payload of bytes, which begin at an offset; nothing is at fault inside other payloads
+-- the fault that `fault` finds inside a payload of bytes, which begin at an offset; other payloads have none
 abbrev pub in_delimited : (ℕ → List ℕ → Option WireError) → FieldAt → Option WireError
 in_delimited fault e = elim e.payload [ delimited_at at bytes ↦ fault at bytes | _ ↦ None ]
 
--- inside a text
+-- the fault inside a text
 abbrev pub text_fault : FieldAt → Option WireError
 text_fault e = in_delimited (λ at bytes. if is_utf8 bytes then None else Some (errors.NotUtf8 e.at)) e
 
--- inside a message that a message holds once: its own tests come later
+-- the fault inside a message that is held once, whose own tests come later
 abbrev pub part_fault : Table → FieldAt → Option WireError
 part_fault table e = in_delimited (faults_in table) e
 
--- inside one of many messages: it ends with its payload, and its tests stand at its tag
+-- the fault inside one of many messages, which ends with its payload; its tests are reported at its tag
 abbrev pub item_fault : Table → (ℕ → List FieldAt → Option WireError) → FieldAt → Option WireError
 item_fault table tests e = in_delimited (λ at bytes. faults_in table at bytes then tests e.at (fields_in table at bytes)) e
 
 -- ---- values
 
--- what `view` sees in the fields of a number, in order
+-- what `view` gives for the fields with this number, in order
 abbrev pub picked : {A : Type 0} → (FieldAt → List A) → ℕ → List FieldAt → List A
 picked view n es = flat_map (λ e. if e.number == n then view e else []) es
 
--- the last of the list, and of an empty one d
+-- the last item of the list, or d if it is empty
 abbrev pub last_or : {A : Type 0} → A → List A → A
 last_or d [] = d
 last_or d (x ∷ xs) = last_or x xs
 
--- the number in a field, where it has one
+-- the number in a field, if it holds one
 abbrev pub varint_in : FieldAt → List ℕ
 varint_in e = elim e.payload [ varint n ↦ n ∷ [] | _ ↦ [] ]
 
--- the bytes in a field, where it has some
+-- the bytes in a field, if it holds bytes
 abbrev pub delimited_in : FieldAt → List (List ℕ)
 delimited_in e = elim e.payload [ delimited_at at bytes ↦ bytes ∷ [] | _ ↦ [] ]
 
--- the message in a field, where it has one, as its fields
+-- the message in a field, as its fields, if it holds bytes
 abbrev pub message_in : Table → FieldAt → List (List FieldAt)
 message_in table e = elim e.payload [ delimited_at at bytes ↦ fields_in table at bytes ∷ [] | _ ↦ [] ]
 
--- the same as one list of fields, so that several payloads can be merged
+-- the message in a field, as one list of fields, so that several payloads can be merged
 abbrev pub parts_in : Table → FieldAt → List FieldAt
 parts_in table e = elim e.payload [ delimited_at at bytes ↦ fields_in table at bytes | _ ↦ [] ]
 
--- the table of these two
+-- the table with these wire types and these faults
 abbrev pub table_at : (ℕ → WireType → Bool) → (FieldAt → Option WireError) → Table
 table_at fits inside = record { fits = fits; inside = inside }
 
--- of a number that is given more than once the last counts; a missing one is 0
+-- the number that counts if it is given more than once, which is the last; a missing one is 0
 abbrev pub last_number : ℕ → List FieldAt → ℕ
 last_number n es = last_or 0 (picked varint_in n es)
 
--- the same of a text; a missing one is empty
+-- the text that counts if it is given more than once, which is the last; a missing one is empty
 abbrev pub last_text : ℕ → List FieldAt → List ℕ
 last_text n es = last_or [] (picked delimited_in n es)
 
--- each message of a number, as its fields
+-- the messages with this number, each as its fields
 abbrev pub messages : Table → ℕ → List FieldAt → List (List FieldAt)
 messages table n es = picked (message_in table) n es
 
--- the message of a number, read from its payloads merged
+-- the fields of the message with this number, whose payloads are merged
 abbrev pub merged : Table → ℕ → List FieldAt → List FieldAt
 merged table n es = picked (parts_in table) n es
 
@@ -115,36 +115,36 @@ pub record Row : Type 0 where
   pub takes : WireType → Bool
   pub row_inside : FieldAt → Option WireError
 
--- a number
+-- the wire type is that of a number
 abbrev pub is_varint : WireType → Bool
 is_varint kind = elim kind [ kinds.Varint ↦ true | _ ↦ false ]
 
--- bytes
+-- the wire type is that of bytes
 abbrev pub is_bytes : WireType → Bool
 is_bytes kind = elim kind [ kinds.Bytes ↦ true | _ ↦ false ]
 
--- a field of a number
+-- the row of a number
 abbrev pub varint_row : ℕ → Row
 varint_row n = record { row_number = n; takes = is_varint; row_inside = λ e. None }
 
--- a field of a text
+-- the row of a text
 abbrev pub text_row : ℕ → Row
 text_row n = record { row_number = n; takes = is_bytes; row_inside = text_fault }
 
--- a field of a message that is held once
+-- the row of a message that is held once
 abbrev pub part_row : ℕ → Table → Row
 part_row n table = record { row_number = n; takes = is_bytes; row_inside = part_fault table }
 
--- a field of one of many messages
+-- the row of one of many messages
 abbrev pub item_row : ℕ → Table → (ℕ → List FieldAt → Option WireError) → Row
 item_row n table tests = record { row_number = n; takes = is_bytes; row_inside = item_fault table tests }
 
--- an unknown number may have any wire type, and nothing in it is at fault
+-- the wire types that these rows allow; an unknown number may have any
 abbrev pub fits_by : List Row → ℕ → WireType → Bool
 fits_by [] n kind = true
 fits_by (row ∷ rows) n kind = if n == row.row_number then row.takes kind else fits_by rows n kind
 
--- what is at fault inside a field, by its row
+-- the fault inside a field that its row finds; an unknown number has none
 abbrev pub inside_by : List Row → FieldAt → Option WireError
 inside_by [] e = None
 inside_by (row ∷ rows) e = if e.number == row.row_number then row.row_inside e else inside_by rows e
@@ -153,48 +153,48 @@ inside_by (row ∷ rows) e = if e.number == row.row_number then row.row_inside e
 abbrev pub table_of : List Row → Table
 table_of rows = record { fits = fits_by rows; inside = inside_by rows }
 
--- ---- a whole message: the first fault in its fields, then its tests, then its value. `place` is what its
--- tests are reported at, where they have no field of the message itself.
+-- ---- a whole message: the first fault in its fields, then its tests, then its value. Tests that aren't about one field of
+-- the message are reported at `place`.
 abbrev pub fault_or_value : {A : Type 0} → Option WireError → A → Result A WireError
 fault_or_value (Some fault) value = Err fault
 fault_or_value None value = Ok value
 
--- what reading a message gives
+-- the result of reading a message
 abbrev pub read_by : {A : Type 0} → Table → (ℕ → List FieldAt → Option WireError) → (List FieldAt → A) → ℕ → ℕ → List ℕ → Result A WireError
 read_by table tests value place at bytes =
     fault_or_value (faults_in table at bytes then tests place (fields_in table at bytes)) (value (fields_in table at bytes))
 
--- a call answers what reading gives, unless memory ran out
+-- a call returns the result of reading, unless memory ran out
 abbrev pub GivesUnlessMemory : {A : Type 0} → Result A WireError → Result A WireError → Type 0
 GivesUnlessMemory (Ok x) read = read ≡ Ok x
 GivesUnlessMemory (Err e) read = e ≢ errors.Memory → read ≡ Err e
 
--- where a number stands
+-- the offset of a field, if it holds a number
 abbrev pub varint_place : FieldAt → List ℕ
 varint_place e = elim e.payload [ varint n ↦ e.at ∷ [] | _ ↦ [] ]
 
--- where a payload of bytes stands
+-- the offset of a field, if it holds bytes
 abbrev pub delimited_place : FieldAt → List ℕ
 delimited_place e = elim e.payload [ delimited_at at bytes ↦ e.at ∷ [] | _ ↦ [] ]
 
--- where the last number stands
+-- the offset of the last field with this number that holds a number
 abbrev pub last_number_place : ℕ → List FieldAt → ℕ
 last_number_place n es = last_or 0 (picked varint_place n es)
 
--- where the last payload of bytes stands
+-- the offset of the last field with this number that holds bytes
 abbrev pub last_place : ℕ → List FieldAt → ℕ
 last_place n es = last_or 0 (picked delimited_place n es)
 
--- a payload of bytes was given
+-- true, if the field holds bytes
 abbrev pub delimited_given : FieldAt → List Bool
 delimited_given e = elim e.payload [ delimited_at at bytes ↦ true ∷ [] | _ ↦ [] ]
 
--- whether a message of the number was given
+-- the message with this number is given
 abbrev pub is_given : ℕ → List FieldAt → Bool
 is_given n es = last_or false (picked delimited_given n es)
 
 -- ---- lists of numbers, one to a field or packed
--- those before the first fault
+-- the items before the first fault
 abbrev pub until_fault : {A : Type 0} → List (Result A WireError) → List A
 until_fault [] = []
 until_fault (Ok x ∷ xs) = x ∷ until_fault xs
@@ -214,22 +214,22 @@ unpacked tag bytes = pieces (λ at text. varint_at tag text) 0 0 bytes
 abbrev pub numbers_in : FieldAt → List ℕ
 numbers_in e = elim e.payload [ varint n ↦ n ∷ [] | delimited_at at bytes ↦ until_fault (unpacked e.at bytes) | _ ↦ [] ]
 
--- a list takes single numbers and packed ones
+-- the wire type is one of a list of numbers: that of single numbers or that of packed ones
 abbrev pub is_varint_or_bytes : WireType → Bool
 is_varint_or_bytes kind = elim kind [ kinds.Varint ↦ true | kinds.Bytes ↦ true | _ ↦ false ]
 
--- inside numbers that are packed
+-- the fault inside packed numbers
 abbrev pub numbers_fault : FieldAt → Option WireError
 numbers_fault e = in_delimited (λ at bytes. first_fault (unpacked e.at bytes)) e
 
--- a field of a list of numbers
+-- the row of a list of numbers
 abbrev pub numbers_row : ℕ → Row
 numbers_row n = record { row_number = n; takes = is_varint_or_bytes; row_inside = numbers_fault }
 
--- bytes that need not be a text
+-- the row of bytes that need not be a text
 abbrev pub blob_row : ℕ → Row
 blob_row n = record { row_number = n; takes = is_bytes; row_inside = λ e. None }
 
--- all numbers of a field's number, in order
+-- all numbers in the fields with this number, in order
 abbrev pub all_numbers : ℕ → List FieldAt → List ℕ
 all_numbers n es = picked numbers_in n es

@@ -1,5 +1,5 @@
--- What is written is read again. These are lemmas: they stand here, and not in proofs, since the law of a
--- message is proved by them.
+-- Proofs that a message that is written is read back. They are in specs, and not in proofs, since the law of a message is
+-- proved by them.
 pub mod Varints
 pub mod Pieces
 pub mod Fields
@@ -8,3 +8,4 @@ pub mod Slots
 pub mod Written
 pub mod Moments
 pub mod Expiring
+pub mod Plain

@@ -1,4 +1,4 @@
--- What a timestamp's draft holds after some fields.
+-- The state of a timestamp's draft after some fields.
 use Rattle.std.specs.Prelude.{◌≡◌, List}
 use Rattle.am_wire.specs.Fields.{FieldAt}
 use Rattle.am_wire.specs.Reading.{last_number}

@@ -1,4 +1,4 @@
--- The one way in which a message is written.
+-- The canonical text of a message.
 use Rattle.std.specs.Prelude.{ℕ, ◌+◌, ◌*◌, List, [], ◌++◌, length, ◌==◌, if◌then◌else◌}
 use Rattle.std.specs.List.{flat_map}
 use Rattle.am_wire.specs.Varint.{shortest}
@@ -7,15 +7,15 @@ use Rattle.am_wire.specs.Varint.{shortest}
 abbrev pub tag : ℕ → ℕ → List ℕ
 tag n kind = shortest (n * 8 + kind)
 
--- a number, where it is not 0
+-- a field of a number, which is left out if it is 0
 abbrev pub writes_number : ℕ → ℕ → List ℕ
 writes_number n v = if v == 0 then [] else tag n 0 ++ shortest v
 
--- bytes, also where there are none
+-- a field of bytes, which is written even if there are none
 abbrev pub writes_delimited : ℕ → List ℕ → List ℕ
 writes_delimited n bytes = tag n 2 ++ (shortest (length bytes) ++ bytes)
 
--- a text, where it is not empty
+-- a field of a text, which is left out if it is empty
 abbrev pub writes_text : ℕ → List ℕ → List ℕ
 writes_text n bytes = if length bytes == 0 then [] else writes_delimited n bytes
 
@@ -31,6 +31,6 @@ delimited bytes = shortest (length bytes) ++ bytes
 abbrev pub writes_rows : List (List ℕ) → List ℕ
 writes_rows messages = flat_map delimited messages
 
--- numbers packed in one field, where there are any
+-- a field of packed numbers, which is left out if there are none
 abbrev pub writes_numbers : ℕ → List ℕ → List ℕ
 writes_numbers n numbers = writes_text n (flat_map shortest numbers)

@@ -1,11 +1,11 @@
-//! Texts of bytes, most of which are ASCII.
+//! Texts in bytes that are mostly ASCII.
 
 ghost use Rattle.std.specs.Prelude.{◌≡◌, true, IsAscii, MatchResult};
 ghost use Rattle.std.specs.Str.{IsUtf8};
 
 use std::str::Utf8Error;
 
-/// Whether all bytes are ASCII.
+/// Returns whether all bytes are ASCII.
 fn is_ascii(bytes: &[u8]) -> bool
     ensures { result ≡ true → IsAscii bytes.now }
 {
@@ -16,7 +16,7 @@ fn is_ascii(bytes: &[u8]) -> bool
     greatest < 128
 }
 
-/// The text of bytes, where they are in UTF-8.
+/// Returns the bytes as a text if they are UTF-8.
 #[tactic(auto, using(crate::proofs::AsciiTexts::ascii_text))]
 pub(crate) fn text_of(bytes: &[u8]) -> Result<&str, Utf8Error>
     ensures { MatchResult result (λ text. (text.now ≡ bytes.now) × IsUtf8 bytes.now) (λ _. ¬ (IsUtf8 bytes.now)) }

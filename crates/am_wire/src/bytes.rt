@@ -1,4 +1,4 @@
-//! Bytes that need not be a text.
+//! Byte strings that need not be UTF-8.
 
 ghost use Rattle.std.specs.Prelude.{◌≡◌, ℕ, List, ◌==◌, IfOk};
 ghost use Rattle.std.proofs.Common.{rules};
@@ -26,18 +26,18 @@ impl Model for Bytes {
 }
 
 impl Bytes {
-    /// These bytes. It takes no memory.
+    /// Returns a byte string of these bytes, without allocating.
     pub fn new(bytes: Vec<u8>) -> Bytes
         ensures { result ≡ bytes.items }
     {
         Self { bytes }
     }
 
-    /// Bytes of its own.
+    /// Copies the bytes into a byte string of its own.
     ///
     /// # Errors
     ///
-    /// [`AllocError`] where memory runs out.
+    /// [`AllocError`] if memory runs out.
     pub fn copied(alloc: Global, bytes: &[u8]) -> Result<Bytes, AllocError>
         ensures { IfOk result (λ copy. copy ≡ bytes.now) }
     {
@@ -51,7 +51,7 @@ impl Bytes {
         self.bytes.as_slice()
     }
 
-    /// Gives the vector back. It takes no memory.
+    /// Returns the vector of the bytes, without allocating.
     pub fn into_vec(self) -> Vec<u8>
         ensures { result.items ≡ self }
     {
@@ -59,11 +59,11 @@ impl Bytes {
         bytes
     }
 
-    /// A copy.
+    /// Returns a copy of the byte string.
     ///
     /// # Errors
     ///
-    /// [`AllocError`] where memory runs out.
+    /// [`AllocError`] if memory runs out.
     pub fn try_clone(&self, alloc: Global) -> Result<Bytes, AllocError>
         ensures { IfOk result (λ copy. copy ≡ self.now) }
     {

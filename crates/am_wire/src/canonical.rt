@@ -1,4 +1,4 @@
-//! Canonical texts, read from the front: what is passed is what a writer of the same values writes.
+//! A reader of canonical texts, which accepts only what a writer of the same values writes.
 
 ghost use Rattle.std.specs.Prelude.{◌≡◌, ◌<◌, ◌≤◌, ◌-◌, ◌^◌, ◌%◌, ◌∷◌, ◌++◌, [], true, false, take, drop, length, IfSome};
 ghost use Rattle.std.specs.Str.{IsUtf8};
@@ -15,10 +15,11 @@ use crate::varint::varint_from;
 use am_version_order::Moment;
 use std::marker::Model;
 
-/// Goes over a text that may be canonical. Each call passes the field of a number as a writer writes it, and gives what
-/// stands in it; none where the text goes on in another way, which it then goes over no more.
+/// A reader of a text that may be canonical. Each call passes the field with the given number, exactly as a writer writes
+/// it, and returns its content. A call returns `None` if the text goes on in another way, and the reader is of no further
+/// use then.
 ///
-/// Contracts see the text, and what of it is passed.
+/// Contracts see the text and the part of it that is passed.
 #[derive(Drop)]
 pub struct CanonicalReader<'a> {
     text: &'a [u8],
@@ -37,14 +38,14 @@ impl<'a> Model for CanonicalReader<'a> {
 }
 
 impl<'a> CanonicalReader<'a> {
-    /// Before a text.
+    /// Returns a reader at the start of a text.
     pub fn new(text: &'a [u8]) -> Self
         ensures { result ≡ record { text = text.now; passed = [] } }
     {
         CanonicalReader { text, at: 0 }
     }
 
-    /// How many bytes are passed.
+    /// Returns the number of bytes that are passed.
     pub fn at(&self) -> usize
         ensures at { result ≡ length self.now.passed }
         ensures within { result ≤ length self.now.text }
@@ -53,14 +54,14 @@ impl<'a> CanonicalReader<'a> {
         self.at
     }
 
-    /// Whether the whole text is passed.
+    /// Returns whether the whole text is passed.
     pub fn is_over(&self) -> bool
         ensures { result ≡ true → self.now.passed ≡ self.now.text }
     {
         self.at == self.text.len()
     }
 
-    /// Passes so many bytes.
+    /// Passes `count` bytes.
     fn bytes(&mut self, count: usize) -> Option<&'a [u8]>
         ensures passed { IfSome result (λ part. Passes part.now self.old self.new) }
         ensures count { IfSome result (λ part. length part.now ≡ count) }
@@ -73,7 +74,7 @@ impl<'a> CanonicalReader<'a> {
         Some(&rest[..count])
     }
 
-    /// Passes a byte, where it is this one.
+    /// Passes the next byte if it is `byte`, and returns whether it is.
     fn byte(&mut self, byte: u8) -> bool
         ensures passed { result ≡ true → Passes (byte ∷ []) self.old self.new }
         ensures kept { result ≡ false → self.new ≡ self.old }
@@ -97,7 +98,7 @@ impl<'a> CanonicalReader<'a> {
         self.long_varint()
     }
 
-    /// The same of a number that takes several bytes.
+    /// Passes a number that takes several bytes, in its shortest spelling.
     #[inline(never)]
     fn long_varint(&mut self) -> Option<u64>
         ensures { IfSome result (λ value. Passes (shortest value) self.old self.new) }
@@ -108,7 +109,8 @@ impl<'a> CanonicalReader<'a> {
         Some(value)
     }
 
-    /// Passes the tag of a number below 16, where it stands there. The kind is that of the payload's wire type.
+    /// Passes the tag of a field number below 16 if it comes next, and returns whether it does. `kind` is the code of the
+    /// payload's wire type.
     #[tactic(auto, using(crate::proofs::Passings::one_tag))]
     fn tag(&mut self, number: u32, kind: u32) -> bool
         requires number { number < 16 }
@@ -119,7 +121,7 @@ impl<'a> CanonicalReader<'a> {
         self.byte((number * 8 + kind) as u8)
     }
 
-    /// Passes a number, which is left out where it is 0.
+    /// Passes a number, which is left out if it is 0.
     #[tactic(auto, using(crate::proofs::Passings::both, crate::proofs::Passings::nothing))]
     pub fn number(&mut self, number: u32) -> Option<u64>
         requires { number < 16 }
@@ -135,7 +137,7 @@ impl<'a> CanonicalReader<'a> {
         Some(value)
     }
 
-    /// Passes what stands in front of bytes: their tag, and how many they are.
+    /// Passes the tag and the length in front of a field's bytes, and returns the length.
     #[tactic(auto, using(crate::proofs::Passings::both))]
     pub fn prefix(&mut self, number: u32) -> Option<u64>
         requires { number < 16 }
@@ -147,7 +149,7 @@ impl<'a> CanonicalReader<'a> {
         self.varint()
     }
 
-    /// Passes bytes, which are written also where there are none.
+    /// Passes bytes, which are written even if there are none.
     pub fn delimited(&mut self, number: u32) -> Option<&'a [u8]>
         requires { number < 16 }
         ensures { IfSome result (λ part. Passes (writes_delimited number part.now) self.old self.new) }
@@ -156,7 +158,7 @@ impl<'a> CanonicalReader<'a> {
         self.bytes(usize::try_from(size).ok()?)
     }
 
-    /// Passes bytes, which are left out where there are none.
+    /// Passes bytes, which are left out if there are none.
     pub fn part(&mut self, number: u32) -> Option<&'a [u8]>
         requires { number < 16 }
         ensures { IfSome result (λ part. Passes (writes_text number part.now) self.old self.new) }
@@ -171,7 +173,7 @@ impl<'a> CanonicalReader<'a> {
         Some(part)
     }
 
-    /// Whether the bytes of this number come next.
+    /// Returns whether bytes with this field number come next.
     pub fn goes_on(&self, number: u32) -> bool
         requires { number < 16 }
         ensures { result ≡ true → length self.now.passed < length self.now.text }
@@ -179,7 +181,7 @@ impl<'a> CanonicalReader<'a> {
         self.text.get(self.at) == Some(&((number * 8 + 2) as u8))
     }
 
-    /// Passes bytes as [`CanonicalReader::part`] does, and says where they stand.
+    /// Passes bytes as [`CanonicalReader::part`] does, and returns them with their offset.
     pub fn placed_part(&mut self, number: u32) -> Option<(&'a [u8], Offset)>
         requires { number < 16 }
         ensures passed { IfSome result (λ it. Passes (writes_text number it.0.now) self.old self.new) }
@@ -191,7 +193,7 @@ impl<'a> CanonicalReader<'a> {
         Some((part, place))
     }
 
-    /// Passes numbers that are packed in one field, which is left out where there are none, and says where they stand.
+    /// Passes numbers packed in one field, which is left out if there are none, and returns their offset.
     pub fn numbers(&mut self, number: u32) -> Option<Offset>
         requires { number < 16 }
         ensures { IfSome result (λ place. PassesNumbers number place self.old self.new) }
@@ -203,7 +205,7 @@ impl<'a> CanonicalReader<'a> {
         Some(place)
     }
 
-    /// Passes a text, which is left out where it is empty.
+    /// Passes a text, which is left out if it is empty.
     pub fn text(&mut self, number: u32) -> Option<&'a str>
         requires { number < 16 }
         ensures passed { IfSome result (λ text. Passes (writes_text number text.now) self.old self.new) }
@@ -212,7 +214,7 @@ impl<'a> CanonicalReader<'a> {
         text_of(self.part(number)?).ok()
     }
 
-    /// Passes a text as [`CanonicalReader::text`] does, and says where it stands.
+    /// Passes a text as [`CanonicalReader::text`] does, and returns it with its offset.
     pub fn placed_text(&mut self, number: u32) -> Option<(&'a str, Offset)>
         requires { number < 16 }
         ensures passed { IfSome result (λ it. Passes (writes_text number it.0.now) self.old self.new) }
@@ -224,7 +226,7 @@ impl<'a> CanonicalReader<'a> {
         Some((text, place))
     }
 
-    /// The bytes that are passed since so many were.
+    /// Returns the bytes passed since `begun` bytes were passed.
     pub fn since(&self, begun: usize) -> &'a [u8]
         requires { begun ≤ length self.now.passed }
         ensures { result.now ≡ drop begun self.now.passed }
@@ -232,14 +234,14 @@ impl<'a> CanonicalReader<'a> {
         &self.text[begun..self.at]
     }
 
-    /// Whether exactly so many bytes are passed since so many were.
+    /// Returns whether exactly `size` bytes were passed since `begun` bytes were passed.
     pub fn has_passed(&self, size: u64, begun: usize) -> bool
         ensures { result ≡ true → length self.now.passed - begun ≡ size }
     {
         self.at.saturating_sub(begun) as u64 == size
     }
 
-    /// Passes a moment, which is written also where it is the first.
+    /// Passes a moment, which is written even if it is the first one.
     #[tactic(auto, using(crate::proofs::Passings::whole))]
     pub fn moment(&mut self, number: u32) -> Option<Moment>
         requires { number < 16 }
@@ -268,20 +270,20 @@ impl<'a> CanonicalReader<'a> {
     }
 }
 
-/// The number at the front, and how many bytes it takes; none where it is spelled longer than it need be.
+/// Returns the number at the front and its length in bytes, or `None` if it isn't in its shortest spelling.
 fn shortest_from(bytes: &[u8]) -> Option<(u64, usize)>
     ensures within { IfSome result (λ x. x.1 ≤ length bytes.now) }
     ensures spelling { IfSome result (λ x. shortest x.0 ≡ take x.1 bytes.now) }
 {
     let (value, len) = varint_from(bytes, 0).ok()?;
-    // (a last byte of 0 adds nothing)
+    // A last byte of 0 adds nothing.
     if bytes[len - 1] == 0 {
         return None;
     }
     Some((value, len))
 }
 
-/// Whether bytes are numbers, each in its shortest spelling.
+/// Returns whether the bytes are numbers, each in its shortest spelling.
 fn are_packed(part: &[u8]) -> bool
     ensures { result ≡ true → ArePacked part.now }
 {
@@ -297,7 +299,7 @@ fn are_packed(part: &[u8]) -> bool
     reader.is_over()
 }
 
-/// The moment that is written by these numbers: its seconds in two's complement, and its nanoseconds.
+/// Returns the moment written as these numbers: its seconds in two's complement, and its nanoseconds.
 fn moment_of(seconds: u64, nanos: u64) -> Option<Moment>
     ensures seconds { IfSome result (λ moment. seconds ≡ seconds_number moment) }
     ensures nanos { IfSome result (λ moment. nanos ≡ moment % 1_000_000_000) }

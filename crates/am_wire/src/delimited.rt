@@ -1,4 +1,4 @@
-//! Bytes behind their length, as a row has its messages.
+//! Bytes preceded by their length, as each message of a row is.
 
 ghost use Rattle.std.specs.Prelude.{◌≡◌, ◌++◌, length, OnOk, IfOk};
 ghost use Rattle.am_wire.specs.Sizes.{counted};
@@ -9,8 +9,8 @@ use crate::size::varint_size;
 use crate::writing::append_varint;
 use std::alloc::{AllocError, Global};
 
-/// How many bytes others have behind their length, and [`u64::MAX`] for every number that is no less. It takes no
-/// memory.
+/// Returns the length of the bytes together with the length that precedes them. It is [`u64::MAX`] if it would be that or
+/// more. Nothing is allocated.
 pub fn delimited_length(bytes: &[u8]) -> u64
     ensures { result ≡ counted (length (delimited bytes.now)) }
 {
@@ -18,11 +18,11 @@ pub fn delimited_length(bytes: &[u8]) -> u64
     varint_size(length).saturating_add(length)
 }
 
-/// Writes bytes behind their length at the end.
+/// Appends the bytes, preceded by their length.
 ///
 /// # Errors
 ///
-/// [`AllocError`] where memory runs out. A part of them may be left.
+/// [`AllocError`] if memory runs out. Some of the bytes may have been appended then.
 pub fn append_delimited(out: &mut Vec<u8>, bytes: &[u8]) -> Result<(), AllocError>
     ensures { OnOk result (out.new.items ≡ out.old.items ++ delimited bytes.now) }
 {
@@ -30,11 +30,11 @@ pub fn append_delimited(out: &mut Vec<u8>, bytes: &[u8]) -> Result<(), AllocErro
     out.extend_from_slice(bytes)
 }
 
-/// Bytes behind their length. It takes memory once, for just these bytes.
+/// Returns the bytes, preceded by their length. Memory is allocated once, for exactly these bytes.
 ///
 /// # Errors
 ///
-/// [`AllocError`] where memory runs out.
+/// [`AllocError`] if memory runs out.
 pub fn delimited_bytes(alloc: Global, bytes: &[u8]) -> Result<Bytes, AllocError>
     ensures { IfOk result (λ whole. whole ≡ delimited bytes.now) }
 {

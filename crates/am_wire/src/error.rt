@@ -1,4 +1,4 @@
-//! Why bytes could not be read, or a value not be written.
+//! The reasons why bytes can't be read, or a value can't be written.
 
 ghost use Rattle.std.specs.Prelude.{◌≡◌};
 ghost use Rattle.am_wire.specs.declared.error.WireError.TheVariants.{Memory};
@@ -9,19 +9,19 @@ use thiserror::Error;
 /// The first fault in reading order; `at` is an offset in the outermost input.
 #[derive(Clone, Copy, Debug, PartialEq, Eq, Error)]
 pub enum WireError {
-    /// The input ends in the field at this byte.
+    /// The input ends inside the field at this byte.
     #[error("Wire Truncated {at}")]
     Truncated { at: usize },
     /// The number at this byte has more than 64 bits.
     #[error("Wire LongVarint {at}")]
     LongVarint { at: usize },
-    /// The field at this byte has no possible number.
+    /// The field at this byte has a number that no field may have.
     #[error("Wire FieldNumber {at}")]
     FieldNumber { at: usize },
     /// The field at this byte has no known wire type.
     #[error("Wire WireType {at}")]
     WireType { at: usize },
-    /// The field at this byte has another wire type than its number asks for.
+    /// The field at this byte has another wire type than its number requires.
     #[error("Wire WrongType {at}")]
     WrongType { at: usize },
     /// The text at this byte is not UTF-8.
@@ -30,13 +30,13 @@ pub enum WireError {
     /// The timestamp at this byte is out of range.
     #[error("Wire Timestamp {at}")]
     Timestamp { at: usize },
-    /// The matcher at this byte is of no known type.
+    /// The matcher at this byte has no known type.
     #[error("Wire MatcherType {at}")]
     MatcherType { at: usize },
-    /// The field of this number is missing.
+    /// The field with this number is missing.
     #[error("Wire MissingMessage {field}")]
     MissingMessage { field: u32 },
-    /// The message has over 67,108,864 bytes.
+    /// The message has more than 67,108,864 bytes.
     #[error("Wire TooLarge")]
     TooLarge,
     #[error("Memory")]

@@ -1,4 +1,4 @@
-//! Messages that are kept up to a moment.
+//! Messages that are kept until a moment.
 
 ghost use Rattle.std.specs.Prelude.{◌≡◌, ℕ, List, length};
 ghost use Rattle.am_wire.specs.Reading.{table_at};
@@ -15,16 +15,16 @@ use crate::value::{Field, WireType};
 use am_version_order::Moment;
 use std::alloc::Global;
 
-/// A message, and the moment from which on it may be forgotten.
+/// A message, and the moment from which it may be forgotten.
 #[derive(Drop)]
 pub struct Expiring<M> {
     pub message: M,
     pub expires_at: Moment,
 }
 
-/// A message and its moment as they are read: the fields 1 and 2.
+/// The draft of a message and its moment: the fields 1 and 2.
 ///
-/// A missing message is [`WireError::MissingMessage`], and a missing moment [`Moment::LEAST`].
+/// A missing message is [`WireError::MissingMessage`], and a missing moment is read as [`Moment::LEAST`].
 #[derive(Drop)]
 pub struct ExpiringDraft<D> {
     message: Submessage<D>,
@@ -86,7 +86,7 @@ impl<'a, D: MessageReader<'a>> MessageReader<'a> for ExpiringDraft<D> {
     }
 }
 
-/// How many bytes a message of so many has with its moment.
+/// Returns the length, with its moment, of a message that has `size` bytes by itself.
 pub fn expiring_size(size: u64, expires_at: Moment) -> u64
     ensures { (text : List ℕ) → size ≡ counted (length text) → result ≡ counted (length (writes_expiring text expires_at)) }
 {

@@ -1,4 +1,4 @@
-//! Bytes as a list of fields.
+//! The field at the front of bytes.
 
 ghost use Rattle.std.specs.Prelude.{◌≡◌, ℕ, List, Bool, Result, Ok, Err, ◌+◌, ◌<◌, ◌≤◌, ◌^◌, ◌/◌, ◌%◌, length, drop, IfOk};
 ghost use Rattle.std.specs.Int.{w32, w64, from_le_bytes};
@@ -11,18 +11,18 @@ use crate::error::WireError;
 use crate::value::{Field, Value, WireType};
 use crate::varint::varint_from;
 
-/// Which wire types the field numbers of a message may have.
+/// The wire types that a message's field numbers may have.
 pub trait Schema {
     ghost use Rattle.am_wire.specs.declared.value.WireType.{WireType};
 
     ghost fitting: { ℕ → WireType → Bool };
 
-    /// Whether the number may have the wire type; an unknown number may have any.
+    /// Returns whether the number may have the wire type; an unknown number may have any.
     fn fits(number: u32, wire_type: WireType) -> bool
         ensures { result ≡ fitting number wire_type };
 }
 
-/// Any number may have any wire type.
+/// The schema in which any number may have any wire type.
 pub struct AnyField;
 
 impl Schema for AnyField {
@@ -60,7 +60,7 @@ fn number_of(tag: u64, at: usize) -> Result<u32, WireError>
     }
 }
 
-/// The payload at the front of the bytes, where its bytes begin, and its length.
+/// Reads the payload at the front, and returns it with the offset of its bytes and its length.
 #[tactic(auto, unfolding(crate::specs::Fields::payload_at, crate::specs::Fields::number_at))]
 fn varint_payload<'a>(
     bytes: &'a [u8],
@@ -141,7 +141,7 @@ fn payload_from<'a>(
     }
 }
 
-/// The field at the front of the bytes, and its length.
+/// Reads the field at the front, and returns it with its length.
 #[tactic(auto, unfolding(crate::specs::Fields::field_at))]
 pub fn field_from<'a, K: Schema>(
     bytes: &'a [u8],

@@ -1,4 +1,4 @@
-//! The fields of bytes, one after the other.
+//! An iterator over the fields in bytes.
 
 ghost use Rattle.std.specs.Prelude.{◌≡◌, ℕ, List, [], ◌∷◌, Result, Ok, Err, ◌+◌, ◌<◌, ◌≤◌, ◌^◌, length, IfOk};
 ghost use Rattle.std.specs.Iterator.{YieldsFirstBy, item_count};
@@ -10,8 +10,8 @@ use crate::field::{AnyField, Schema, field_from};
 use crate::value::Field;
 use std::marker::{Model, PhantomData};
 
-/// Goes over the fields of bytes, where each number has a wire type that `K` allows; after a fault it ends.
-/// The bytes of a field are part of the input and not copied.
+/// An iterator over the fields in bytes, in which `K` says which wire types a number may have. It ends after a fault. The
+/// bytes of a field are borrowed from the input.
 #[derive(Drop)]
 pub struct Scan<'a, K: Schema> {
     rest: &'a [u8],
@@ -19,10 +19,10 @@ pub struct Scan<'a, K: Schema> {
     known: PhantomData<K>,
 }
 
-/// Goes over the fields of bytes, whatever their numbers.
+/// An iterator over the fields in bytes, whatever their numbers and wire types.
 pub type Fields<'a> = Scan<'a, AnyField>;
 
-/// Seen as the fields to come, the last of which may be a fault.
+/// The view is the fields to come, the last of which may be a fault.
 impl<'a, K: Schema> Model for Scan<'a, K> {
     ghost Value = { List (Result FieldAt WireError) };
 
@@ -32,7 +32,7 @@ impl<'a, K: Schema> Model for Scan<'a, K> {
 }
 
 impl<'a, K: Schema> Scan<'a, K> {
-    /// Goes over bytes that begin at the offset `at` of the outermost input.
+    /// Returns an iterator over bytes that begin at the offset `at` of the outermost input.
     pub fn within(bytes: &'a [u8], at: usize) -> Self
         requires { at + length bytes.now < 2 ^ 64 }
         ensures { result ≡ fields_of K.fitting at bytes.now }
@@ -44,7 +44,7 @@ impl<'a, K: Schema> Scan<'a, K> {
         }
     }
 
-    /// Goes over bytes that are the outermost input.
+    /// Returns an iterator over bytes that are the outermost input.
     pub fn new(bytes: &'a [u8]) -> Self
         ensures { result ≡ fields_of K.fitting 0 bytes.now }
     {

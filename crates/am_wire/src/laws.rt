@@ -1,8 +1,8 @@
-//! Laws over the definitions that the readers' contracts cite: what is read is what is spelled, and what is spelled is
-//! read in one way only; and a fault is what the bytes behind the last sound thing say.
+//! Laws of the definitions that the readers' contracts cite: what is read is what is spelled, a spelling can be read in
+//! only one way, and a fault is determined by the bytes behind the last sound item.
 
 ghost use Rattle.std.specs.Prelude.{◌≡◌, ℕ, List, [], ◌∷◌, Bool, true, ◌+◌, ◌<◌, ◌≤◌, ◌^◌, ◌↔◌, ◌⊎◌, length, take, map};
-ghost use Rattle.std.specs.Prelude.{Option, Some, None, Ok, Err, ◌++◌, All, IsTrue, slice_index};
+ghost use Rattle.std.specs.Prelude.{Option, Some, None, Ok, Err, ◌++◌, All, IsTrue, slice_index, if◌then◌else◌};
 ghost use Rattle.std.specs.List.{AllPass, flat_map};
 ghost use Rattle.std.specs.Str.{IsUtf8};
 ghost use Rattle.am_wire.specs.Limits.{most};
@@ -20,10 +20,15 @@ ghost use Rattle.am_wire.specs.Reading.{Table, fields_in, faults_in, text_fault,
 ghost use Rattle.am_wire.specs.Reading.{last_number, read_by, unpacked};
 ghost use Rattle.am_wire.specs.SignedParts.{ArePartsOf, IsTimestampOf};
 ghost use Rattle.am_wire.specs.Timestamps.{is_moment, moment, reads_moment};
+ghost use Rattle.am_wire.specs.Unknown.{knows, unknown_in, AreUnknown, StaysWhole};
 ghost use Rattle.am_wire.specs.Writing.{writes_rows};
+ghost use Rattle.am_wire.specs.declared.unknown.Unknown.{Unknown};
 
-/// What is read is a spelling, and a spelling is read, whatever follows it. Where there is none at the front,
-/// the bytes are too few, or the tenth one is not the last of 64 bits. The shortest spelling is one.
+use crate::message::Message;
+use crate::unknown::Unknown;
+
+/// States that what is read is a spelling, and that a spelling is read, whatever follows it. If there is none at the
+/// front, the bytes are too few, or the tenth one doesn't end a number of 64 bits. The shortest spelling is a spelling.
 pub fn varints_are_the_grammar()
     ensures found { (at n len : ℕ) (bytes : List ℕ) → varint_at at bytes ≡ Ok (n, len) → (len ≤ length bytes)
         × IsVarint (take len bytes) n }
@@ -37,8 +42,8 @@ pub fn varints_are_the_grammar()
     ensures shortest { (n : ℕ) (text : List ℕ) → IsVarint text n → length (shortest n) ≤ length text }
 {}
 
-/// Bytes are read without a fault as these fields exactly where they spell them, and each number may have the
-/// wire type that it has there.
+/// States that bytes are read as these fields without a fault if and only if they spell them, and each number may have
+/// the wire type it has there.
 pub fn fields_are_the_grammar()
     ensures found { (fits : ℕ → WireType → Bool) (at : ℕ) (bytes : List ℕ) (es : List FieldAt) →
         fields_of fits at bytes ≡ map Ok es → AreFields es at bytes × AllPass (field_fits fits) es }
@@ -49,7 +54,7 @@ pub fn fields_are_the_grammar()
     ensures any_read { (at : ℕ) (bytes : List ℕ) (es : List FieldAt) → AreFields es at bytes → fields_of any at bytes ≡ map Ok es }
 {}
 
-/// Bytes are read without a fault as these messages exactly where they are a row of them.
+/// States that bytes are read as these messages without a fault if and only if they are a row of them.
 pub fn rows_are_the_grammar()
     ensures found { (bytes : List ℕ) (messages : List (List ℕ)) → rows_of bytes ≡ map Ok messages → AreRows messages bytes }
     ensures read { (bytes : List ℕ) (messages : List (List ℕ)) → AreRows messages bytes → rows_of bytes ≡ map Ok messages }
@@ -58,7 +63,7 @@ pub fn rows_are_the_grammar()
     ensures written { (messages : List (List ℕ)) → All (λ m. length m ≤ most) messages → AreRows messages (writes_rows messages) }
 {}
 
-/// Bytes are read without a fault as these packed numbers exactly where they spell them one after the other.
+/// States that bytes are read as these packed numbers without a fault if and only if they spell them one after another.
 pub fn packed_numbers_are_the_grammar()
     ensures found { (tag : ℕ) (bytes numbers : List ℕ) → unpacked tag bytes ≡ map Ok numbers → ArePacked numbers bytes }
     ensures read { (tag : ℕ) (bytes numbers : List ℕ) → ArePacked numbers bytes → unpacked tag bytes ≡ map Ok numbers }
@@ -66,7 +71,7 @@ pub fn packed_numbers_are_the_grammar()
     ensures written { (numbers : List ℕ) → All (λ n. n < 2 ^ 64) numbers → ArePacked numbers (flat_map shortest numbers) }
 {}
 
-/// Where no number is read, the fault is what the bytes at the front say, and no number is spelled there.
+/// States that if no number is read, the bytes at the front determine the fault, and no number is spelled there.
 pub fn varint_faults_are_the_grammar()
     ensures exact { (at : ℕ) (bytes : List ℕ) (fault : WireError) →
         (varint_at at bytes ≡ Err fault) ↔ IsNumberFault at bytes fault }
@@ -74,8 +79,9 @@ pub fn varint_faults_are_the_grammar()
         IsNumberFault at bytes fault → bytes ≡ text ++ rest → IsVarint text n → ⊥ }
 {}
 
-/// Bytes are read as these fields and then a fault exactly where they spell them, and what follows has that fault at
-/// its front, where no field stands. Any bytes are fields, or fields and then a fault, and that in one way only.
+/// States that bytes are read as these fields followed by a fault if and only if they spell the fields, and the rest has
+/// that fault at its front, where there is no field. All bytes are either fields, or fields followed by a fault, and in
+/// only one way.
 pub fn field_faults_are_the_grammar()
     ensures front { (fits : ℕ → WireType → Bool) (at len : ℕ) (bytes : List ℕ) (e : FieldAt) →
         (field_at fits at bytes ≡ Ok (e, len))
@@ -98,8 +104,8 @@ pub fn field_faults_are_the_grammar()
         IsFieldFault fits at bytes fault → bytes ≡ text ++ rest → IsField e at text → field_fits fits e ≡ true → ⊥ }
 {}
 
-/// Bytes are read as these messages and then a fault exactly where they are a row of them, and what follows has that
-/// fault at its front, where no message stands. Any bytes are the one or the other, and that in one way only.
+/// States that bytes are read as these messages followed by a fault if and only if they are a row of them, and the rest
+/// has that fault at its front, where there is no message. All bytes are either the one or the other, and in only one way.
 pub fn row_faults_are_the_grammar()
     ensures front { (at len : ℕ) (bytes message : List ℕ) →
         (row_at at bytes ≡ Ok (message, len)) ↔ ((len ≤ length bytes) × IsRow message at (take len bytes)) }
@@ -119,14 +125,14 @@ pub fn row_faults_are_the_grammar()
         IsRowFault at bytes fault → bytes ≡ text ++ rest → IsRow message at text → ⊥ }
 {}
 
-/// Where a reader of rows says that bytes are one row, or begin one, they are and do so in the words of the grammar.
+/// States that what a reader of rows takes for a row, or for the beginning of one, is so by the grammar too.
 pub fn readers_rows_are_the_grammar()
     ensures row { (at : ℕ) (bytes message : List ℕ) → reader.IsRow at bytes message ↔ IsRow message at bytes }
     ensures cut { (at : ℕ) (bytes : List ℕ) → reader.IsCut at bytes ↔ (EndsInNumber bytes ⊎ EndsInMessage bytes) }
 {}
 
-/// Bytes are read as these packed numbers and then a fault exactly where they spell them, and what follows has that
-/// fault at its front. The fault lies at the tag of the field.
+/// States that bytes are read as these packed numbers followed by a fault if and only if they spell the numbers, and the
+/// rest has that fault at its front. The fault is reported at the field's tag.
 pub fn packed_faults_are_the_grammar()
     ensures found { (tag : ℕ) (bytes numbers : List ℕ) (fault : WireError) →
         unpacked tag bytes ≡ map Ok numbers ++ Err fault ∷ [] → ArePackedUntil tag numbers fault bytes }
@@ -139,8 +145,8 @@ pub fn packed_faults_are_the_grammar()
         (numbers : List ℕ) × (ArePacked numbers bytes ⊎ ((fault : WireError) × ArePackedUntil tag numbers fault bytes)) }
 {}
 
-/// Inside a message nothing is at fault exactly where its bytes are fields that fit its table, in each of which
-/// nothing is at fault; else the first fault is that of the first such field, or that of bytes where no field stands.
+/// States that a message has no fault inside if and only if its bytes are fields that fit its table, none of which has a
+/// fault inside. Otherwise its first fault is that of the first such field, or that of bytes that aren't a field.
 pub fn parts_are_their_fields()
     ensures sound { (table : Table) (at : ℕ) (bytes : List ℕ) (es : List FieldAt) →
         ((faults_in table at bytes ≡ None) × (fields_in table at bytes ≡ es)) ↔ AreSound table es at bytes }
@@ -148,8 +154,8 @@ pub fn parts_are_their_fields()
         (faults_in table at bytes ≡ Some fault) ↔ HasFault table fault at bytes }
 {}
 
-/// What is at fault inside a field of bytes, whose row says that it holds a text, a message that is held once, one of
-/// many messages, or packed numbers.
+/// States what faults a field of bytes can have inside, if its row says that it holds a text, a message that is held once,
+/// one of many messages, or packed numbers.
 pub fn insides_are_told()
     ensures text { (n at inside : ℕ) (bytes : List ℕ) →
         (text_fault (bytes_field n at inside bytes) ≡ None) ↔ IsUtf8 bytes }
@@ -173,8 +179,8 @@ pub fn insides_are_told()
         ↔ ((numbers : List ℕ) × ArePackedUntil at numbers fault bytes) }
 {}
 
-/// A message is read as v exactly where its bytes are fields that fit its table, nothing inside them is at fault, its
-/// tests pass, and v is their value. It is refused exactly for the first fault in its bytes, or for a test's.
+/// States that a message is read as v if and only if its bytes are fields that fit its table and have no fault inside, its
+/// tests pass, and v is their value. It is refused only with the first fault in its bytes, or with that of a test.
 pub fn messages_are_their_fields<A>()
     // PROMISE: A message has exactly the value of its fields, or their first fault.
     ensures read { (table : Table) (tests : ℕ → List FieldAt → Option WireError) (value : List FieldAt → A) →
@@ -186,8 +192,30 @@ pub fn messages_are_their_fields<A>()
         ↔ (HasFault table fault at bytes ⊎ FailsTests table tests fault place at bytes) }
 {}
 
-/// Fields are read as a moment exactly where the last of their seconds, as a signed number of 64 bits in two's
-/// complement, and the last of their nanos, as one of 32 bits, are the parts of that moment.
+/// States that a message's unknown fields are its fields with unknown numbers, byte for byte, up to the first fault. They
+/// are fields at any offset, and their unknown fields are all of them.
+pub fn unknown_fields_are_the_grammar()
+    ensures first { (known : List ℕ) (at : ℕ) (e : FieldAt) (text rest : List ℕ) → IsField e at text →
+        unknown_in known (text ++ rest) ≡ (if knows known e.number then [] else text) ++ unknown_in known rest }
+    ensures stop { (known : List ℕ) (bytes : List ℕ) (fault : WireError) →
+        field_at any 0 bytes ≡ Err fault → unknown_in known bytes ≡ [] }
+    ensures fields { (known : List ℕ) (at : ℕ) (bytes : List ℕ) (es : List FieldAt) → AreFields es at bytes →
+        AreUnknown known (unknown_in known bytes) }
+    ensures again { (known : List ℕ) (bytes : List ℕ) → AreUnknown known bytes → unknown_in known bytes ≡ bytes }
+{}
+
+/// States that dropping unknown fields drops nothing else: the same faults are found, what is read has no unknown fields,
+/// and a value without unknown fields is read back from its text.
+pub fn only_unknown_fields_are_dropped<M: Message>()
+    ensures faults { (at : ℕ) (bytes : List ℕ) (e : WireError) →
+        (M.reads Unknown.Drop at bytes ≡ Err e) ↔ (M.reads Unknown.Keep at bytes ≡ Err e) }
+    ensures plain { (at : ℕ) (bytes : List ℕ) (v : M) → M.reads Unknown.Drop at bytes ≡ Ok v → M.plain v ≡ v }
+    ensures whole { (unknown : Unknown) (v : M) (at : ℕ) → M.is_value v → length (M.writes v) < 2 ^ 64 →
+        StaysWhole M.plain unknown v → M.reads unknown at (M.writes v) ≡ Ok v }
+{}
+
+/// States that fields are read as a moment if and only if their last seconds, a signed number of 64 bits in two's
+/// complement, and their last nanos, one of 32 bits, are the parts of that moment.
 pub fn moments_are_signed_parts()
     ensures tested { (es : List FieldAt) → last_number 1 es < 2 ^ 64 →
         (IsTrue (is_moment es) ↔ ArePartsOf (last_number 1 es) (last_number 2 es) (moment es)) }

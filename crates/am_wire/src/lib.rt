@@ -1,4 +1,4 @@
-//! The wire form: varints, fields, messages and rows.
+//! The wire format: varints, fields, messages and rows.
 #![tactic(auto)]
 
 mod ascii;
@@ -23,6 +23,7 @@ mod rows;
 mod size;
 mod text;
 mod timestamp;
+mod unknown;
 mod value;
 mod varint;
 mod version_text;
@@ -37,6 +38,7 @@ pub use reader::{RowFault, RowPosition, RowReader};
 pub use record::Record;
 pub use rows::{MOST_MESSAGE_BYTES, Rows};
 pub use text::Text;
+pub use unknown::{Unknown, UnknownFields};
 pub use value::{Field, Value, WireType};
 pub use varint::{VarintBytes, read_varint, write_varint};
 pub use version_text::{ReadText, VersionText};

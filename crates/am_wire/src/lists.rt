@@ -1,4 +1,4 @@
-//! Bytes that need not be a text, and lists of numbers, one to a field or packed.
+//! Fields of bytes, and lists of numbers, which are packed or one to a field.
 
 ghost use Rattle.std.specs.Prelude.{◌≡◌, ℕ, List, [], ◌∷◌, ◌++◌, Option, None, Some, ◌<◌, ◌^◌, length, All, OnOk, IfErr, count_by, nat_lt};
 ghost use Rattle.std.specs.List.{flat_map};
@@ -15,21 +15,21 @@ use crate::varint::{varint_from, write_varint};
 use crate::writing::{write_delimited, write_prefix};
 use std::alloc::AllocError;
 
-/// The last bytes of a field.
+/// The bytes of the last field with a given number.
 #[derive(Clone, Copy)]
 pub struct LastBytes<'a> {
     pub bytes: &'a [u8],
 }
 
 impl<'a> LastBytes<'a> {
-    /// No field came yet.
+    /// Returns the bytes before any field is taken, which are empty.
     pub fn none() -> Self
         ensures { result.bytes.now ≡ [] }
     {
         LastBytes { bytes: &[] }
     }
 
-    /// Takes the field, where it has bytes.
+    /// Takes the field if it holds bytes.
     pub fn take(&mut self, field: Field<'a>)
         ensures { self.new.bytes.now ≡ last_or self.old.bytes.now (delimited_in (field_of field.entry)) }
     {
@@ -39,11 +39,11 @@ impl<'a> LastBytes<'a> {
     }
 }
 
-/// Reads the numbers in a field, packed or not, and puts them behind those before them.
+/// Reads the numbers in a field, packed or not, and appends them.
 ///
 /// # Errors
 ///
-/// The first fault in packed numbers, told at the field's tag, or [`WireError::Memory`].
+/// The first fault in packed numbers, reported at the field's tag, or [`WireError::Memory`].
 pub fn take_numbers(numbers: &mut Vec<u64>, field: Field<'_>) -> Result<(), WireError>
     ensures held { OnOk result (numbers.new.items ≡ numbers.old.items ++ numbers_in (field_of field.entry)) }
     ensures clean { OnOk result (numbers_fault (field_of field.entry) ≡ None) }
@@ -57,14 +57,14 @@ pub fn take_numbers(numbers: &mut Vec<u64>, field: Field<'_>) -> Result<(), Wire
     Ok(())
 }
 
-// How many packed numbers end in the bytes.
+// Returns how many packed numbers end in the bytes.
 fn packed_count(bytes: &[u8]) -> usize
     ensures { result ≡ count_by (λ byte. nat_lt byte 128) bytes.now }
 {
     bytes.iter().filter(|byte| **byte < 128).count()
 }
 
-// Reads the numbers that are packed in bytes; a fault is reported at `at`.
+// Reads the numbers packed in the bytes, and appends them; a fault is reported at `at`.
 fn unpack(numbers: &mut Vec<u64>, bytes: &[u8], at: usize) -> Result<(), WireError>
     ensures held { OnOk result (numbers.new.items ≡ numbers.old.items ++ until_fault (unpacked at bytes.now)) }
     ensures clean { OnOk result (first_fault (unpacked at bytes.now) ≡ None) }
@@ -80,11 +80,11 @@ fn unpack(numbers: &mut Vec<u64>, bytes: &[u8], at: usize) -> Result<(), WireErr
     Ok(())
 }
 
-/// Writes bytes as a field, where there are any.
+/// Writes bytes as a field if there are any.
 ///
 /// # Errors
 ///
-/// [`AllocError`] where memory runs out. A part of the field may be left.
+/// [`AllocError`] if memory runs out. A part of the field may have been written then.
 pub fn write_bytes(out: &mut Vec<u8>, number: u32, bytes: &[u8]) -> Result<(), AllocError>
     requires { number < 2 ^ 29 }
     ensures ok { OnOk result (out.new.items ≡ out.old.items ++ writes_text number bytes.now) }
@@ -95,11 +95,11 @@ pub fn write_bytes(out: &mut Vec<u8>, number: u32, bytes: &[u8]) -> Result<(), A
     Ok(())
 }
 
-/// Writes numbers packed in one field, where there are any.
+/// Writes numbers packed in one field if there are any.
 ///
 /// # Errors
 ///
-/// [`AllocError`] where memory runs out. A part of the field may be left.
+/// [`AllocError`] if memory runs out. A part of the field may have been written then.
 pub fn write_numbers(out: &mut Vec<u8>, number: u32, numbers: &[u64]) -> Result<(), AllocError>
     requires { number < 2 ^ 29 }
     ensures ok { OnOk result (out.new.items ≡ out.old.items ++ writes_numbers number numbers.now) }
@@ -112,7 +112,7 @@ pub fn write_numbers(out: &mut Vec<u8>, number: u32, numbers: &[u64]) -> Result<
     Ok(())
 }
 
-// Writes numbers one after the other.
+// Appends numbers one after another.
 fn append_varints(out: &mut Vec<u8>, numbers: &[u64]) -> Result<(), AllocError>
     ensures ok { OnOk result (out.new.items ≡ out.old.items ++ flat_map shortest numbers.now) }
 {

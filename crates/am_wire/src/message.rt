@@ -1,48 +1,56 @@
-//! Messages, which are written in one way and read from every spelling.
+//! Messages, which are written in only one way and read from every spelling.
 
 ghost use Rattle.std.specs.Prelude.{◌≡◌, ℕ, List, ◌++◌, ◌+◌, ◌<◌, ◌≤◌, ◌^◌, Result, Ok, Err, OnOk, OnErr, IfErr, ◌⊎◌, ◌↔◌, length};
 ghost use Rattle.am_wire.specs.Limits.{most};
 ghost use Rattle.am_wire.specs.Reading.{GivesUnlessMemory};
 ghost use Rattle.am_wire.specs.Sizes.{counted};
 ghost use Rattle.am_wire.specs.Writing.{writes_delimited};
+ghost use Rattle.am_wire.specs.Unknown.{plainly};
 ghost use Rattle.am_wire.specs.declared.error.WireError.{WireError};
+ghost use Rattle.am_wire.specs.declared.unknown.Unknown.{Unknown};
+ghost use Rattle.am_wire.specs.declared.unknown.Unknown.TheVariants.{Drop, Keep};
 ghost use Rattle.am_wire.specs.declared.error.WireError.TheVariants as errors;
 
 use crate::error::WireError;
 use crate::rows::MOST_MESSAGE_BYTES;
+use crate::unknown::Unknown;
 use crate::writing::write_prefix;
 use std::alloc::{AllocError, Global};
 
-/// A value that has one text of its own, and is read from every text that spells it.
+/// A value that is written as one canonical text, and read from every text that spells it.
 pub trait Message: Sized + Drop {
     /// Holds of the values of the type.
     ghost is_value: { Self → Type 0 };
 
-    /// The one text of a value.
+    /// The canonical text of a value.
     ghost writes: { Self → List ℕ };
 
-    /// The value that a text spells, or the first fault; the text begins at this offset of the outermost input.
-    ghost reads: { ℕ → List ℕ → Result Self WireError };
+    /// The same value without the fields that its reader doesn't know.
+    ghost plain: { Self → Self };
 
-    /// How many bytes the text has, and [`u64::MAX`] for every length that is no less. It takes no memory.
+    /// The value that a text spells, or its first fault. The text begins at this offset of the outermost input, and unknown
+    /// fields are dropped or kept.
+    ghost reads: { Unknown → ℕ → List ℕ → Result Self WireError };
+
+    /// Returns the text's length, or [`u64::MAX`] if it would be that or more. Nothing is allocated.
     fn size(&self) -> u64
         ensures { result ≡ counted (length (writes self.now)) };
 
-    /// Writes the text at the end of the bytes.
+    /// Appends the text to the bytes.
     ///
     /// # Errors
     ///
-    /// [`AllocError`] where memory runs out. A part of the text may be left.
+    /// [`AllocError`] if memory runs out. A part of the text may have been written then.
     fn write(&self, out: &mut Vec<u8>) -> Result<(), AllocError>
         ensures written { OnOk result (out.new.items ≡ out.old.items ++ writes self.now) }
         ensures value { OnOk result (is_value self.now) };
 
-    /// Writes the text at the end of the bytes, which grow by their own allocator.
+    /// Appends the text to the bytes, which grow by their own allocator.
     ///
     /// # Errors
     ///
-    /// [`WireError::TooLarge`], exactly where the text has over [`MOST_MESSAGE_BYTES`], and [`WireError::Memory`].
-    /// Either leaves the bytes as they were.
+    /// [`WireError::TooLarge`] if and only if the text has more than [`MOST_MESSAGE_BYTES`], or [`WireError::Memory`]. The
+    /// bytes are unchanged after either.
     fn encode(&self, out: &mut Vec<u8>) -> Result<(), WireError>
         ensures written { OnOk result (out.new.items ≡ out.old.items ++ writes self.now) }
         ensures value { OnOk result (is_value self.now) }
@@ -66,30 +74,41 @@ pub trait Message: Sized + Drop {
     /// # Errors
     ///
     /// The first fault in the bytes, or [`WireError::Memory`].
-    fn decode_at(alloc: Global, bytes: &[u8], at: usize) -> Result<Self, WireError>
+    fn decode_at(
+        alloc: Global,
+        unknown: Unknown,
+        bytes: &[u8],
+        at: usize,
+    ) -> Result<Self, WireError>
         requires { at + length bytes.now < 2 ^ 64 }
-        ensures { GivesUnlessMemory result (reads at bytes.now) };
+        ensures { GivesUnlessMemory result (reads unknown at bytes.now) };
 
-    /// Reads a value from all of the bytes.
+    /// Reads a value from all of the bytes, without its unknown fields.
     ///
     /// # Errors
     ///
     /// The first fault in the bytes, or [`WireError::Memory`].
     fn decode(alloc: Global, bytes: &[u8]) -> Result<Self, WireError>
-        ensures { GivesUnlessMemory result (reads 0 bytes.now) }
+        ensures { GivesUnlessMemory result (reads Drop 0 bytes.now) }
     {
-        Self::decode_at(alloc, bytes, 0)
+        Self::decode_at(alloc, Unknown::Drop, bytes, 0)
     }
 
-    /// What is written is read again, wherever it stands.
-    ghost round_trip: { (v : Self) (at : ℕ) → is_value v → length (writes v) < 2 ^ 64 → reads at (writes v) ≡ Ok v };
+    /// A value that is written is read back, at any offset.
+    ghost round_trip: { (v : Self) (at : ℕ) → is_value v → length (writes v) < 2 ^ 64 → reads Keep at (writes v) ≡ Ok v };
+
+    /// Dropping unknown fields gives the same value without them, or the same fault.
+    ghost dropped: { (at : ℕ) (bytes : List ℕ) → reads Drop at bytes ≡ plainly plain (reads Keep at bytes) };
+
+    /// A value without unknown fields has none to lose.
+    ghost plain_again: { (v : Self) → plain (plain v) ≡ plain v };
 }
 
-/// Writes a message as a field, also where its text is empty.
+/// Writes a message as a field, even if its text is empty.
 ///
 /// # Errors
 ///
-/// [`AllocError`] where memory runs out. A part of the field may be left.
+/// [`AllocError`] if memory runs out. A part of the field may have been written then.
 pub fn write_message<M: Message>(
     out: &mut Vec<u8>,
     number: u32,

@@ -1,4 +1,4 @@
-//! Reading a message field by field.
+//! A message's draft, which takes one field after another.
 
 ghost use Rattle.std.specs.Prelude.{◌≡◌, ℕ, List, [], ◌∷◌, ◌++◌, Option, None, Some, ◌+◌, ◌<◌, ◌^◌, length, OnOk, IfErr};
 ghost use Rattle.am_wire.specs.Fields.{FieldAt, field_of, fields_of};
@@ -11,24 +11,24 @@ use crate::fields::Scan;
 use crate::value::Field;
 use std::alloc::Global;
 
-/// What was read of a message so far.
+/// The draft of a message: what its fields so far amount to.
 pub trait MessageReader<'a>: Schema + Drop {
-    /// The message.
+    /// The message that the draft becomes.
     type Done: Drop;
 
-    /// What is at fault inside a field.
+    /// The fault inside a field.
     ghost inside: { FieldAt → Option WireError };
 
     /// The draft is what these fields leave.
     ghost holds: { List FieldAt → Self → Type 0 };
 
-    /// The fault that a message's own tests find, once its fields are read; `place` is where it stands.
+    /// The fault that the message's own tests find once all fields are read, reported at this place.
     ghost tests: { ℕ → List FieldAt → Option WireError };
 
-    /// The message of these fields.
+    /// The message that these fields make.
     ghost value: { List FieldAt → Self.Done };
 
-    /// No field was taken yet.
+    /// Returns the draft before any field is taken.
     fn start(alloc: Global) -> Self
         ensures { holds [] result };
 
@@ -42,16 +42,16 @@ pub trait MessageReader<'a>: Schema + Drop {
         ensures clean { OnOk result (inside (field_of field.entry) ≡ None) }
         ensures fault { IfErr result (λ e. FailsUnlessMemory e (inside (field_of field.entry))) };
 
-    /// The message of the fields that were taken; what its own tests find stands at `place`.
+    /// Returns the message that the fields make. A fault that its own tests find is reported at `place`.
     ///
     /// # Errors
     ///
-    /// What the tests find, or [`WireError::Memory`].
+    /// The fault that the tests find, or [`WireError::Memory`].
     fn finish(self, alloc: Global, place: usize) -> Result<Self::Done, WireError>
         ensures { (es : List FieldAt) → holds es self → GivesUnlessMemory result (fault_or_value (tests place es) (value es)) };
 }
 
-/// Takes the fields of the bytes, which begin at the offset `at` of the outermost input.
+/// Takes all fields in the bytes, which begin at the offset `at` of the outermost input.
 ///
 /// # Errors
 ///
@@ -73,12 +73,12 @@ pub fn take_fields<'a, D: MessageReader<'a>>(
     Ok(())
 }
 
-/// Reads a message from the bytes, which begin at the offset `at` of the outermost input; what its own tests
-/// find stands at `place`.
+/// Reads a message from the bytes, which begin at the offset `at` of the outermost input. A fault that its own tests find
+/// is reported at `place`.
 ///
 /// # Errors
 ///
-/// The first fault in the bytes, else what the message's own tests find; or [`WireError::Memory`].
+/// The first fault in the bytes, or else the one that the message's own tests find; or [`WireError::Memory`].
 pub fn read_message<'a, D: MessageReader<'a>>(
     alloc: Global,
     bytes: &'a [u8],

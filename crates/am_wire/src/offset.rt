@@ -1,4 +1,4 @@
-//! Parts of a text that are kept as the offset of their length in it: protobuf's length-delimited fields.
+//! Parts of a text (protobuf's length-delimited fields) that are kept as the offset of their length in it.
 
 ghost use Rattle.std.specs.Prelude.{◌≡◌, ℕ, ◌+◌, ◌<◌, ◌≤◌, ◌^◌, ◌++◌, List, All, OnOk, IfOk, if◌then◌else◌};
 ghost use Rattle.std.specs.List.{flat_map};
@@ -11,7 +11,7 @@ use crate::lists::{write_bytes, write_numbers};
 use crate::varint::read_varint;
 use std::alloc::AllocError;
 
-/// Where a part of a text stands behind its length: how many bytes come before that length.
+/// The place of a part in a text: the number of bytes in front of its length, which precedes it.
 ///
 /// 0 is the offset of an empty part.
 #[derive(Clone, Copy)]
@@ -20,8 +20,7 @@ pub struct Offset {
 }
 
 impl Offset {
-    // The offset of the bytes in a field that is left out where there are none, and whose tag, of one byte, stands
-    // behind so many bytes.
+    // Returns the offset of a field's bytes, if its tag, of one byte, comes after `count` bytes. An empty field is left out.
     pub(crate) fn behind_tag(count: usize, is_empty: bool) -> Offset
         requires { count ≤ 2 ^ 63 }
         ensures { result.start ≡ (if is_empty then 0 else count + 1) }
@@ -32,7 +31,7 @@ impl Offset {
         Offset { start: count + 1 }
     }
 
-    /// The part that stands here.
+    /// Returns the part of the text at this offset.
     pub fn part_of(self, text: &[u8]) -> &[u8]
         requires { (part : List ℕ) × StandsAt part self text.now }
         ensures { (part : List ℕ) → StandsAt part self text.now → result.now ≡ part }
@@ -43,18 +42,18 @@ impl Offset {
         split_part(&text[self.start..]).0
     }
 
-    /// The same of a part in UTF-8.
+    /// Returns the part of the text at this offset, which is UTF-8.
     pub fn text_of(self, text: &[u8]) -> &str
         requires { (part : List ℕ) × StandsAt part self text.now × IsUtf8 part }
         ensures { (part : List ℕ) → StandsAt part self text.now → result.now ≡ part }
     {
         let part = self.part_of(text);
-        // SAFETY: the part is in UTF-8.
+        // SAFETY: the part is UTF-8.
         unsafe { str::from_utf8_unchecked(part) }
     }
 }
 
-/// The part that stands behind its length at the front of the bytes, and what follows.
+/// Splits the bytes into the part at the front, behind its length, and the rest.
 pub fn split_part(bytes: &[u8]) -> (&[u8], &[u8])
     requires { (part : List ℕ) × Follows 0 part bytes.now }
     ensures { (part : List ℕ) → (h : Follows 0 part bytes.now) → (result.0.now ≡ part) × (result.1.now ≡ h.rest) }
@@ -65,11 +64,11 @@ pub fn split_part(bytes: &[u8]) -> (&[u8], &[u8])
     }
 }
 
-/// Writes bytes as a field, where there are any, and says where they stand.
+/// Writes bytes as a field if there are any, and returns their offset.
 ///
 /// # Errors
 ///
-/// [`AllocError`] where memory runs out. A part of the field may be left.
+/// [`AllocError`] if memory runs out. A part of the field may have been written then.
 pub fn write_part(out: &mut Vec<u8>, number: u32, bytes: &[u8]) -> Result<Offset, AllocError>
     requires { number < 16 }
     ensures written { OnOk result (out.new.items ≡ out.old.items ++ writes_text number bytes.now) }
@@ -80,11 +79,11 @@ pub fn write_part(out: &mut Vec<u8>, number: u32, bytes: &[u8]) -> Result<Offset
     Ok(offset)
 }
 
-/// Writes numbers packed in one field, where there are any, and says where they stand.
+/// Writes numbers packed in one field if there are any, and returns their offset.
 ///
 /// # Errors
 ///
-/// As [`write_part`].
+/// As for [`write_part`].
 pub fn write_packed_part(
     out: &mut Vec<u8>,
     number: u32,

@@ -1,4 +1,4 @@
-//! The parts of a message as they are read: of each number what counts so far.
+//! The parts of a message's draft: for each field number, the value that counts so far.
 
 ghost use Rattle.std.specs.Prelude.{◌≡◌, ℕ, false, List, [], ◌∷◌, ◌++◌, None, Some, ◌+◌, ◌<◌, ◌^◌, length, map, OnOk, IfErr};
 ghost use Rattle.am_wire.specs.Fields.{FieldAt, field_of};
@@ -12,7 +12,7 @@ use crate::message_reader::{MessageReader, read_message, take_fields};
 use crate::value::{Field, Value};
 use std::alloc::Global;
 
-/// The last number of a field, and where it stands.
+/// The number in the last field with a given field number, and that field's offset.
 #[derive(Clone, Copy)]
 pub struct LastNumber {
     pub value: u64,
@@ -20,7 +20,7 @@ pub struct LastNumber {
 }
 
 impl LastNumber {
-    /// No field came yet.
+    /// Returns the value before any field is taken, which is 0.
     pub fn none() -> Self
         ensures value { result.value ≡ 0 }
         ensures at { result.at ≡ 0 }
@@ -28,7 +28,7 @@ impl LastNumber {
         LastNumber { value: 0, at: 0 }
     }
 
-    /// Takes the field, where it has a number.
+    /// Takes the field if it holds a number.
     pub fn take(&mut self, field: Field<'_>)
         ensures value { self.new.value ≡ last_or self.old.value (varint_in (field_of field.entry)) }
         ensures at { self.new.at ≡ last_or self.old.at (varint_place (field_of field.entry)) }
@@ -40,25 +40,25 @@ impl LastNumber {
     }
 }
 
-/// The last text of a field.
+/// The text in the last field with a given field number.
 #[derive(Clone, Copy)]
 pub struct LastText<'a> {
     pub text: &'a str,
 }
 
 impl<'a> LastText<'a> {
-    /// No field came yet.
+    /// Returns the text before any field is taken, which is empty.
     pub fn none() -> Self
         ensures { result.text.now ≡ [] }
     {
         LastText { text: "" }
     }
 
-    /// Takes the field, where it has bytes.
+    /// Takes the field if it holds bytes.
     ///
     /// # Errors
     ///
-    /// [`WireError::NotUtf8`] for bytes that are no text.
+    /// [`WireError::NotUtf8`] if the bytes aren't a text.
     pub fn take(&mut self, field: Field<'a>) -> Result<(), WireError>
         ensures held { OnOk result (self.new.text.now ≡ last_or self.old.text.now (delimited_in (field_of field.entry))) }
         ensures clean { OnOk result (text_fault (field_of field.entry) ≡ None) }
@@ -74,7 +74,7 @@ impl<'a> LastText<'a> {
     }
 }
 
-/// A message that is held once, and where it was last given.
+/// The draft of a message that is held once, and the offset at which it was last given.
 #[derive(Drop)]
 pub struct Submessage<D> {
     pub draft: D,
@@ -83,7 +83,7 @@ pub struct Submessage<D> {
 }
 
 impl<D> Submessage<D> {
-    /// No payload came yet.
+    /// Returns the draft before any payload is taken.
     pub fn none<'a>(alloc: Global) -> Self
     where
         D: MessageReader<'a>,
@@ -98,7 +98,7 @@ impl<D> Submessage<D> {
         }
     }
 
-    /// Takes the fields of the payload, where it has bytes.
+    /// Takes the fields in the payload if it is bytes.
     ///
     /// # Errors
     ///
@@ -122,11 +122,11 @@ impl<D> Submessage<D> {
     }
 }
 
-/// Reads the message in a field, and puts it behind those before it.
+/// Reads the message in a field, and appends it to the others.
 ///
 /// # Errors
 ///
-/// The first fault in the message, else what its own tests find, told at the field's tag; or
+/// The first fault in the message, or else the one that its own tests find, reported at the field's tag; or
 /// [`WireError::Memory`].
 pub fn take_item<'a, D: MessageReader<'a>>(
     alloc: Global,

@@ -1,4 +1,4 @@
-//! Messages of a row, read one after the other.
+//! A reader of the messages of a row, one after another.
 
 ghost use Rattle.std.specs.Prelude.{◌≡◌, ℕ, List, [], ◌∷◌, ◌++◌, ◌+◌, ◌<◌, ◌≤◌, ◌^◌, None, length, take, drop, vec_len};
 ghost use Rattle.std.specs.Prelude.{IfOk, OnOk, IfErr, OnErr, IfSome, MatchResult};
@@ -11,16 +11,17 @@ ghost use Rattle.am_wire.specs.declared.reader.RowPosition.TheVariants.{Before};
 use crate::error::WireError;
 use crate::message::Message;
 use crate::rows::MOST_MESSAGE_BYTES;
+use crate::unknown::Unknown;
 use crate::varint::varint_from;
 use std::alloc::{AllocError, Global};
 use std::io::{self, Read};
 use std::marker::{Model, PhantomData};
 use thiserror::Error;
 
-/// The least room that is made for the bytes of a message.
+/// The least room that is made for a message's bytes.
 const LEAST_ROOM: usize = 4096;
 
-/// Why a message of a row was not read.
+/// The reason why a message of a row was not read.
 #[derive(Clone, Copy, Debug, PartialEq, Eq, Error)]
 pub enum RowFault {
     #[error("a read failed after {at} bytes")]
@@ -54,19 +55,18 @@ impl From<AllocError> for RowFault {
     }
 }
 
-/// Where a reader of rows stands.
+/// The position of a reader of rows.
 #[derive(Clone, Copy)]
 pub enum RowPosition {
-    /// The next row begins at this offset, and the input may have so many bytes.
+    /// The next row begins at this offset, and the input may have `limit` bytes.
     Before { at: usize, limit: u32 },
     /// The input has ended.
     Over,
-    /// A call was refused.
+    /// An earlier call failed.
     Refused,
 }
 
-/// Reads a row of messages, and holds only the one that is being read. Each is read into the room of those
-/// before it.
+/// A reader of the messages of a row, which holds only the one that is being read. All are read into the same buffer.
 #[derive(Drop)]
 pub struct RowReader<V: Message> {
     alloc: Global,
@@ -75,7 +75,7 @@ pub struct RowReader<V: Message> {
     of: PhantomData<V>,
 }
 
-/// Seen as where it stands.
+/// The view is the reader's position.
 impl<V: Message> Model for RowReader<V> {
     ghost use Rattle.std.specs.Prelude.{◌≡◌, ℕ, ◌≤◌};
     ghost use Rattle.am_wire.specs.declared.reader.RowPosition.{RowPosition};
@@ -89,14 +89,14 @@ impl<V: Message> Model for RowReader<V> {
 }
 
 impl<V: Message> RowReader<V> {
-    /// Stands before the first row of an input of at most [`MOST_MESSAGE_BYTES`]. It takes no memory.
+    /// Returns a reader at the start of an input of at most [`MOST_MESSAGE_BYTES`]. Nothing is allocated.
     pub fn new(alloc: Global) -> Self
         ensures { result ≡ Before 0 most }
     {
         Self::within(alloc, MOST_MESSAGE_BYTES as u32)
     }
 
-    /// Stands before the first row of an input of at most so many bytes. It takes no memory.
+    /// Returns a reader at the start of an input of at most `limit` bytes. Nothing is allocated.
     pub fn within(alloc: Global, limit: u32) -> Self
         ensures { result ≡ Before 0 limit }
     {
@@ -108,18 +108,34 @@ impl<V: Message> RowReader<V> {
         }
     }
 
-    /// Reads the next message. It reads no byte behind its row, and the row's length byte by byte. None is the
-    /// end of the input, and every call after it is None.
+    /// Reads the next message, without its unknown fields. No byte behind its row is read, and the row's length is read byte
+    /// by byte. At the end of the input this returns `None`, and so does every call after that.
     ///
     /// # Errors
     ///
-    /// [`RowFault::Wire`] for the first fault of a row, which is judged once it is whole or its length is at fault;
-    /// [`RowFault::Read`] for a read that failed, which is not tried again; [`RowFault::TooLarge`] for an input
-    /// of more bytes than it may have; [`RowFault::Memory`]; and after a refusal at every call [`RowFault::Ended`].
+    /// [`RowFault::Wire`] for the first fault of a row, which is found once the row is whole or its length is at fault;
+    /// [`RowFault::Read`] if a read fails, which is not tried again; [`RowFault::TooLarge`] if the input has more bytes than
+    /// it may have; [`RowFault::Memory`]; and [`RowFault::Ended`] at every call after one of these.
     pub fn next<R: Read>(&mut self, reader: &mut R) -> Result<Option<V>, RowFault>
         // PROMISE: A row's next message is read from exactly its own bytes.
         ensures { (bytes : List ℕ) × Consumes (R.remaining reader.old) (R.remaining reader.new) bytes ×
-            Answers V.reads self.old bytes (R.remaining reader.new) result self.new }
+            Answers (V.reads Unknown.Drop) self.old bytes (R.remaining reader.new) result self.new }
+    {
+        self.next_by(Unknown::Drop, reader)
+    }
+
+    /// Reads the next message as [`RowReader::next`] does, but drops or keeps its unknown fields as `unknown` says.
+    ///
+    /// # Errors
+    ///
+    /// As for [`RowReader::next`].
+    pub fn next_by<R: Read>(
+        &mut self,
+        unknown: Unknown,
+        reader: &mut R,
+    ) -> Result<Option<V>, RowFault>
+        ensures { (bytes : List ℕ) × Consumes (R.remaining reader.old) (R.remaining reader.new) bytes ×
+            Answers (V.reads unknown) self.old bytes (R.remaining reader.new) result self.new }
     {
         let (at, limit) = match self.standing {
             RowPosition::Before { at, limit } => (at, limit),
@@ -132,7 +148,7 @@ impl<V: Message> RowReader<V> {
             return Ok(None);
         };
         read_message_bytes(&mut self.message, reader, limit, at, start, size)?;
-        let value = V::decode_at(self.alloc, &self.message, start)?;
+        let value = V::decode_at(self.alloc, unknown, &self.message, start)?;
         self.standing = RowPosition::Before {
             at: start + size,
             limit,
@@ -141,7 +157,7 @@ impl<V: Message> RowReader<V> {
     }
 }
 
-/// Reads the byte that stands behind `place` others; none at the end of the input.
+/// Reads the byte at the offset `place`, or returns `None` at the end of the input.
 fn read_byte<R: Read>(reader: &mut R, place: usize, limit: u32) -> Result<Option<u8>, RowFault>
     ensures some { IfOk result (λ o. IfSome o (λ byte.
         Consumes (R.remaining reader.old) (R.remaining reader.new) (byte ∷ []) × (place < limit))) }
@@ -159,7 +175,7 @@ fn read_byte<R: Read>(reader: &mut R, place: usize, limit: u32) -> Result<Option
     }
 }
 
-/// The length of a row that these bytes spell.
+/// Returns the length of a row that the bytes spell.
 #[tactic(auto, unfolding(crate::specs::Reader::length_at))]
 fn length_from(bytes: &[u8], at: usize) -> Result<usize, WireError>
     ensures { result ≡ length_at at bytes.now }
@@ -171,8 +187,8 @@ fn length_from(bytes: &[u8], at: usize) -> Result<usize, WireError>
     Ok(size as usize)
 }
 
-/// Reads the length of the row at the offset `at`. Answers it and where the message begins, and none at the
-/// end of the input.
+/// Reads the length of the row at the offset `at`. Returns it with the offset at which the message begins, or `None` at
+/// the end of the input.
 fn read_length<R: Read>(
     reader: &mut R,
     at: usize,
@@ -208,7 +224,7 @@ fn read_length<R: Read>(
     }
 }
 
-/// Reads bytes into the room that stands behind the first `at` of them, and answers how many.
+/// Reads bytes into the room behind the first `at` bytes, and returns how many were read.
 fn read_at<R: Read>(reader: &mut R, room: &mut [u8], at: usize) -> io::Result<usize>
     requires { at < length room.old }
     ensures front { take at room.new ≡ take at room.old }
@@ -220,8 +236,8 @@ fn read_at<R: Read>(reader: &mut R, room: &mut [u8], at: usize) -> io::Result<us
     reader.read(&mut room[at..])
 }
 
-/// Makes room behind the first `len` of the bytes, of which so many are wanted: at most as much as they take
-/// themselves, or 4,096 bytes.
+/// Makes room behind the first `len` of the `wanted` bytes: for `len` bytes more, or 4,096 if that is greater, but never for
+/// more than are wanted.
 fn make_room(bytes: &mut Vec<u8>, len: usize, wanted: usize) -> Result<(), AllocError>
     requires within { len ≤ vec_len bytes.old }
     requires below { len < wanted }
@@ -237,8 +253,8 @@ fn make_room(bytes: &mut Vec<u8>, len: usize, wanted: usize) -> Result<(), Alloc
     bytes.resize(len + more, 0)
 }
 
-/// Reads so many bytes, or fewer at the end of the input, in place of those that are held; `start` bytes stand
-/// before them. Room is made as they come, so that no length takes memory by itself.
+/// Reads `wanted` bytes, or fewer at the end of the input, in place of those that are held. They begin at the offset
+/// `start`. Room is made as they arrive, so that a large length alone takes no memory.
 fn read_up_to<R: Read>(
     bytes: &mut Vec<u8>,
     reader: &mut R,
@@ -266,7 +282,7 @@ fn read_up_to<R: Read>(
     Ok(())
 }
 
-/// Reads the message of `size` bytes of the row at the offset `at` into the bytes; it begins at the offset `start`.
+/// Reads into `bytes` the message of `size` bytes that begins at the offset `start`. Its row begins at the offset `at`.
 fn read_message_bytes<R: Read>(
     bytes: &mut Vec<u8>,
     reader: &mut R,

@@ -1,4 +1,4 @@
-//! What a message is read with: its table of fields, its draft and the parts of drafts.
+//! The items that a message is read with: its table of fields, its draft and the parts of drafts.
 
 pub use crate::canonical::CanonicalReader;
 pub use crate::expiring::{Expiring, ExpiringDraft};

@@ -1,4 +1,4 @@
-//! Messages one after the other, each behind its length.
+//! An iterator over messages that follow one another, each behind its length.
 
 ghost use Rattle.std.specs.Prelude.{◌≡◌, ℕ, List, [], ◌∷◌, Result, Ok, Err, ◌+◌, ◌<◌, ◌≤◌, ◌^◌, length, IfOk};
 ghost use Rattle.std.specs.Iterator.{YieldsFirstBy, item_count};
@@ -10,10 +10,10 @@ use crate::error::WireError;
 use crate::varint::varint_from;
 use std::marker::Model;
 
-/// The most bytes of a message, in a row or to be written, and of an input that is given no other limit: 64 MiB.
+/// The maximum length of a message, in a row or to be written, and of an input that has no other limit: 64 MiB.
 pub const MOST_MESSAGE_BYTES: u64 = 67_108_864;
 
-/// The message at the front of the bytes, and its length with that of its length.
+/// Returns the message at the front, and the number of bytes that it takes with its length.
 #[tactic(auto, unfolding(crate::specs::Fields::row_at))]
 pub fn row_from(bytes: &[u8], at: usize) -> Result<(&[u8], usize), WireError>
     ensures value { first_row_seen result ≡ row_at at bytes.now }
@@ -31,15 +31,15 @@ pub fn row_from(bytes: &[u8], at: usize) -> Result<(&[u8], usize), WireError>
     Ok((&rest[..size], len + size))
 }
 
-/// Goes over the messages of a row, which are part of the input and not copied; after a fault it ends. A message
-/// of more than [`MOST_MESSAGE_BYTES`] is [`WireError::TooLarge`], whether it is whole or not.
+/// An iterator over the messages of a row, which are borrowed from the input. It ends after a fault. A message of more than
+/// [`MOST_MESSAGE_BYTES`] is [`WireError::TooLarge`], whether it is whole or not.
 #[derive(Drop)]
 pub struct Rows<'a> {
     rest: &'a [u8],
     at: usize,
 }
 
-/// Seen as the messages to come, the last of which may be a fault.
+/// The view is the messages to come, the last of which may be a fault.
 impl<'a> Model for Rows<'a> {
     ghost Value = { List (Result (List ℕ) WireError) };
 
@@ -49,7 +49,7 @@ impl<'a> Model for Rows<'a> {
 }
 
 impl<'a> Rows<'a> {
-    /// Goes over bytes that are the outermost input.
+    /// Returns an iterator over bytes that are the outermost input.
     pub fn new(bytes: &'a [u8]) -> Self
         ensures { result ≡ rows_of bytes.now }
     {

@@ -1,5 +1,5 @@
-//! The lengths of fields before they are written. They take no memory, and [`u64::MAX`] stands for every
-//! length that is no less.
+//! The lengths of fields before they are written. Computing them allocates nothing, and every length of at least
+//! [`u64::MAX`] is given as [`u64::MAX`].
 
 ghost use Rattle.std.specs.Prelude.{◌≡◌, ℕ, List, ◌<◌, ◌≤◌, ◌^◌, length};
 ghost use Rattle.std.specs.List.{flat_map};
@@ -9,7 +9,7 @@ ghost use Rattle.am_wire.specs.Writing.{writes_number, writes_delimited, writes_
 
 use crate::message::Message;
 
-/// How many bytes the shortest spelling of a number has.
+/// Returns the length of a number's shortest spelling.
 pub fn varint_size(value: u64) -> u64
     ensures size { result ≡ length (shortest value) }
     ensures most { result ≤ 10 }
@@ -20,7 +20,7 @@ pub fn varint_size(value: u64) -> u64
     u64::from(63 - value.leading_zeros()) / 7 + 1
 }
 
-/// How many bytes a number takes as a field.
+/// Returns the length of a number as a field.
 pub fn number_size(number: u32, value: u64) -> u64
     requires { number < 2 ^ 29 }
     ensures size { result ≡ length (writes_number number value) }
@@ -32,7 +32,7 @@ pub fn number_size(number: u32, value: u64) -> u64
     varint_size(u64::from(number) * 8) + varint_size(value)
 }
 
-/// How many bytes so many take as a field.
+/// Returns the length of `size` bytes as a field.
 pub fn delimited_size(number: u32, size: u64) -> u64
     requires { number < 2 ^ 29 }
     ensures { (bytes : List ℕ) → size ≡ counted (length bytes) → result ≡ counted (length (writes_delimited number bytes)) }
@@ -41,7 +41,7 @@ pub fn delimited_size(number: u32, size: u64) -> u64
     front.saturating_add(size)
 }
 
-/// How many bytes others take as a field, where there are any.
+/// Returns the length of bytes as a field, which is left out if there are none.
 pub fn bytes_size(number: u32, bytes: &[u8]) -> u64
     requires { number < 2 ^ 29 }
     ensures { result ≡ counted (length (writes_text number bytes.now)) }
@@ -52,7 +52,7 @@ pub fn bytes_size(number: u32, bytes: &[u8]) -> u64
     delimited_size(number, bytes.len() as u64)
 }
 
-/// How many bytes a text takes as a field, where it is not empty.
+/// Returns the length of a text as a field, which is left out if it is empty.
 pub fn text_size(number: u32, text: &str) -> u64
     requires { number < 2 ^ 29 }
     ensures { result ≡ counted (length (writes_text number text.now)) }
@@ -60,7 +60,7 @@ pub fn text_size(number: u32, text: &str) -> u64
     bytes_size(number, text.as_bytes())
 }
 
-/// How many bytes a message takes as a field.
+/// Returns the length of a message as a field.
 pub fn message_size<M: Message>(number: u32, message: &M) -> u64
     requires { number < 2 ^ 29 }
     ensures { result ≡ counted (length (writes_delimited number (M.writes message.now))) }
@@ -68,7 +68,7 @@ pub fn message_size<M: Message>(number: u32, message: &M) -> u64
     delimited_size(number, message.size())
 }
 
-/// How many bytes numbers take that are packed in one field, where there are any.
+/// Returns the length of numbers packed in one field, which is left out if there are none.
 pub fn numbers_size(number: u32, numbers: &[u64]) -> u64
     requires { number < 2 ^ 29 }
     ensures { result ≡ counted (length (writes_numbers number numbers.now)) }
@@ -79,7 +79,7 @@ pub fn numbers_size(number: u32, numbers: &[u64]) -> u64
     delimited_size(number, varints_size(numbers))
 }
 
-/// How many bytes numbers have that stand one after the other.
+/// Returns the length of numbers spelled one after another.
 pub fn varints_size(numbers: &[u64]) -> u64
     ensures { result ≡ counted (length (flat_map shortest numbers.now)) }
 {

@@ -1,4 +1,4 @@
-//! Texts of messages.
+//! Texts in messages.
 
 ghost use Rattle.std.specs.Prelude.{◌≡◌, ℕ, List, ◌==◌, ◌<◌, ◌^◌, length, IfOk, string_bytes, OnOk};
 ghost use Rattle.std.specs.Str.{IsUtf8};
@@ -27,18 +27,18 @@ impl Model for Text {
 }
 
 impl Text {
-    /// The text of a string. It takes no memory.
+    /// Returns the text of a string, without allocating.
     pub fn new(string: String) -> Text
         ensures { result ≡ string_bytes string }
     {
         Text { string }
     }
 
-    /// A text of its own.
+    /// Copies a text into one of its own.
     ///
     /// # Errors
     ///
-    /// [`AllocError`] where memory runs out.
+    /// [`AllocError`] if memory runs out.
     pub fn copied(alloc: Global, text: &str) -> Result<Text, AllocError>
         ensures { IfOk result (λ copy. copy ≡ text.now) }
     {
@@ -54,18 +54,18 @@ impl Text {
         self.string.as_str()
     }
 
-    /// Gives the string back. It takes no memory.
+    /// Returns the string, without allocating.
     pub fn into_string(self) -> String
         ensures { string_bytes result ≡ self }
     {
         self.string
     }
 
-    /// A copy.
+    /// Returns a copy of the text.
     ///
     /// # Errors
     ///
-    /// [`AllocError`] where memory runs out.
+    /// [`AllocError`] if memory runs out.
     pub fn try_clone(&self, alloc: Global) -> Result<Text, AllocError>
         ensures { IfOk result (λ copy. copy ≡ self.now) }
     {

@@ -1,4 +1,4 @@
-//! Timestamps, which stand for moments.
+//! Timestamps, which represent moments.
 
 ghost use Rattle.std.specs.Prelude.{◌≡◌, ℕ, ◌%◌, ◌≤◌, List, [], ◌∷◌, ◌++◌, OnOk, IfErr};
 ghost use Rattle.am_version_order.specs.Moments.{greatest};
@@ -14,12 +14,13 @@ use crate::message::Message;
 use crate::message_reader::{MessageReader, read_message};
 use crate::parts::{LastNumber, Submessage};
 use crate::size::number_size;
+use crate::unknown::Unknown;
 use crate::value::{Field, WireType};
 use crate::writing::write_number;
 use am_version_order::Moment;
 use std::alloc::{AllocError, Global};
 
-/// A timestamp as it is read.
+/// The draft of a timestamp.
 #[derive(Clone, Copy)]
 pub struct TimestampDraft {
     seconds: LastNumber,
@@ -76,11 +77,11 @@ impl<'a> MessageReader<'a> for TimestampDraft {
     }
 }
 
-/// The moment that a part of a message holds; a missing one is [`Moment::LEAST`].
+/// Returns the moment in a part of a message; a missing one is [`Moment::LEAST`].
 ///
 /// # Errors
 ///
-/// [`WireError::Timestamp`] where the seconds or the nanoseconds make no moment, told at the part's tag.
+/// [`WireError::Timestamp`], reported at the part's tag, if the seconds and the nanoseconds don't make a moment.
 pub fn moment_in(alloc: Global, part: Submessage<TimestampDraft>) -> Result<Moment, WireError>
     ensures { (n : ℕ) (es : List FieldAt) → IsPart IsTimestampDraft timestamp n es part →
         GivesUnlessMemory result (fault_or_value (moment_test n es) (moment_of n es)) }
@@ -93,7 +94,7 @@ pub fn moment_in(alloc: Global, part: Submessage<TimestampDraft>) -> Result<Mome
     }
 }
 
-/// The numbers by which a moment is written: its seconds in two's complement, and its nanoseconds.
+/// Returns the numbers that a moment is written as: its seconds in two's complement, and its nanoseconds.
 fn numbers_of(moment: Moment) -> (u64, u64)
     ensures seconds { result.0 ≡ seconds_number moment }
     ensures nanos { result.1 ≡ moment % 1_000_000_000 }
@@ -108,14 +109,22 @@ impl Message for Moment {
     ghost use Rattle.std.specs.Prelude.{◌≤◌};
     ghost use Rattle.am_version_order.specs.Moments.{greatest};
     ghost use Rattle.am_wire.specs.RoundTrip.Moments.{moment_again};
+    ghost use Rattle.am_wire.specs.RoundTrip.Plain.{plainly_itself};
+    ghost use Rattle.std.specs.Prelude.{refl};
 
     ghost is_value = { λ m. m ≤ greatest };
 
     ghost writes = { writes_moment };
 
-    ghost reads = { reads_moment };
+    ghost plain = { λ m. m };
+
+    ghost reads = { λ unknown. reads_moment };
 
     ghost round_trip = { moment_again };
+
+    ghost dropped = { λ at bytes. plainly_itself (reads_moment at bytes) };
+
+    ghost plain_again = { λ m. refl };
 
     #[tactic(auto, unfolding(crate::specs::Timestamps::writes_moment))]
     fn size(&self) -> u64 {
@@ -131,7 +140,12 @@ impl Message for Moment {
     }
 
     #[tactic(auto, unfolding(crate::specs::Timestamps::reads_moment))]
-    fn decode_at(alloc: Global, bytes: &[u8], at: usize) -> Result<Moment, WireError> {
+    fn decode_at(
+        alloc: Global,
+        _unknown: Unknown,
+        bytes: &[u8],
+        at: usize,
+    ) -> Result<Moment, WireError> {
         read_message::<TimestampDraft>(alloc, bytes, at, at)
     }
 }

@@ -1,9 +1,9 @@
-//! A field and what stands in it.
+//! A field and its content.
 
 ghost use Rattle.std.specs.Prelude.{◌+◌, ◌<◌, ◌^◌};
 ghost use Rattle.am_wire.specs.Length.{payload_len};
 
-/// How the payload of a field is laid out.
+/// The layout of a field's payload.
 #[derive(Clone, Copy, PartialEq, Eq)]
 pub enum WireType {
     /// A number in groups of seven bits.
@@ -16,7 +16,7 @@ pub enum WireType {
     Four,
 }
 
-/// What stands behind a field's tag.
+/// The payload behind a field's tag.
 #[derive(Clone, Copy, Debug)]
 pub enum Value<'a> {
     Varint(u64),

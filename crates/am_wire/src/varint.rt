@@ -6,10 +6,10 @@ ghost use Rattle.am_wire.specs.Varint.{varint_at, shortest};
 use crate::error::WireError;
 use std::marker::Model;
 
-/// The most bytes that a number takes.
+/// The maximum length of a number in bytes.
 const MOST_BYTES: usize = 10;
 
-/// Reads the number at the front, and how many bytes it takes; a fault is reported at the offset `at`.
+/// Reads the number at the front, and returns it with its length; a fault is reported at the offset `at`.
 #[tactic(auto, using(crate::proofs::Groups::one_byte))]
 pub fn varint_from(bytes: &[u8], at: usize) -> Result<(u64, usize), WireError>
     ensures value { result ≡ varint_at at bytes.now }
@@ -21,7 +21,7 @@ pub fn varint_from(bytes: &[u8], at: usize) -> Result<(u64, usize), WireError>
     }
 }
 
-// The same, byte by byte: most numbers have but one.
+// Reads the number byte by byte, apart from `varint_from`, since most numbers have only one byte.
 #[inline(never)]
 fn long_varint_from(bytes: &[u8], at: usize) -> Result<(u64, usize), WireError>
     ensures value { result ≡ varint_at at bytes.now }
@@ -47,13 +47,11 @@ fn long_varint_from(bytes: &[u8], at: usize) -> Result<(u64, usize), WireError>
     Err(WireError::Truncated { at })
 }
 
-/// Reads the number at the front of the bytes, and how many of them it takes, also where it is spelled longer
-/// than it need be.
+/// Reads the number at the front, and returns it with its length. It may be spelled longer than necessary.
 ///
 /// # Errors
 ///
-/// [`WireError::Truncated`] where the bytes end in the number, and [`WireError::LongVarint`] where it has more
-/// than 64 bits.
+/// [`WireError::Truncated`] if the bytes end inside the number, and [`WireError::LongVarint`] if it has more than 64 bits.
 pub fn read_varint(bytes: &[u8]) -> Result<(u64, usize), WireError>
     // PROMISE: A number is read as its bytes say, or its fault is reported.
     ensures exact { result ≡ varint_at 0 bytes.now }
@@ -61,14 +59,14 @@ pub fn read_varint(bytes: &[u8]) -> Result<(u64, usize), WireError>
     varint_from(bytes, 0)
 }
 
-/// The shortest spelling of a number, of 1 to 10 bytes. It takes no memory.
+/// The shortest spelling of a number, of 1 to 10 bytes, which are not on the heap.
 #[derive(Drop)]
 pub struct VarintBytes {
     bytes: [u8; 10],
     len: usize,
 }
 
-/// Seen as its bytes.
+/// The view is the bytes.
 impl Model for VarintBytes {
     ghost Value = { List ℕ };
 
@@ -78,7 +76,7 @@ impl Model for VarintBytes {
 }
 
 impl VarintBytes {
-    /// The 1 to 10 bytes.
+    /// Returns the 1 to 10 bytes.
     pub fn as_slice(&self) -> &[u8]
         ensures { result.now ≡ self.now }
     {
@@ -86,7 +84,7 @@ impl VarintBytes {
     }
 }
 
-/// Writes a number in its shortest spelling.
+/// Returns the shortest spelling of a number.
 pub fn write_varint(value: u64) -> VarintBytes
     ensures { result ≡ shortest value }
 {

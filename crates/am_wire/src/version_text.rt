@@ -1,6 +1,7 @@
-//! Versions that stay where their canonical texts lie.
+//! Versions that are borrowed from their canonical texts.
 
 ghost use Rattle.std.specs.Prelude.{◌≡◌, ℕ, Ok, ◌+◌, ◌<◌, ◌≤◌, ◌^◌, length, IfSome};
+ghost use Rattle.am_wire.specs.declared.unknown.Unknown.{Unknown};
 ghost use Rattle.am_wire.specs.Inputs.{message_at};
 
 use crate::message::Message;
@@ -8,36 +9,36 @@ use crate::rows::row_from;
 use am_version_order::Version;
 use std::cmp::Ordering;
 
-/// A version in its canonical text, which is not copied.
+/// A version borrowed from its canonical text.
 pub trait VersionText: Sized + Drop {
-    /// The type of such versions that have a text of their own.
+    /// The type of such versions that own their content.
     type Owned: Version + Message;
 
     /// The version.
     ghost version: { Self → Self.Owned };
 
-    /// The canonical text.
+    /// Returns the canonical text.
     fn text(&self) -> &[u8]
         ensures { result.now ≡ (Self.Owned.seen (version self.now)).content };
 
-    /// The order of the keys of two versions. It takes no memory.
+    /// Compares the keys of two versions. Nothing is allocated.
     fn compare_keys(&self, other: &Self) -> Ordering
         ensures { result ≡ Self.Owned.Key.cmp (Self.Owned.seen (version self.now)).key (Self.Owned.seen (version other.now)).key };
 }
 
-/// A version that is read of its canonical text.
+/// A version that can be read from its canonical text.
 pub trait ReadText<'a>: VersionText {
-    /// The version of a text, where that is canonical; none where it isn't.
+    /// Returns the version that the text spells if it is canonical and has no unknown fields, and `None` otherwise.
     fn read(text: &'a [u8]) -> Option<Self>
-        ensures spelled { IfSome result (λ found. (at : ℕ) → Self.Owned.reads at text.now ≡ Ok (Self.version found)) }
+        ensures spelled { IfSome result (λ found. (unknown : Unknown) (at : ℕ) → Self.Owned.reads unknown at text.now ≡ Ok (Self.version found)) }
         ensures canonical { IfSome result (λ found. (Self.Owned.seen (Self.version found)).content ≡ text.now) };
 }
 
-/// The version in the message at the front of a row, where its text is canonical, and how many bytes the message takes with its
-/// length. The bytes begin at the offset `at` of the outermost input.
+/// Returns the version in the message at the front of a row, and the number of bytes that the message takes with its length,
+/// if its text is canonical without unknown fields. The bytes begin at the offset `at` of the outermost input.
 pub fn version_from<'a, T: ReadText<'a>>(bytes: &'a [u8], at: usize) -> Option<(T, usize)>
     requires { at + length bytes.now < 2 ^ 64 }
-    ensures value { IfSome result (λ x. message_at T.Owned.reads at bytes.now ≡ Ok (T.version x.0, x.1)) }
+    ensures value { IfSome result (λ x. (unknown : Unknown) → message_at (T.Owned.reads unknown) at bytes.now ≡ Ok (T.version x.0, x.1)) }
     ensures within { IfSome result (λ x. (0 < x.1) × (x.1 ≤ length bytes.now)) }
 {
     let (text, len) = row_from(bytes, at).ok()?;

@@ -1,4 +1,4 @@
-//! Fields at the end of a vector.
+//! Functions that append fields to a vector.
 
 ghost use Rattle.std.specs.Prelude.{◌≡◌, ℕ, List, ◌++◌, ◌<◌, ◌≤◌, ◌^◌, OnOk, IfOk, OnErr, IfErr, ◌⊎◌, ◌↔◌, length, vec_len};
 ghost use Rattle.am_wire.specs.Limits.{most};
@@ -19,7 +19,7 @@ pub use crate::size::{
 };
 use std::alloc::AllocError;
 
-// Writes a number at the end.
+// Appends a number.
 #[tactic(auto, unfolding(crate::specs::Varint::groups))]
 pub(crate) fn append_varint(out: &mut Vec<u8>, value: u64) -> Result<(), AllocError>
     ensures ok { OnOk result (out.new.items ≡ out.old.items ++ shortest value) }
@@ -31,7 +31,7 @@ pub(crate) fn append_varint(out: &mut Vec<u8>, value: u64) -> Result<(), AllocEr
     append_long_varint(out, value)
 }
 
-// The same, byte by byte: most numbers have but one.
+// Appends a number byte by byte, apart from `append_varint`, since most numbers have only one byte.
 #[inline(never)]
 fn append_long_varint(out: &mut Vec<u8>, value: u64) -> Result<(), AllocError>
     ensures ok { OnOk result (out.new.items ≡ out.old.items ++ shortest value) }
@@ -47,11 +47,11 @@ fn append_long_varint(out: &mut Vec<u8>, value: u64) -> Result<(), AllocError>
     Ok(())
 }
 
-/// Writes a number as a field. 0 is left out, since it is what a missing number is read as.
+/// Writes a number as a field. 0 is left out, since a missing number is read as 0.
 ///
 /// # Errors
 ///
-/// [`AllocError`] where memory runs out. A part of the field may be left.
+/// [`AllocError`] if memory runs out. A part of the field may have been written then.
 pub fn write_number(out: &mut Vec<u8>, number: u32, value: u64) -> Result<(), AllocError>
     requires { number < 2 ^ 29 }
     ensures ok { OnOk result (out.new.items ≡ out.old.items ++ writes_number number value) }
@@ -63,11 +63,11 @@ pub fn write_number(out: &mut Vec<u8>, number: u32, value: u64) -> Result<(), Al
     Ok(())
 }
 
-/// Writes what stands in front of so many bytes in a field: its tag, and the length.
+/// Writes the tag and the length that come in front of `size` bytes in a field.
 ///
 /// # Errors
 ///
-/// [`AllocError`] where memory runs out. A part of the field may be left.
+/// [`AllocError`] if memory runs out. A part of the field may have been written then.
 pub fn write_prefix(out: &mut Vec<u8>, number: u32, size: u64) -> Result<(), AllocError>
     requires { number < 2 ^ 29 }
     ensures ok { OnOk result (out.new.items ≡ out.old.items ++ (tag number 2 ++ shortest size)) }
@@ -76,11 +76,11 @@ pub fn write_prefix(out: &mut Vec<u8>, number: u32, size: u64) -> Result<(), All
     append_varint(out, size)
 }
 
-/// Writes bytes as a field, also where there are none.
+/// Writes bytes as a field, even if there are none.
 ///
 /// # Errors
 ///
-/// [`AllocError`] where memory runs out. A part of the field may be left.
+/// [`AllocError`] if memory runs out. A part of the field may have been written then.
 pub fn write_delimited(out: &mut Vec<u8>, number: u32, bytes: &[u8]) -> Result<(), AllocError>
     requires { number < 2 ^ 29 }
     ensures ok { OnOk result (out.new.items ≡ out.old.items ++ writes_delimited number bytes.now) }
@@ -90,11 +90,11 @@ pub fn write_delimited(out: &mut Vec<u8>, number: u32, bytes: &[u8]) -> Result<(
     Ok(())
 }
 
-/// Writes a text as a field. An empty one is left out, since it is what a missing text is read as.
+/// Writes a text as a field. An empty one is left out, since a missing text is read as empty.
 ///
 /// # Errors
 ///
-/// [`AllocError`] where memory runs out. A part of the field may be left.
+/// [`AllocError`] if memory runs out. A part of the field may have been written then.
 pub fn write_text(out: &mut Vec<u8>, number: u32, text: &str) -> Result<(), AllocError>
     requires { number < 2 ^ 29 }
     ensures ok { OnOk result (out.new.items ≡ out.old.items ++ writes_text number text.now) }
@@ -105,12 +105,12 @@ pub fn write_text(out: &mut Vec<u8>, number: u32, text: &str) -> Result<(), Allo
     Ok(())
 }
 
-/// Puts the whole text of a message at the end.
+/// Appends the whole text of a message.
 ///
 /// # Errors
 ///
-/// [`WireError::TooLarge`], exactly where the text has over [`MOST_MESSAGE_BYTES`], whatever memory there is, and
-/// [`WireError::Memory`]. Either leaves the bytes as they were.
+/// [`WireError::TooLarge`] if and only if the text has more than [`MOST_MESSAGE_BYTES`], whatever memory there is, or
+/// [`WireError::Memory`]. The bytes are unchanged after either.
 pub fn append_text(out: &mut Vec<u8>, text: &[u8]) -> Result<(), WireError>
     ensures ok { OnOk result (out.new.items ≡ out.old.items ++ text.now) }
     ensures size { OnOk result (length text.now ≤ most) }

@@ -98,8 +98,8 @@ pub fn members_with_equal_sets_reply_alike(
     equal_views_reply_alike();
 }
 
-/// And a silence that mutes an alert at one of them mutes it at the other, by patterns of the same dialect, if its patterns are
-/// not told as broken there.
+/// States that a silence which mutes an alert at one of them mutes it at the other, by patterns of the same dialect, if its
+/// patterns are not told as broken there.
 pub fn members_with_equal_sets_mute_alike(
     cluster: &Cluster,
     place: Place,

@@ -14,15 +14,15 @@ use std::time::Duration;
 /// The name of the command.
 pub const NAME: &str = "diff";
 
-/// What one begins with that isn't asked.
+/// The beginning of a source that can't be asked.
 const OTHER_SCHEME: &str = "https://";
 
-/// The command with its options, under a name.
+/// Returns the command with its options, under a name.
 pub fn command<'a>(alloc: Global, name: &'a str) -> Result<Command<'a>, AllocError> {
     command_of(alloc, name, ABOUT, AFTER, &OPTIONS)
 }
 
-/// The job that the words name. The moment is judged first, and then the sources.
+/// Reads the job that the words name. The moment is judged first, and then the sources.
 pub fn read_job<'a>(alloc: Global, flags: &ArgMatches<'a>) -> Result<Job<'a>, WordsError> {
     let words = flags.get_strs(SOURCES).unwrap_or(&[]);
     let sources = source_words(alloc, words)?;
@@ -41,7 +41,7 @@ pub fn read_job<'a>(alloc: Global, flags: &ArgMatches<'a>) -> Result<Job<'a>, Wo
     }
 }
 
-/// The moment and the time limit of a job with these sources, or what is said of what is at fault.
+/// Returns the moment and the time limit of a job with these sources, or the message for the first mistake.
 fn numbers_of(
     flags: &ArgMatches<'_>,
     sources: &[SourceWord<'_>],
@@ -59,7 +59,7 @@ fn numbers_of(
     }
 }
 
-/// What is said where a server can't be compared so, or has no address.
+/// Returns the message for a server that can't be compared in this way, or that has no address.
 fn live_mistake_of(flags: &ArgMatches<'_>, sources: &[SourceWord<'_>]) -> Option<&'static str> {
     if !are_live(sources) {
         return None;
@@ -75,14 +75,14 @@ fn live_mistake_of(flags: &ArgMatches<'_>, sources: &[SourceWord<'_>]) -> Option
     None
 }
 
-/// What is said where a replica that is to be asked by gossip has no address.
+/// Returns the message for a replica that should be asked by gossip but has no address.
 fn gossip_mistake_of(sources: &[SourceWord<'_>]) -> Option<&'static str> {
     let is_nowhere = |source: &SourceWord<'_>| source.gossip_place().is_some()
         && source.replica().is_none();
     sources.iter().any(is_nowhere).then_some(BAD_GOSSIP)
 }
 
-/// How the options have differences told.
+/// Returns the form in which the options want differences reported.
 fn report_of(flags: &ArgMatches<'_>) -> Report {
     if flags.get_flag(JSON) {
         Report::Json
@@ -101,7 +101,7 @@ fn compared_of(flags: &ArgMatches<'_>) -> Compared {
     }
 }
 
-/// The sources that the words name.
+/// Returns the sources that the words name.
 fn source_words<'a>(alloc: Global, words: &[&'a str]) -> Result<Vec<SourceWord<'a>>, AllocError> {
     let mut sources = Vec::with_capacity(alloc, words.len())?;
     for word in words {
@@ -110,7 +110,7 @@ fn source_words<'a>(alloc: Global, words: &[&'a str]) -> Result<Vec<SourceWord<'
     Ok(sources)
 }
 
-/// A source as NAME=FILE, which is cut at the first `=`, or as FILE, which is then its own name.
+/// Reads a source as NAME=FILE, which is cut at the first `=`, or as FILE, which is then its own name.
 pub fn source_of(word: &str) -> SourceWord<'_> {
     match word.split_once('=') {
         Some((name, file)) => SourceWord { name, file },
@@ -121,7 +121,7 @@ pub fn source_of(word: &str) -> SourceWord<'_> {
     }
 }
 
-/// What is said of sources that can't be compared.
+/// Returns the message for sources that can't be compared.
 fn mistake_of(sources: &[SourceWord<'_>]) -> Option<&'static str> {
     if sources.len() < FEWEST_SOURCES || sources.len() > MOST_SOURCES {
         return Some(BAD_NUMBER);
@@ -140,7 +140,7 @@ fn mistake_of(sources: &[SourceWord<'_>]) -> Option<&'static str> {
     first_misspelling(sources)
 }
 
-/// What is said of the first source that was meant for a server, and isn't written so.
+/// Returns the message for the first source that was meant for a server but isn't written as one.
 fn first_misspelling(sources: &[SourceWord<'_>]) -> Option<&'static str> {
     for source in sources {
         if let Some(text) = misspelling_of(source) {
@@ -150,7 +150,7 @@ fn first_misspelling(sources: &[SourceWord<'_>]) -> Option<&'static str> {
     None
 }
 
-/// What is said of a source that was meant for a server, and isn't written so.
+/// Returns the message for a source that was meant for a server but isn't written as one.
 fn misspelling_of(source: &SourceWord<'_>) -> Option<&'static str> {
     if source.file.starts_with(OTHER_SCHEME) {
         return Some(NO_HTTPS);
@@ -161,7 +161,7 @@ fn misspelling_of(source: &SourceWord<'_>) -> Option<&'static str> {
     None
 }
 
-/// Whether a file's name is a host with its port.
+/// Returns whether a file's name is a host with its port.
 fn is_address(file: &str) -> bool {
     if file.contains('/') {
         return false;
@@ -172,7 +172,7 @@ fn is_address(file: &str) -> bool {
     }
 }
 
-/// Whether two sources have one name.
+/// Returns whether two sources have the same name.
 pub fn has_name_twice(sources: &[SourceWord<'_>]) -> bool {
     for (place, source) in sources.iter().enumerate() {
         let name = source.name;
@@ -262,8 +262,8 @@ static OPTIONS: [Named; 9] = [
 
 const AFTER: &str = "\
 Of each key that differs there is a line for each group of sources that hold the same there: first those that have the
-greatest version, which counts, then those that are behind, and by what (update, expiry or bytes), and then those that
-hold nothing.
+greatest version, which counts, then those that are behind, and by what (update, expiry, bytes or unknown fields), and
+then those that hold nothing.
 
 By gossip://HOST:PORT, where it listens for other replicas, an Alertmanager tells all it holds, so it is compared as its files
 are, and takes no notice.

@@ -4,12 +4,13 @@ ghost use Rattle.std.specs.Prelude.{◌≤◌, IfSome};
 
 mod options;
 
-use super::{WordsError, mistake};
+use super::{WordsError, mistake, unknown_of};
 use am_disk::are_one_file;
 use am_jobs::{Job, Options};
 use am_matcher::Dialect;
 use am_peers::{Peer, address_of, is_loopback, number_within, peer_of};
 use am_version_order::Interval;
+use am_wire::Unknown;
 use clap::ArgMatches;
 pub use options::command;
 use std::alloc::{AllocError, Global};
@@ -20,7 +21,7 @@ use std::time::Duration;
 /// The name of the command.
 pub const NAME: &str = "instance";
 
-/// The numbers among the options.
+/// The values of the options that are numbers, durations or addresses.
 #[derive(Clone, Copy)]
 struct Numbers {
     place: Place,
@@ -29,23 +30,24 @@ struct Numbers {
     own: OwnNumbers,
 }
 
-/// Where it listens.
+/// The addresses that the member listens at.
 #[derive(Clone, Copy)]
 struct Place {
     address: SocketAddr,
     peers_address: Option<SocketAddr>,
 }
 
-/// How long it keeps things, waits for others, and serves.
+/// The times for which the member keeps things, waits for others, and serves.
 #[derive(Clone, Copy)]
 struct Kept {
     retention: Interval,
     peer_timeout: Interval,
     connections: u64,
     time_limit: Duration,
+    decide_limit: Duration,
 }
 
-/// How much it takes at once.
+/// The limits of what the member takes at once.
 #[derive(Clone, Copy)]
 struct Limits {
     at_once: u16,
@@ -55,7 +57,7 @@ struct Limits {
     lines: u32,
 }
 
-/// The numbers of what a member does by itself.
+/// The numbers for what a member does by itself.
 #[derive(Clone, Copy)]
 struct OwnNumbers {
     tick_every: Option<Duration>,
@@ -66,8 +68,8 @@ struct OwnNumbers {
     least_repeat: Option<u64>,
 }
 
-/// The member that the words name. Numbers are judged in the order in which the help has them, then the patterns, the hosts,
-/// the files, and then the peers.
+/// Reads the member that the words name. Numbers are judged in the order in which the help has them, then the patterns, the
+/// hosts, the files, and then the peers.
 pub fn read_job<'a, R: Files + AllocGlobal>(
     rt: &R,
     flags: &ArgMatches<'a>,
@@ -95,7 +97,7 @@ struct NamedHosts<'a> {
     replicas: Vec<Peer<'a>>,
 }
 
-/// Judges the hosts, and then the files.
+/// Checks the hosts, and then the files.
 fn judge_words<R: Files + AllocGlobal>(rt: &R, flags: &ArgMatches<'_>) -> Result<(), WordsError> {
     if !are_hosts(flags.get_strs("host").unwrap_or(&[])) {
         return Err(wrong(rt.alloc(), BAD_HOST));
@@ -106,12 +108,12 @@ fn judge_words<R: Files + AllocGlobal>(rt: &R, flags: &ArgMatches<'_>) -> Result
     Ok(())
 }
 
-/// Whether words are names of hosts.
+/// Returns whether all words are names of hosts.
 fn are_hosts(words: &[&str]) -> bool {
     words.iter().all(|host| is_host(host))
 }
 
-/// Whom the words name.
+/// Returns the hosts, peers and Alertmanagers that the words name.
 fn named<'a>(alloc: Global, flags: &ArgMatches<'a>) -> Result<NamedHosts<'a>, WordsError> {
     let peers = peers(alloc, flags.get_strs("peer").unwrap_or(&[]))?;
     let (replicas, hosts) = beside(alloc, flags)?;
@@ -122,7 +124,7 @@ fn named<'a>(alloc: Global, flags: &ArgMatches<'a>) -> Result<NamedHosts<'a>, Wo
     })
 }
 
-/// The Alertmanagers beside it, and the hosts.
+/// Returns the Alertmanagers beside the member, and the hosts.
 fn beside<'a>(
     alloc: Global,
     flags: &ArgMatches<'a>,
@@ -132,7 +134,7 @@ fn beside<'a>(
     Ok((replicas, hosts))
 }
 
-/// The options that have these numbers and names.
+/// Returns the options that have these numbers and names.
 fn options_of<'a>(
     flags: &ArgMatches<'a>,
     numbers: Numbers,
@@ -156,6 +158,7 @@ fn options_of<'a>(
         replicas: named.replicas,
         gossip_every: own.gossip_every,
         dialect,
+        unknown: unknown(flags),
         hosts: named.hosts,
         silences: text(flags, "sil"),
         log: text(flags, "nfl"),
@@ -164,12 +167,14 @@ fn options_of<'a>(
         peer_timeout: kept.peer_timeout,
         connections: kept.connections,
         time_limit: kept.time_limit,
+        decide_limit: kept.decide_limit,
         at_once: limits.at_once,
         waiting: limits.waiting,
         most_unfinished: limits.most_unfinished,
         most_bytes: limits.most_bytes,
         lines: limits.lines,
         tick_every: own.tick_every,
+        trusts_clock: flags.get_flag("trust-clock"),
         pull_every: own.pull_every,
         save_every: own.save_every,
         keeps_log: flags.get_flag("log"),
@@ -180,17 +185,17 @@ fn options_of<'a>(
     }
 }
 
-/// That a value is wrong, in a text.
+/// Returns an error that says in a text that a value is wrong.
 fn wrong(alloc: Global, text: &str) -> WordsError {
     mistake(command(alloc, "am_tool instance"), text)
 }
 
-/// The text of an option that `clap` has seen.
+/// Returns the text of an option that `clap` has seen.
 fn text<'a>(flags: &ArgMatches<'a>, name: &str) -> &'a str {
     flags.get_str(name).unwrap_or("")
 }
 
-/// The numbers among the options, or what is said of the first one that is none.
+/// Reads the numbers among the options, or returns the message for the first one that is wrong.
 fn read_numbers(flags: &ArgMatches<'_>) -> Result<Numbers, &'static str> {
     Ok(Numbers {
         place: read_place(flags)?,
@@ -200,7 +205,7 @@ fn read_numbers(flags: &ArgMatches<'_>) -> Result<Numbers, &'static str> {
     })
 }
 
-/// Where it listens, or what is said of the first word that is no address.
+/// Reads the addresses to listen at, or returns the message for the first word that is no address.
 fn read_place(flags: &ArgMatches<'_>) -> Result<Place, &'static str> {
     Ok(Place {
         address: address_of(text(flags, "listen")).ok_or(BAD_LISTEN)?,
@@ -208,17 +213,19 @@ fn read_place(flags: &ArgMatches<'_>) -> Result<Place, &'static str> {
     })
 }
 
-/// How long it keeps things, waits for others, and serves, or what is said of the first word that is no number.
+/// Reads how long the member keeps things, waits for others, and serves, or returns the message for the first word that is no
+/// number.
 fn read_kept(flags: &ArgMatches<'_>) -> Result<Kept, &'static str> {
     Ok(Kept {
         retention: seconds(flags, "retention").ok_or(BAD_RETENTION)?,
         peer_timeout: seconds(flags, "peer-timeout").ok_or(BAD_PEER_TIMEOUT)?,
         connections: connections(flags).ok_or(BAD_CONNECTIONS)?,
         time_limit: time_limit(flags)?,
+        decide_limit: decide_limit(flags)?,
     })
 }
 
-/// How much it takes at once, or what is said of the first word that is no number.
+/// Reads how much the member takes at once, or returns the message for the first word that is no number.
 fn read_limits(flags: &ArgMatches<'_>) -> Result<Limits, &'static str> {
     let at_once = number(flags, "at-once", 65_535).ok_or(BAD_AT_ONCE)?;
     let waiting = number(flags, "waiting", 65_535).ok_or(BAD_WAITING)?;
@@ -234,13 +241,13 @@ fn read_limits(flags: &ArgMatches<'_>) -> Result<Limits, &'static str> {
     })
 }
 
-/// What stands before the port of an address.
+/// Returns what stands before the port of an address.
 fn own_host(word: &str) -> Option<&str> {
     let (host, _) = word.rsplit_once(':')?;
     Some(host)
 }
 
-/// The address of the listener for peers, where the option is given; nothing where the word is no address.
+/// Returns the address of the listener for peers if the option is given, and `None` if the word is no address.
 fn peers_address(flags: &ArgMatches<'_>) -> Option<Option<SocketAddr>> {
     match flags.get_str("peers-listen") {
         Some(word) => Some(Some(address_of(word)?)),
@@ -248,7 +255,7 @@ fn peers_address(flags: &ArgMatches<'_>) -> Option<Option<SocketAddr>> {
     }
 }
 
-/// What is said where nobody could be heard at the listener for peers, or where a secret and none are asked for.
+/// Returns the message for a listener for peers that could hear nobody, or for options that both give a secret and want none.
 fn between_mistake(flags: &ArgMatches<'_>, numbers: &Numbers) -> Option<&'static str> {
     let is_open = flags.get_flag("open-peers");
     if flags.get_str("secret").is_some() {
@@ -260,7 +267,7 @@ fn between_mistake(flags: &ArgMatches<'_>, numbers: &Numbers) -> Option<&'static
     }
 }
 
-/// The numbers of what it does by itself, or what is said of the first one that is none.
+/// Reads the numbers for what the member does by itself, or returns the message for the first one that is wrong.
 fn read_own(flags: &ArgMatches<'_>) -> Result<OwnNumbers, &'static str> {
     let tick_every = every(flags, "tick-every").ok_or(BAD_TICK_EVERY)?;
     let pull_every = every(flags, "pull-every").ok_or(BAD_PULL_EVERY)?;
@@ -278,7 +285,7 @@ fn read_own(flags: &ArgMatches<'_>) -> Result<OwnNumbers, &'static str> {
     })
 }
 
-/// The number of an option that may be left out: none where it is, and nothing where the word is no number.
+/// Returns the number of an option, `Some(None)` if it is left out, and `None` if the word is no number.
 fn some_number(flags: &ArgMatches<'_>, name: &str) -> Option<Option<u64>> {
     match flags.get_str(name) {
         Some(word) => Some(Some(number_within(1, MOST_SECONDS, word)?)),
@@ -286,8 +293,8 @@ fn some_number(flags: &ArgMatches<'_>, name: &str) -> Option<Option<u64>> {
     }
 }
 
-/// Which regular expressions patterns are: those that the option names, or else those of RE2 beside an Alertmanager. Nothing
-/// where the word names none.
+/// Returns the dialect of the patterns: the one that the option names, or else RE2 beside an Alertmanager and `regex`
+/// otherwise. Returns `None` if the word names no dialect.
 fn dialect(flags: &ArgMatches<'_>) -> Option<Dialect> {
     match flags.get_str("patterns") {
         Some("regex") => Some(Dialect::Regex),
@@ -298,7 +305,15 @@ fn dialect(flags: &ArgMatches<'_>) -> Option<Dialect> {
     }
 }
 
-/// How often something is done, where the option is given.
+/// Returns what to do with the unknown fields of versions: beside an Alertmanager they are always kept.
+fn unknown(flags: &ArgMatches<'_>) -> Unknown {
+    match flags.get_strs("gossip") {
+        Some(_) => Unknown::Keep,
+        None => unknown_of(flags),
+    }
+}
+
+/// Returns how often something is done, if the option is given, and `None` if the word is no number.
 fn every(flags: &ArgMatches<'_>, name: &str) -> Option<Option<Duration>> {
     match some_number(flags, name)? {
         Some(seconds) => Some(Some(Duration::from_secs(seconds))),
@@ -306,25 +321,31 @@ fn every(flags: &ArgMatches<'_>, name: &str) -> Option<Option<Duration>> {
     }
 }
 
-/// A whole number from 1 on.
+/// Returns the value of an option that is a whole number from 1 to `most`.
 fn number(flags: &ArgMatches<'_>, name: &str, most: u64) -> Option<u64>
     ensures { IfSome result (λ n. (1 ≤ n) × (n ≤ most)) }
 {
     number_within(1, most, flags.get_str(name)?)
 }
 
-/// For how long one connection may last, or what is said of a word that says none.
+/// Returns how long one connection may last, or the message for a word that is no such time.
 pub fn time_limit(flags: &ArgMatches<'_>) -> Result<Duration, &'static str> {
     let seconds = number(flags, "time-limit", 3_600).ok_or(BAD_TIME_LIMIT)?;
     Ok(Duration::from_secs(seconds))
 }
 
-/// So many seconds.
+/// Returns how long a decision may take, or the message for a word that is no such time.
+fn decide_limit(flags: &ArgMatches<'_>) -> Result<Duration, &'static str> {
+    let seconds = number(flags, "decide-limit", 3_600).ok_or(BAD_DECIDE_LIMIT)?;
+    Ok(Duration::from_secs(seconds))
+}
+
+/// Returns the value of an option that is a number of seconds.
 fn seconds(flags: &ArgMatches<'_>, name: &str) -> Option<Interval> {
     Interval::from_seconds(number(flags, name, MOST_SECONDS)?)
 }
 
-/// After how many connections it ends: without a word, after more than there will be.
+/// Returns the number of connections after which the member ends: if there is no such option, more than there will ever be.
 fn connections(flags: &ArgMatches<'_>) -> Option<u64> {
     match flags.get_str("connections") {
         Some(word) => number_within(1, u64::MAX, word),
@@ -332,13 +353,13 @@ fn connections(flags: &ArgMatches<'_>) -> Option<u64> {
     }
 }
 
-/// Whether a word is the name of a host, without a port.
+/// Returns whether a word is the name of a host, without a port.
 fn is_host(word: &str) -> bool {
     !word.is_empty()
         && word.bytes().all(|byte| byte.is_ascii_alphanumeric() || b"-._".contains(&byte))
 }
 
-/// The peers that the words name.
+/// Returns the peers that the words name.
 fn peers<'a>(alloc: Global, words: &[&'a str]) -> Result<Vec<Peer<'a>>, WordsError> {
     let mut peers = Vec::with_capacity(alloc, words.len())?;
     for word in words {
@@ -350,12 +371,12 @@ fn peers<'a>(alloc: Global, words: &[&'a str]) -> Result<Vec<Peer<'a>>, WordsErr
     Ok(peers)
 }
 
-/// Adds a peer.
+/// Appends a peer.
 fn push<'a>(peers: &mut Vec<Peer<'a>>, peer: Peer<'a>) -> Result<(), AllocError> {
     Ok(peers.push(peer)?)
 }
 
-/// The longest retention and peer timeout, in seconds.
+/// The longest retention and the longest peer timeout, in seconds.
 const MOST_SECONDS: u64 = 999_999_999;
 
 const BAD_LISTEN: &str =
@@ -383,6 +404,9 @@ const BAD_CONNECTIONS: &str =
 
 const BAD_TIME_LIMIT: &str =
     "invalid value for '--time-limit <S>': a whole number from 1 to 3600 is wanted, in digits alone";
+
+const BAD_DECIDE_LIMIT: &str =
+    "invalid value for '--decide-limit <S>': a whole number from 1 to 3600 is wanted, in digits alone";
 
 const BAD_AT_ONCE: &str =
     "invalid value for '--at-once <N>': a whole number from 1 to 65535 is wanted, in digits alone";

@@ -1,4 +1,4 @@
-//! The words of `pull` and of `push`.
+//! The words of `pull` and `push`.
 
 use super::instance::time_limit;
 use super::options::{Named, Takes, Words, command_of};
@@ -12,17 +12,17 @@ pub const PULL: &str = "pull";
 
 pub const PUSH: &str = "push";
 
-/// `pull` with its options, under a name.
+/// Returns the command `pull` with its options, under a name.
 pub fn pull_command<'a>(alloc: Global, name: &'a str) -> Result<Command<'a>, AllocError> {
     command_of(alloc, name, PULL_ABOUT, AFTER_PULL, &PULL_OPTIONS)
 }
 
-/// `push` with its options, under a name.
+/// Returns the command `push` with its options, under a name.
 pub fn push_command<'a>(alloc: Global, name: &'a str) -> Result<Command<'a>, AllocError> {
     command_of(alloc, name, PUSH_ABOUT, AFTER_PUSH, &PUSH_OPTIONS)
 }
 
-/// The state that is to be read.
+/// Reads which state to pull.
 pub fn read_pull<'a>(alloc: Global, flags: &ArgMatches<'a>) -> Result<Job<'a>, WordsError> {
     match pull_of(flags) {
         Ok(job) => Ok(Job::Pull(job)),
@@ -30,7 +30,7 @@ pub fn read_pull<'a>(alloc: Global, flags: &ArgMatches<'a>) -> Result<Job<'a>, W
     }
 }
 
-/// To which replica versions are to be sent.
+/// Reads which replica to send versions to.
 pub fn read_push<'a>(alloc: Global, flags: &ArgMatches<'a>) -> Result<Job<'a>, WordsError> {
     match push_of(flags) {
         Ok(job) => Ok(Job::Push(job)),
@@ -38,7 +38,7 @@ pub fn read_push<'a>(alloc: Global, flags: &ArgMatches<'a>) -> Result<Job<'a>, W
     }
 }
 
-/// What the words name, or what is said of what is at fault.
+/// Returns the job that the words name, or the message for the first mistake.
 fn pull_of<'a>(flags: &ArgMatches<'a>) -> Result<PullJob<'a>, &'static str> {
     let time_limit = time_limit(flags)?;
     let name = flags.get_str(REPLICA).unwrap_or("");
@@ -51,7 +51,7 @@ fn pull_of<'a>(flags: &ArgMatches<'a>) -> Result<PullJob<'a>, &'static str> {
     })
 }
 
-/// What the words name, or what is said of what is at fault. The moment is judged first.
+/// Returns the job that the words name, or the message for the first mistake. The moment is judged first.
 fn push_of<'a>(flags: &ArgMatches<'a>) -> Result<PushJob<'a>, &'static str> {
     let now = now_of(flags)?;
     Ok(PushJob {
@@ -72,7 +72,7 @@ const PULL_ABOUT: &str =
 const PUSH_ABOUT: &str =
     "Sends a running Alertmanager by its gossip those of the versions on standard input that it lacks, and tells which it doesn't hold then";
 
-/// How long a connection to the replica may last.
+/// The option for how long a connection to the replica may last.
 pub const TIME_LIMIT: Named = Named {
     name: "time-limit",
     value: "S",
@@ -80,7 +80,7 @@ pub const TIME_LIMIT: Named = Named {
     help: "For how many seconds a connection to the replica may last, 1 to 3600",
 };
 
-/// The replica that is asked.
+/// The word for the replica that is asked.
 const REPLICA_WORD: Named = Named {
     name: REPLICA,
     value: "REPLICA",
@@ -146,5 +146,5 @@ The status is 0 where the replica holds all of them or greater ones, and 5 where
 something would be sent.
 
 Examples:
-  cat a.sil b.sil c.sil | am_tool fold --state sil --now 0 | am_tool push --state sil gossip://10.0.0.1:9094
+  cat a.sil b.sil c.sil | am_tool fold --keep-unknown --state sil --now 0 | am_tool push --state sil gossip://10.0.0.1:9094
   am_tool push --state nfl --dry-run gossip://10.0.0.1:9094 < all.nfl";

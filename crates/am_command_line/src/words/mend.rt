@@ -14,12 +14,12 @@ use std::time::Duration;
 /// The name of the command.
 pub const NAME: &str = "mend";
 
-/// The command with its options, under a name.
+/// Returns the command with its options, under a name.
 pub fn command<'a>(alloc: Global, name: &'a str) -> Result<Command<'a>, AllocError> {
     command_of(alloc, name, ABOUT, AFTER, &OPTIONS)
 }
 
-/// The job that the words name. The moment is judged first, then the time limit, and then the replicas.
+/// Reads the job that the words name. The moment is judged first, then the time limit, and then the replicas.
 pub fn read_job<'a>(alloc: Global, flags: &ArgMatches<'a>) -> Result<Job<'a>, WordsError> {
     let sources = source_words(alloc, flags.get_strs(REPLICAS).unwrap_or(&[]))?;
     let without = flags.get_strs(WITHOUT).unwrap_or(&[]);
@@ -34,7 +34,7 @@ pub fn read_job<'a>(alloc: Global, flags: &ArgMatches<'a>) -> Result<Job<'a>, Wo
     }
 }
 
-/// The replicas that the words name.
+/// Returns the replicas that the words name.
 fn source_words<'a>(alloc: Global, words: &[&'a str]) -> Result<Vec<SourceWord<'a>>, AllocError> {
     let mut sources = Vec::with_capacity(alloc, words.len())?;
     for word in words {
@@ -43,7 +43,7 @@ fn source_words<'a>(alloc: Global, words: &[&'a str]) -> Result<Vec<SourceWord<'
     Ok(sources)
 }
 
-/// The moment and the time limit of a job with these replicas, or what is said of what is at fault.
+/// Returns the moment and the time limit of a job with these replicas, or the message for the first mistake.
 fn numbers_of(
     flags: &ArgMatches<'_>,
     sources: &[SourceWord<'_>],
@@ -57,7 +57,7 @@ fn numbers_of(
     }
 }
 
-/// What is said of replicas that can't be compared.
+/// Returns the message for replicas that can't be compared.
 fn mistake_of(sources: &[SourceWord<'_>], without: &[&str]) -> Option<&'static str> {
     if has_name_twice(sources) {
         return Some(SAME_NAME);
@@ -78,12 +78,12 @@ fn mistake_of(sources: &[SourceWord<'_>], without: &[&str]) -> Option<&'static s
     (asked < FEWEST_SOURCES || asked > MOST_SOURCES).then_some(BAD_NUMBER)
 }
 
-/// Whether a replica is left out.
+/// Returns whether a replica is left out.
 fn is_without(source: &SourceWord<'_>, without: &[&str]) -> bool {
     without.iter().any(|name| source.name == *name)
 }
 
-/// What each replica is asked that isn't left out.
+/// Returns what to ask each replica that isn't left out.
 fn replicas_of<'a>(
     alloc: Global,
     flags: &ArgMatches<'a>,

@@ -1,32 +1,32 @@
-//! Options, as tables have them.
+//! Options as tables list them.
 
 use clap::{Arg, ArgAction, Command};
 use std::alloc::{AllocError, Global};
 
-/// What stands behind an option.
+/// The kind of value that follows an option.
 #[derive(Clone, Copy)]
 pub enum Takes {
-    /// Nothing.
+    /// No value.
     Nothing,
-    /// Nothing, and it goes with no option of this name.
+    /// No value, and the option of this name can't be given beside it.
     NothingBeside(&'static str),
     /// A value.
     One,
-    /// A value each time that it is given.
+    /// A value each time that the option is given.
     Many,
-    /// A value, which is this one where it isn't given.
+    /// A value, with this default.
     Default(&'static str),
-    /// A value, which is wanted.
+    /// A value, which must be given.
     Wanted,
-    /// A value, which is wanted where the option of this name isn't given.
+    /// A value, which must be given unless the option of this name is.
     WantedWithout(&'static str),
-    /// A state, which is wanted.
+    /// A state, which must be given.
     State,
-    /// It is no option, but a word, or several.
+    /// A word, or several, without an option's name.
     Word(Words),
 }
 
-/// Words that stand for themselves.
+/// Words without an option's name.
 #[derive(Clone, Copy)]
 pub struct Words {
     pub are_wanted: bool,
@@ -37,13 +37,13 @@ pub struct Words {
 #[derive(Clone, Copy)]
 pub struct Named {
     pub name: &'static str,
-    /// What its value is called.
+    /// The name of its value in the help.
     pub value: &'static str,
     pub takes: Takes,
     pub help: &'static str,
 }
 
-/// A command with what help says of it, and its options.
+/// Returns a command with its help texts and its options.
 pub fn command_of<'a>(
     alloc: Global,
     name: &'a str,
@@ -58,7 +58,7 @@ pub fn command_of<'a>(
         .args(args)
 }
 
-/// Options, as `clap` has them.
+/// Converts options to those of `clap`.
 pub fn args_of<'a>(alloc: Global, options: &[Named]) -> Result<Vec<Arg<'a>>, AllocError> {
     let mut args = Vec::with_capacity(alloc, options.len())?;
     for option in options {
@@ -67,7 +67,7 @@ pub fn args_of<'a>(alloc: Global, options: &[Named]) -> Result<Vec<Arg<'a>>, All
     Ok(args)
 }
 
-/// An option or a word, as `clap` has it.
+/// Converts an option or a word to one of `clap`.
 fn arg_of<'a>(alloc: Global, option: &Named) -> Result<Arg<'a>, AllocError> {
     match option.takes {
         Takes::Nothing => Ok(flag(alloc, option)),
@@ -77,19 +77,19 @@ fn arg_of<'a>(alloc: Global, option: &Named) -> Result<Arg<'a>, AllocError> {
     }
 }
 
-/// An option or a word, of which help says what it is.
+/// Returns an option or a word with its help.
 fn described<'a>(alloc: Global, option: &Named) -> Arg<'a> {
     Arg::new(alloc, option.name).help(option.help)
 }
 
-/// An option behind which nothing stands.
+/// Returns an option without a value.
 fn flag<'a>(alloc: Global, option: &Named) -> Arg<'a> {
     described(alloc, option)
         .long(option.name)
         .action(ArgAction::SetTrue)
 }
 
-/// Words that stand for themselves.
+/// Returns words without an option's name.
 fn word<'a>(alloc: Global, option: &Named, words: Words) -> Arg<'a> {
     let word = described(alloc, option)
         .value_name(option.value)
@@ -102,7 +102,7 @@ fn word<'a>(alloc: Global, option: &Named, words: Words) -> Arg<'a> {
     }
 }
 
-/// What is done with values, of which there may be many or one.
+/// Returns what `clap` does with the values of an option that takes many or one.
 fn action_of(are_many: bool) -> ArgAction {
     if are_many {
         ArgAction::Append
@@ -111,7 +111,7 @@ fn action_of(are_many: bool) -> ArgAction {
     }
 }
 
-/// An option that has a value.
+/// Returns an option that takes a value.
 fn valued<'a>(alloc: Global, option: &Named) -> Arg<'a> {
     let takes = option.takes;
     described(alloc, option)
@@ -121,7 +121,7 @@ fn valued<'a>(alloc: Global, option: &Named) -> Arg<'a> {
         .required(matches!(takes, Takes::Wanted | Takes::State))
 }
 
-/// An option that has a value, with what is to be said of it.
+/// Adds to an option what the kind of its value asks for.
 fn with_value<'a>(valued: Arg<'a>, takes: Takes) -> Result<Arg<'a>, AllocError> {
     match takes {
         Takes::Default(value) => Ok(valued.default_value(value)),

@@ -1,4 +1,4 @@
-//! What a member does with what it holds. Only who is handed the instance to be changed makes steps of it.
+//! The work that a member does on its own state. Only a caller that is handed the instance as mutable makes steps of it.
 
 ghost use Rattle.am_dialogue.specs.Answered.{ByItself};
 
@@ -8,11 +8,11 @@ use am_instance::Instance;
 use am_upkeep::Keeper;
 use std::time::Instant;
 
-/// A member without what it holds.
+/// A member without its instance.
 pub struct Clerk<'a, U> {
-    /// What answers those who connect to it.
+    /// The part that answers those who connect to the member.
     pub desk: Desk<'a, U>,
-    /// What is asked of the Alertmanagers beside it, and what they answered.
+    /// The exchanges with the Alertmanagers beside the member, and what they answered.
     pub replicas: Replicas,
 }
 
@@ -32,12 +32,22 @@ impl<U: Keeper> Clerk<'_, U> {
         ensures { ByItself instance.old instance.new }
     {
         if self.desk.duties.is_tick_due(now) {
-            self.desk.upkeep.tick(instance);
+            self.tick(instance);
         }
         self.do_timely(instance, now);
     }
 
-    /// Does what is due beside a Tick.
+    /// Makes the Tick that is due. If the clock has gone too far ahead for that, it only saves.
+    fn tick(&mut self, instance: &mut Instance)
+        ensures { ByItself instance.old instance.new }
+    {
+        match self.desk.upkeep.moment_of_tick(instance.last()) {
+            Some(moment) => self.desk.upkeep.tick(instance, moment),
+            None => self.desk.upkeep.save_owed(instance),
+        }
+    }
+
+    /// Does everything that is due, apart from a Tick.
     fn do_timely(&mut self, instance: &Instance, now: Instant) {
         if self.desk.duties.is_save_due(now) {
             self.desk.upkeep.save_owed(instance);
@@ -48,8 +58,7 @@ impl<U: Keeper> Clerk<'_, U> {
         self.desk.look_around(instance, now);
     }
 
-    /// Asks each peer for all that it has, and hands it all that is held here. While a first pull is waited for, replicas are
-    /// asked, too.
+    /// Asks each peer for all that it has, and hands it all that is held here. During a first pull, replicas are asked, too.
     fn pull(&mut self) {
         if self.desk.duties.waits_for_pull() {
             self.replicas.want_all();

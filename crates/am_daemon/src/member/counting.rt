@@ -1,4 +1,4 @@
-//! What a member counts of those who connect to it.
+//! The figures about those who connect to a member.
 
 ghost use Rattle.std.specs.Prelude.{◌≡◌};
 ghost use Rattle.am_dialogue.specs.Talks.{talk_of};
@@ -11,18 +11,18 @@ use am_reactor::Failure;
 use am_upkeep::{Keeper, count_frames, place_of};
 use std::time::Instant;
 
-/// What a failure of a connection is counted as.
+/// Returns the kind that a connection's failure is counted as.
 fn failing_of(why: Failure) -> Failing {
     match why {
-        Failure::Read(_) => Failing::Read,
-        Failure::Write(_) => Failing::Write,
+        Failure::Read(_) | Failure::Left => Failing::Read,
+        Failure::Write(_) | Failure::Unread => Failing::Write,
         Failure::Time => Failing::Time,
         Failure::Crowded => Failing::Crowded,
         Failure::Unfinished => Failing::Unfinished,
     }
 }
 
-/// The step that a request is answered by, where it is one.
+/// Returns the step that answers a request, if there is one.
 fn step_of(request: Request) -> Option<Step> {
     match request {
         Request::List => Some(Step::List),
@@ -34,15 +34,15 @@ fn step_of(request: Request) -> Option<Step> {
     }
 }
 
-/// The place of the decision that a reply tells. Its word stands behind the last such key: what else a reply quotes has its
-/// quotes escaped, but for the names of labels, which stand before.
+/// Returns the place of the decision that a reply tells. The decision follows the last `"reason"` key: everything else that a
+/// reply quotes has its quotes escaped, except for the names of labels, which come before.
 fn decision_in(reply: &[u8]) -> Option<usize> {
     let text = str::from_utf8(reply).ok()?;
     let (_, word) = text.rsplit_once("\"reason\":\"")?;
     decision_word(word)
 }
 
-/// Counts what was said, by who greeted with this name.
+/// Counts what was said by a peer that greeted with this name.
 pub fn count_said<U: Keeper>(
     upkeep: &mut U,
     config: &Config,
@@ -66,7 +66,7 @@ pub fn count_broken(figures: &mut Figures, account: &mut Account, why: Failure) 
     }
 }
 
-/// Counts a connection that is done, and what it was answered.
+/// Counts a connection if it is done, and what it was answered.
 pub fn count_where_done<U: Keeper>(upkeep: &mut U, dialogue: &mut Conversation)
     ensures { talk_of dialogue.new ≡ talk_of dialogue.old }
 {
@@ -90,7 +90,7 @@ fn count_end(figures: &mut Figures, account: &Account, status: &[u8], now: Optio
     }
 }
 
-/// Whether a reply tells that a group is to be notified.
+/// Returns whether a reply says that a group is to be notified.
 pub fn is_to_notify(reply: &[u8]) -> bool {
     match decision_in(reply) {
         Some(place) => place < SKIPPED,
@@ -98,14 +98,14 @@ pub fn is_to_notify(reply: &[u8]) -> bool {
     }
 }
 
-/// Counts the step that decided what a reply tells.
+/// Counts the step that made the decision in a reply.
 pub fn count_decided(figures: &mut Figures, reply: &[u8]) {
     if let Some(place) = decision_in(reply) {
         figures.step(Step::Decide, u64::from(place != MUTED));
     }
 }
 
-/// Counts the decision that a reply tells.
+/// Counts the decision in a reply.
 pub fn count_decision(figures: &mut Figures, reply: &[u8]) {
     if let Some(place) = decision_in(reply) {
         figures.decisions.add(place, 1);

@@ -1,5 +1,6 @@
-//! Decisions for programs that send pages: what they ask is answered at once, or at this member's turn; that a group is to be
-//! notified only once the Alertmanagers beside the member were heard since, or their time is over.
+//! Decisions for programs that send pages. A question is answered at once, or at this member's turn. The answer that a group is
+//! to be notified is given only when the Alertmanagers beside the member have been heard since the question, or their time is
+//! over.
 
 ghost use Rattle.am_dialogue.specs.Answered.{ByItself};
 ghost use Rattle.am_dialogue.specs.Talks.{Closes, KeepsGone, Rests, talk_of};
@@ -11,7 +12,9 @@ use am_api_decisions::{
     Asked, Deciding, Notice, Question, Timing, asked_of, begin_log, log_notice,
 };
 use am_api_silences::{PendingAnswer, PendingReply, Read, Refusal, ReplyBytes, Request};
-use am_dialogue::{CallProgress, Conversation, Deliberation, Turn, Turns, request_bytes};
+use am_dialogue::{
+    CallProgress, Conversation, Deliberation, Due, Stage, Turn, Turns, is_long, request_bytes,
+};
 use am_figures::Step;
 use am_http::session::SessionOutput;
 use am_instance::{FrameSender, Instance};
@@ -21,42 +24,42 @@ use am_version_order::Moment;
 use std::alloc::Global;
 use std::time::{Duration, Instant};
 
-/// About how many times an alert is held against a silence between two looks at the clock.
+/// The approximate number of times that an alert is held against a silence between two looks at the clock.
 const STRETCH: usize = 1_024;
 
-/// For how many microseconds alerts are held against silences in a turn of the loop: about as long as a stretch of a list
-/// takes.
+/// The time, in microseconds, for which alerts are held against silences in a turn of the loop: about as long as a stretch of a
+/// list takes.
 const ENOUGH: u64 = 1_000;
 
-/// An alert costs as much as holding it against so many silences, beside those that there are.
+/// The least number of silences that an alert is counted as held against, since each alert has a cost of its own.
 const BESIDE: usize = 64;
 
-/// How far a decision has come, by a moment.
+/// The progress of a decision up to a moment.
 #[derive(Drop)]
 struct Reached {
     deciding: Deciding,
     now: Moment,
 }
 
-/// What comes of a call of a program that sends pages.
+/// The outcome of a call by a program that sends pages.
 #[derive(Drop)]
 pub enum Called {
-    /// Nothing.
+    /// There is no reply.
     Nothing,
-    /// It waits, or goes on in a later turn of the loop.
+    /// The call waits, or goes on in a later turn of the loop.
     Later(CallProgress),
-    /// It is refused.
+    /// The call is refused.
     Refused(Refusal),
-    /// Its reply is made, behind so much news.
+    /// The reply is made; the number counts the news before its step sent anything.
     Made(PendingReply, u64),
 }
 
-/// How many alerts are held against so many silences between two looks at the clock.
+/// Returns the number of alerts that are held against this many silences between two looks at the clock.
 fn stretch_over(silences: usize) -> usize {
     (STRETCH / silences.max(BESIDE)).max(1)
 }
 
-/// Whether alerts were held against silences for long enough now, in a turn that began then.
+/// Returns whether a turn that began at `begun` has held alerts against silences for long enough now.
 fn is_enough(begun: Option<Instant>, now: Option<Instant>) -> bool {
     match (begun, now) {
         (Some(begun), Some(now)) => {
@@ -92,7 +95,7 @@ fn ask_on<U: Keeper>(
     })
 }
 
-/// When it is this member's turn to answer a question that came now, if not at once.
+/// Returns when it is this member's turn to answer a question that came now, or `None` if it answers at once.
 fn turn_of<U: Keeper>(upkeep: &U, instance: &Instance, question: &Question) -> Option<Instant> {
     if !question.waits() {
         return None;
@@ -105,14 +108,27 @@ fn turn_of<U: Keeper>(upkeep: &U, instance: &Instance, question: &Question) -> O
     upkeep.now()?.checked_add(wait)
 }
 
-/// Since when a request waits, and until when at the latest.
+/// Returns whether a limit has come by now.
+fn is_over(limit: Option<Instant>, now: Option<Instant>) -> bool {
+    match (limit, now) {
+        (Some(limit), Some(now)) => limit <= now,
+        _ => false,
+    }
+}
+
+/// The time for which a request waits at most.
 #[derive(Clone, Copy)]
 struct Span {
     since: Instant,
     limit: Instant,
 }
 
-/// Has a request wait, where another one may.
+/// Returns the refusal of a request that comes while the member stops.
+fn refused_by_stop() -> Called {
+    Called::Refused(Refusal::new(503, "member stops"))
+}
+
+/// Keeps a request waiting, or refuses it if too many wait.
 fn wait_for_turn(turns: &mut Turns, turn: Turn) -> Called {
     if turns.begin() {
         Called::Later(CallProgress::Turn(turn))
@@ -142,8 +158,8 @@ impl<U: Keeper> Desk<'_, U> {
         self.follow_call(dialogue, called);
     }
 
-    /// Has a connection go on with what came of its call: a reply goes out behind the next commit, where something came since the
-    /// last one.
+    /// Continues a connection with the outcome of its call: a reply waits for the next commit if anything came since the last
+    /// one.
     pub(super) fn follow_call(&self, dialogue: &mut Conversation, called: Called)
         ensures rests { Rests (talk_of dialogue.old) (talk_of dialogue.new) }
         ensures gone { KeepsGone (talk_of dialogue.old).saying (talk_of dialogue.new).saying }
@@ -156,16 +172,61 @@ impl<U: Keeper> Desk<'_, U> {
         }
     }
 
-    /// Answers a request, or keeps it until its turn.
+    /// Answers a request, or keeps it until its turn. A long one isn't read before its place in the line has come.
     fn take_up(&mut self, instance: &mut Instance, request: Request) -> Called
+        ensures { ByItself instance.old instance.new }
+    {
+        let due = Due {
+            request,
+            stage: Stage::Unread,
+            limit: self.decide_limit(),
+        };
+        self.answer_in_line(instance, due)
+    }
+
+    /// Returns when a decision that begins now is broken off.
+    fn decide_limit(&self) -> Option<Instant> {
+        let now = self.upkeep.now()?;
+        now.checked_add(self.upkeep.options().decide_limit)
+    }
+
+    /// Answers a request, or keeps it waiting for its place in the line if it is long.
+    fn answer_in_line(&mut self, instance: &mut Instance, due: Due) -> Called
+        ensures { ByItself instance.old instance.new }
+    {
+        if is_long(&due.request) {
+            Called::Later(CallProgress::Due(due))
+        } else {
+            self.answer_due(instance, due)
+        }
+    }
+
+    /// Begins to answer a request whose place in the line has come.
+    pub(super) fn answer_due(&mut self, instance: &mut Instance, due: Due) -> Called
+        ensures { ByItself instance.old instance.new }
+    {
+        if due.stage == Stage::Unread {
+            self.answer_unread(instance, due.request, due.limit)
+        } else {
+            self.answer_in_turn(instance, due)
+        }
+    }
+
+    /// Reads what a request asks, and answers it or keeps it until its turn.
+    fn answer_unread(
+        &mut self,
+        instance: &mut Instance,
+        request: Request,
+        limit: Option<Instant>,
+    ) -> Called
         ensures { ByItself instance.old instance.new }
     {
         match asked_of(self.alloc, &request) {
             Ok(Asked::Decide(question)) => match turn_of(&self.upkeep, instance, &question) {
                 Some(due) => wait_for_turn(&mut self.turns, Turn::new(request, due)),
                 None => {
-                    let unheard = self.unheard(Some(request));
-                    self.begin_deciding(instance, question, unheard)
+                    let unheard = self.unheard(request);
+                    self.begin_deciding(instance, question, unheard, limit)
                 }
             },
             Ok(Asked::Notified(notice)) => self.log_in_room(
@@ -179,63 +240,89 @@ impl<U: Keeper> Desk<'_, U> {
         }
     }
 
-    /// The request, where there are Alertmanagers to be heard.
-    fn unheard(&self, request: Option<Request>) -> Option<Request> {
+    /// Returns the request if there are Alertmanagers to be heard.
+    fn unheard(&self, request: Request) -> Option<Request> {
         if self.asked.iter().any(|address| address.is_some()) {
-            request
+            Some(request)
         } else {
             None
         }
     }
 
-    /// The moment has come for which a request waited: it is answered, or waits for its place in the line. Where the member stops, it
-    /// is turned away.
-    pub(super) fn take_turn(&mut self, instance: &mut Instance, turn: Turn) -> Called
+    /// Answers a request whose moment has come, or puts it into the line. If the member stops, the request is turned away.
+    fn take_turn(&mut self, instance: &mut Instance, turn: Turn) -> Called
         ensures { ByItself instance.old instance.new }
     {
         self.turns.end();
         if self.stops {
-            Called::Refused(Refusal::new(503, "member stops"))
-        } else if turn.is_dear() {
-            Called::Later(CallProgress::Due(turn))
-        } else {
-            self.answer_turn(instance, turn)
+            return refused_by_stop();
+        }
+        let due = turn.into_due(self.decide_limit());
+        self.answer_in_line(instance, due)
+    }
+
+    /// Continues a call whose moment has come. If the member stops, the call is turned away.
+    pub(super) fn take_moment(&mut self, instance: &mut Instance, call: CallProgress) -> Called
+        ensures { ByItself instance.old instance.new }
+    {
+        match call {
+            CallProgress::Turn(turn) => self.take_turn(instance, turn),
+            CallProgress::Due(_) | CallProgress::Deciding(_) if self.stops => refused_by_stop(),
+            CallProgress::Due(due) => self.answer_due(instance, due),
+            CallProgress::Deciding(deliberation) => self.go_on_deciding(instance, deliberation),
+            other => Called::Later(other),
         }
     }
 
-    /// Begins to answer a request that waits no more.
-    pub(super) fn answer_turn(&mut self, instance: &mut Instance, turn: Turn) -> Called
+    /// Begins to answer a request that no longer waits.
+    fn answer_in_turn(&mut self, instance: &mut Instance, due: Due) -> Called
         ensures { ByItself instance.old instance.new }
     {
-        match asked_of(self.alloc, turn.request()) {
+        let Due {
+            request,
+            stage,
+            limit,
+        } = due;
+        match asked_of(self.alloc, &request) {
             Ok(Asked::Decide(question)) => {
-                let unheard = self.unheard(turn.into_unheard());
-                self.begin_deciding(instance, question, unheard)
+                let unheard = if stage == Stage::Heard {
+                    None
+                } else {
+                    self.unheard(request)
+                };
+                self.begin_deciding(instance, question, unheard, limit)
             }
             Ok(_) => Called::Nothing,
             Err(refusal) => Called::Refused(refusal),
         }
     }
 
-    /// Begins to answer a question, of which the request is given where Alertmanagers are still to be heard.
+    /// Begins to answer a question, by the limit at the latest. `unheard` is its request if Alertmanagers are still to be
+    /// heard.
     fn begin_deciding(
         &mut self,
         instance: &mut Instance,
         question: Question,
         unheard: Option<Request>,
+        limit: Option<Instant>,
     ) -> Called
         ensures { ByItself instance.old instance.new }
     {
         let alerts = question.message.alerts.len() as u64;
         self.upkeep.figures().step(Step::Mutes, alerts);
-        // (where there is no memory for it, its alerts aren't told by others' calls)
+        // (if there is no memory for it, its alerts aren't among the recent ones that are listed)
         let _ = self.recent.note(self.alloc, &question.message);
         let deciding = Deciding::new(self.alloc, question);
-        self.go_on_deciding(instance, Deliberation { deciding, unheard })
+        let deliberation = Deliberation {
+            deciding,
+            unheard,
+            limit,
+        };
+        self.go_on_deciding(instance, deliberation)
     }
 
-    /// Holds more of the alerts against the silences, for as long as a turn of the loop may take. Where none is left, it is
-    /// decided.
+    /// Holds more of the alerts against the silences, for as long as a turn of the loop may take. If none is left or the time
+    /// is over, the decision is made.
     pub(super) fn go_on_deciding(
         &mut self,
         instance: &mut Instance,
@@ -243,7 +330,14 @@ impl<U: Keeper> Desk<'_, U> {
     ) -> Called
         ensures { ByItself instance.old instance.new }
     {
-        let Deliberation { deciding, unheard } = deliberation;
+        let Deliberation {
+            deciding,
+            unheard,
+            limit,
+        } = deliberation;
+        if is_over(limit, self.upkeep.now()) {
+            return self.break_off(instance, deciding, unheard);
+        }
         let Reached { deciding, now } = match ask_on(&self.upkeep, self.alloc, instance, deciding) {
             Ok(reached) => reached,
             Err(refusal) => return Called::Refused(refusal),
@@ -251,12 +345,32 @@ impl<U: Keeper> Desk<'_, U> {
         if deciding.is_asked() {
             self.decide(instance, deciding, unheard, now)
         } else {
-            Called::Later(CallProgress::Deciding(Deliberation { deciding, unheard }))
+            Called::Later(CallProgress::Deciding(Deliberation {
+                deciding,
+                unheard,
+                limit,
+            }))
         }
     }
 
-    /// Decides, now that all alerts were held against the silences. That the group is to be notified isn't answered while Alertmanagers
-    /// are still to be heard.
+    /// Decides although some alerts haven't been held against the silences: these count as muted by no silence.
+    fn break_off(
+        &mut self,
+        instance: &mut Instance,
+        deciding: Deciding,
+        unheard: Option<Request>,
+    ) -> Called
+        ensures { ByItself instance.old instance.new }
+    {
+        let now = self.upkeep.next_moment(instance.last());
+        let turn_seconds = seconds_in(self.upkeep.options().peer_timeout);
+        let reply = deciding.break_off(self.alloc, instance, Timing { now, turn_seconds });
+        count_decided(self.upkeep.figures(), reply.as_slice());
+        self.answer_or_hear(instance, reply, unheard)
+    }
+
+    /// Decides after all alerts have been held against the silences. If Alertmanagers are still to be heard, the answer that
+    /// the group is to be notified waits for them.
     fn decide(
         &mut self,
         instance: &mut Instance,
@@ -272,7 +386,7 @@ impl<U: Keeper> Desk<'_, U> {
         self.answer_or_hear(instance, reply, unheard)
     }
 
-    /// Answers by a decision, or has its request wait for exchanges with the Alertmanagers, which begin now.
+    /// Answers with a decision, or keeps its request waiting for exchanges with the Alertmanagers, which begin now.
     fn answer_or_hear(
         &mut self,
         instance: &Instance,
@@ -291,14 +405,14 @@ impl<U: Keeper> Desk<'_, U> {
         }
     }
 
-    /// Since when a request waits for exchanges that waits from now on, and until when at the latest.
+    /// Returns the time for which a request waits for exchanges if it begins to wait now.
     fn span(&self) -> Option<Span> {
         let since = self.upkeep.now()?;
         let limit = since.checked_add(self.upkeep.options().time_limit)?;
         Some(Span { since, limit })
     }
 
-    /// Has a request wait for exchanges with the Alertmanagers that begin in a new round.
+    /// Keeps a request waiting for exchanges with the Alertmanagers that begin in a new round.
     fn wait_for_exchanges(&mut self, request: Request, span: Span) -> Called {
         let Span { since, limit } = span;
         self.round = self.round.saturating_add(1);
@@ -306,7 +420,7 @@ impl<U: Keeper> Desk<'_, U> {
         wait_for_turn(&mut self.turns, turn)
     }
 
-    /// Logs what was notified, where the log has room for so many bytes.
+    /// Logs what was notified if the log has room for this many bytes.
     fn log_in_room(&mut self, instance: &mut Instance, notice: Notice, bytes: u64) -> Called
         ensures { ByItself instance.old instance.new }
     {
@@ -326,7 +440,7 @@ impl<U: Keeper> Desk<'_, U> {
         self.made(instance, making, outbox)
     }
 
-    /// Begins to write the entries of the log that are live.
+    /// Begins to write the log's live entries.
     fn list_log(&self, instance: &Instance) -> Called {
         let now = self.upkeep.next_moment(instance.last());
         match begin_log(self.alloc, instance, now) {
@@ -335,14 +449,14 @@ impl<U: Keeper> Desk<'_, U> {
         }
     }
 
-    /// Lists the alerts of the last messages.
+    /// Lists the alerts of the most recent messages.
     fn list_recent(&mut self, instance: &Instance) -> Called {
         let reply = self.recent.told(self.alloc);
         let outbox = FrameSender::new(self.alloc);
         self.made(instance, PendingReply::Whole(reply), outbox)
     }
 
-    /// A reply that a step has made, now that what it sends goes out.
+    /// Returns the reply that a step has made, and sends the frames of its outbox.
     fn made(&mut self, instance: &Instance, making: PendingReply, outbox: FrameSender) -> Called {
         let news = self.upkeep.keeping().news();
         self.upkeep.follow(instance.config(), None, outbox, None);

@@ -1,11 +1,13 @@
-//! What answers those who connect to a member.
+//! The part of a member that answers those who connect to it.
 
+use super::bursts::Burst;
 use super::links::{address_of, hand_all, hand_nothing};
 use am_api_decisions::RecentAlerts;
 use am_dialogue::{Share, Timers, Turns};
 use am_faults::Fault;
 use am_instance::{Config, Instance, Place};
 use am_reactor::LinkFault;
+use am_seal::CHALLENGE;
 use am_upkeep::{DISK, Keeper, cause_of, sooner};
 use rand::rngs::StdRng;
 use rand_core::Rng;
@@ -13,45 +15,55 @@ use std::alloc::Global;
 use std::net::SocketAddr;
 use std::time::{Duration, Instant};
 
-/// What answers those who connect to a member, and what it keeps in mind for that.
+/// The part of a member that answers those who connect to it, with what it remembers for that.
 #[derive(Drop)]
 pub struct Desk<'a, U> {
     pub alloc: Global,
-    /// The files of what is held, and what is printed and counted.
+    /// The files of the member's state, its printed lines, and its figures.
     pub upkeep: U,
-    /// By which names the member is asked, beside `127.0.0.1` and `localhost`.
+    /// The names by which the member is asked, beside `127.0.0.1` and `localhost`.
     pub hosts: Vec<&'a str>,
-    /// At which address each peer listens, by the places of members.
+    /// The addresses at which peers listen, by the places of members.
     pub addresses: Vec<Option<SocketAddr>>,
-    /// At which address each Alertmanager beside it is asked, by place.
+    /// The addresses at which the Alertmanagers beside the member are asked, by place.
     pub asked: Vec<Option<SocketAddr>>,
     pub random: StdRng,
     pub duties: Timers,
-    /// What each peer is handed of all that is held, by place.
+    /// The part of the member's state that is still to be handed to each peer, by place.
     pub shares: Vec<Share>,
-    /// The peers that have not pushed all they have since the start.
+    /// The frames that go to each peer over its link if they are sealed, by place.
+    pub bursts: Vec<Burst>,
+    /// The peers that haven't pushed all they have since the start.
     pub awaited: Vec<Place>,
-    /// How many requests for decisions wait.
+    /// The number of requests for decisions that wait.
     pub turns: Turns,
-    /// The alerts of the last messages that it was asked about.
+    /// The alerts of the most recent messages that the member was asked about.
     pub recent: RecentAlerts,
-    /// How often one has begun to wait for the Alertmanagers beside the member: the round in which they are asked from now on.
+    /// The number of times that a request has begun to wait for the Alertmanagers beside the member, which is the round in
+    /// which they are asked from now on.
     pub round: u64,
-    /// The member is to stop.
+    /// True if the member is to stop.
     pub stops: bool,
-    /// Its stop has ended the first pull, so that what waits for that is turned away.
+    /// True if the member's stop has ended the first pull, so that what waits for it is turned away.
     pub turns_away: bool,
 }
 
-/// 128 random bits.
+/// Returns 128 random bits.
 pub fn random_bits(random: &mut StdRng) -> u128 {
     let high = random.next_u64();
     let low = random.next_u64();
     u128::from(high) << 64 | u128::from(low)
 }
 
+/// Returns 32 random bytes, which the frames of one connection answer.
+pub fn random_challenge(random: &mut StdRng) -> [u8; CHALLENGE] {
+    let mut challenge = [0u8; CHALLENGE];
+    random.fill_bytes(&mut challenge);
+    challenge
+}
+
 impl<U: Keeper> Desk<'_, U> {
-    /// Whether a name is one that nobody may greet by: of the disk, or of a replica.
+    /// Returns whether nobody may greet by a name, because it is that of the disk or of a replica.
     pub(super) fn is_inner(&self, config: &Config, name: &str) -> bool {
         if self.upkeep.keeping().is_on() && name == DISK {
             return true;
@@ -71,7 +83,8 @@ impl<U: Keeper> Desk<'_, U> {
         }
     }
 
-    /// Looks whether the first pull is over, whether the clock is behind, which lines are due, and whether the member is to stop.
+    /// Checks whether the first pull is over, whether the clock is behind, which lines are due, and whether the member is to
+    /// stop.
     pub(super) fn look_around(&mut self, instance: &Instance, now: Instant) {
         if self.duties.is_first_pull_over(now) {
             self.upkeep.tell_of(instance.config(), None, Fault::NoPull);
@@ -86,7 +99,7 @@ impl<U: Keeper> Desk<'_, U> {
         }
     }
 
-    /// A stop ends the first pull. What waits for it is turned away.
+    /// Ends the first pull because the member stops. What waits for it is turned away.
     pub(super) fn give_up_first_pull(&mut self, now: Instant) {
         if self.duties.waits_for_pull() {
             self.turns_away = true;
@@ -94,21 +107,22 @@ impl<U: Keeper> Desk<'_, U> {
         }
     }
 
-    /// What all peers have is here.
+    /// Ends the first pull, since all that the peers have is here.
     pub(super) fn end_first_pull(&mut self) {
         if let Some(now) = self.upkeep.now() {
             self.duties.end_first_pull(now);
         }
     }
 
-    /// The link to a peer is lost, which listens at this address.
+    /// Gives up the link to a peer, and returns the address at which the peer listens.
     pub(super) fn lose_link(&mut self, peer: usize, fault: LinkFault) -> Option<SocketAddr> {
         hand_nothing(&mut self.shares, peer);
+        self.close_burst(peer);
         self.upkeep.figures().heard.lose(peer, cause_of(fault));
         address_of(&self.addresses, peer)
     }
 
-    /// Writes files anew, and answers how long it is until more is to be done.
+    /// Rewrites files, and returns the time until there is more to be done.
     pub(super) fn left(&mut self, instance: &Instance, now: Instant) -> Option<Duration> {
         let work = self.upkeep.compact(instance, now);
         let lines = sooner(self.duties.left(now), self.upkeep.lines_left(now));

@@ -1,5 +1,5 @@
-//! The Alertmanagers beside a member: what they answer is taken, a stretch in a turn of the loop, and what they lack goes to
-//! them.
+//! The exchanges with the Alertmanagers beside a member: it takes what they answer, a stretch in each turn of the loop, and
+//! sends them what they lack.
 
 ghost use Rattle.std.specs.Prelude.{ℕ, Result};
 ghost use Rattle.am_dialogue.specs.Answered.{ByItself};
@@ -10,6 +10,7 @@ ghost use Rattle.am_refusals.specs.declared.error.StepError.{StepError};
 
 use super::clerk::Clerk;
 use super::desk::Desk;
+use super::links::link_to;
 use am_beside::{Came, Report};
 use am_dialogue::{Conversation, Turn, frame_bytes};
 use am_faults::{Fault, ShortId};
@@ -46,7 +47,7 @@ fn take_from<U: Keeper>(upkeep: &mut U, instance: &mut Instance, place: usize, f
 }
 
 impl<U: Keeper> Desk<'_, U> {
-    /// Takes what came of a replica.
+    /// Takes what came from a replica.
     fn take_came(&mut self, instance: &mut Instance, came: Came)
         ensures { ByItself instance.old instance.new }
     {
@@ -65,7 +66,7 @@ impl<U: Keeper> Desk<'_, U> {
         }
     }
 
-    /// Counts an exchange with the replica at a place, which told all, and lacked so many versions.
+    /// Counts an exchange with the replica at a place, which told everything, and lacked this many versions.
     fn note_exchange(&mut self, place: usize, lacked: u64) {
         let since_1970 = self.upkeep.since_1970();
         let figures = self.upkeep.figures();
@@ -73,7 +74,7 @@ impl<U: Keeper> Desk<'_, U> {
         figures.beside.lack(place, lacked);
     }
 
-    /// Counts a silence that isn't sent to a replica, and tells of it where it wasn't told before.
+    /// Counts a silence that isn't sent to a replica, and reports it if that wasn't done before.
     fn report(&mut self, config: &Config, report: &Report) {
         let id = ShortId::of(report.id.as_str().as_bytes());
         let (cause, fault) = match report.hazard {
@@ -99,8 +100,8 @@ impl<U: Keeper> Desk<'_, U> {
 }
 
 impl<U: Keeper> Clerk<'_, U> {
-    /// Has the replicas be asked where that is due, and looks at a stretch of what they answered. Answers how long it is until
-    /// there is more to be done.
+    /// Asks the replicas if that is due, and looks at a stretch of what they answered. Returns the time until there is more to
+    /// be done.
     pub(super) fn gossip(&mut self, instance: &mut Instance, now: Instant) -> Option<Duration>
         ensures { ByItself instance.old instance.new }
     {
@@ -111,10 +112,11 @@ impl<U: Keeper> Clerk<'_, U> {
             .go_on(instance.silences(), instance.log(), moment);
         self.desk.take_came(instance, came);
         self.report_withheld(instance.config());
+        self.report_dropped(instance.config());
         self.replicas.left(now)
     }
 
-    /// Counts the silences that aren't sent to replicas, and tells of those that weren't told before.
+    /// Counts the silences that aren't sent to replicas, and reports those that weren't reported before.
     fn report_withheld(&mut self, config: &Config) {
         for _ in 0..u64::MAX {
             match self.replicas.next_report() {
@@ -124,7 +126,20 @@ impl<U: Keeper> Clerk<'_, U> {
         }
     }
 
-    /// Whether the exchanges are over for which a request waits.
+    /// Reports how many of the smaller messages that replicas told lost fields.
+    fn report_dropped(&mut self, config: &Config) {
+        for _ in 0..u64::MAX {
+            let Some((place, count)) = self.replicas.next_dropped() else {
+                return;
+            };
+            let fault = Fault::FieldsDropped(count);
+            self.desk
+                .upkeep
+                .tell_of(config, Some(place as Place), fault);
+        }
+    }
+
+    /// Returns whether the exchanges that a request waits for are over.
     pub(super) fn are_heard(&self, turn: &Turn) -> bool {
         match turn.round() {
             Some(round) => self.replicas.are_over(round),
@@ -132,7 +147,7 @@ impl<U: Keeper> Clerk<'_, U> {
         }
     }
 
-    /// Tells which replicas weren't heard since a request began to wait for them that waits no more, each once a minute.
+    /// Reports which replicas weren't heard after a request that no longer waits began to wait for them, each once a minute.
     pub(super) fn tell_missed(&mut self, config: &Config, dialogue: &Conversation) {
         let Some(turn) = dialogue.turn() else {
             return;
@@ -152,21 +167,27 @@ impl<U: Keeper> Clerk<'_, U> {
         }
     }
 
-    /// What goes to a peer next, of the frames that wait. Those for replicas wait on, until they are told.
+    /// Returns the next of the waiting frames that go to a peer. Frames for replicas wait on until the replicas are told, and
+    /// frames to be sealed wait on until their links are answered.
     pub(super) fn next_outgoing(&mut self, config: &Config) -> Option<PeerBytes> {
         for _ in 0..self.desk.asked.len() {
             let (place, frames) = self.desk.upkeep.next_frames(config)?;
-            if !self.replicas.is_at(place as usize) {
-                let bytes = self.desk.upkeep.text_of(config, place, &frames)?;
+            if self.replicas.is_at(place as usize) {
+                self.replicas.bring(place as usize, &frames);
+            } else if self.desk.upkeep.is_sealed() {
+                if self.desk.put_by(config, place as usize, frames) {
+                    return Some(link_to(self.desk.alloc, place as usize));
+                }
+            } else {
+                let bytes = self.desk.upkeep.text_of(config, place, None, &frames)?;
                 let peer = place as usize;
                 return Some(PeerBytes { peer, bytes });
             }
-            self.replicas.bring(place as usize, &frames);
         }
         None
     }
 
-    /// What is asked of a replica next, or told to it: behind the commit of what is told.
+    /// Returns the next question or message for a replica. A message goes out only after what it tells is committed.
     pub(super) fn next_question(&mut self, instance: &Instance) -> Option<PeerBytes> {
         if self.desk.upkeep.keeping().has_news() {
             return None;

@@ -1,4 +1,4 @@
-//! Whose frames are heard: what is asked of a connection by where it comes in.
+//! The choice of whose frames are heard, by the entrance that a connection comes in at.
 
 ghost use Rattle.am_http.specs.Sessions.{spoken};
 ghost use Rattle.am_dialogue.specs.Answered.{IsAnswered};
@@ -18,8 +18,8 @@ use am_seal::SEALED;
 use am_upkeep::{Keeper, place_of};
 use std::alloc::{AllocError, Global};
 
-/// What is heard of those who come by an entrance: frames without a secret only where none but this machine reaches it, or where
-/// that is wanted.
+/// Returns what is heard at an entrance: frames without a secret are heard only if nobody but this machine reaches the
+/// entrance, or if that is wanted.
 pub fn hears_at(options: &Options<'_>, entrance: Entrance) -> Hears {
     match (options.peers_address, entrance) {
         (Some(_), Entrance::Main) => Hears::Requests,
@@ -35,11 +35,11 @@ pub fn hears_at(options: &Options<'_>, entrance: Entrance) -> Hears {
     }
 }
 
-/// By which names a member is asked: those of its options, and its own address.
+/// Returns the names by which a member is asked: those of its options, and its own address.
 ///
 /// # Errors
 ///
-/// [`AllocError`] where memory runs out.
+/// [`AllocError`] if memory runs out.
 pub fn hosts_of<'a>(alloc: Global, options: &Options<'a>) -> Result<Vec<&'a str>, AllocError> {
     let mut hosts = Vec::from_slice(alloc, options.hosts.as_slice())?;
     if let Some(host) = options.own_host {
@@ -48,11 +48,11 @@ pub fn hosts_of<'a>(alloc: Global, options: &Options<'a>) -> Result<Vec<&'a str>
     Ok(hosts)
 }
 
-/// The greeting with which each connection to a peer begins, behind a byte that says so where frames are sealed.
+/// Returns the greeting that begins each connection to a peer. If frames are sealed, a byte that says so comes before it.
 ///
 /// # Errors
 ///
-/// [`FrameError`] where the name is none, or memory ran out.
+/// [`FrameError`] if the name is invalid, or memory ran out.
 pub fn opening(alloc: Global, name: &str, is_sealed: bool) -> Result<Vec<u8>, FrameError> {
     let greeting = greeting(alloc, name)?;
     if !is_sealed {
@@ -64,7 +64,8 @@ pub fn opening(alloc: Global, name: &str, is_sealed: bool) -> Result<Vec<u8>, Fr
 }
 
 impl<U: Keeper> Desk<'_, U> {
-    /// Answers what was heard at the gate of a connection, tells why no more is, and counts the connection where it is done.
+    /// Answers what was heard at the gate of a connection, reports why no more is heard, and counts the connection if it is
+    /// done.
     pub(super) fn hear_at_gate(
         &mut self,
         instance: &mut Instance,

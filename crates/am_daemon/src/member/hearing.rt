@@ -1,6 +1,7 @@
-//! What comes of what a connection said.
+//! The consequences of what a connection said.
 
-ghost use Rattle.std.specs.Prelude.{◌≡◌, ℕ, IsTrue};
+ghost use Rattle.std.specs.Prelude.{◌≡◌, ◌≤◌, ℕ, IsTrue};
+ghost use Rattle.am_http.specs.Lines.{line_seen};
 ghost use Rattle.am_http.specs.Sessions.{name_of, spoken};
 ghost use Rattle.am_dialogue.specs.Answered.{IsAnswered, IsTaken, SaysBy};
 ghost use Rattle.am_dialogue.specs.Talks.{Closes, IsClosed, KeepsBy, Stays, talk_of};
@@ -22,16 +23,16 @@ use am_member::{SessionAnswer, Spared, apply_session_output, spare};
 use am_peers::Fault as ConnectionFault;
 use am_upkeep::{Keeper, place_of};
 
-/// What the frames of a peer asked for beside what they bring.
+/// The requests in a peer's frames, beside the versions that they bring.
 #[derive(Clone, Copy)]
 struct Asked {
-    /// A Pull was answered.
+    /// True if a Pull was answered.
     pulled: bool,
-    /// All that is held here, by one who has sent all it has.
+    /// True if all that is held here is asked for, by a peer that has sent all it has.
     asks: bool,
-    /// A Tick.
+    /// True if a Tick is asked for.
     ticks: bool,
-    /// There was a frame.
+    /// True if there was a frame.
     has_frames: bool,
 }
 
@@ -56,9 +57,9 @@ impl<U: Keeper> Desk<'_, U> {
         }
     }
 
-    /// Refuses to hear a request that names a host or a site which isn't this member's.
+    /// Refuses to hear a request that names a host or a site other than this member's.
     pub(super) fn refuse(&self, dialogue: &mut Conversation, refusal: &Refusal)
-        ensures { IsClosed (talk_of dialogue.old) (talk_of dialogue.new) }
+        ensures { 400 ≤ (line_seen refusal.now).status → IsClosed (talk_of dialogue.old) (talk_of dialogue.new) }
     {
         dialogue.account.ask(Request::Other, self.upkeep.now());
         dialogue.refuse(self.alloc, refusal);
@@ -82,7 +83,7 @@ impl<U: Keeper> Desk<'_, U> {
         self.take_in(instance, dialogue, said);
     }
 
-    /// Refuses who greets by a name that is nobody's, as that of the disk, and answers whether somebody did.
+    /// Refuses a connection that greets by a name that nobody may use, such as that of the disk, and returns whether it did.
     fn refuses_inner(&mut self, config: &Config, dialogue: &mut Conversation) -> bool
         ensures refused { IsTrue result → Closes (talk_of dialogue.old) (talk_of dialogue.new) }
         ensures saying { (talk_of dialogue.new).saying ≡ (talk_of dialogue.old).saying }
@@ -136,7 +137,7 @@ impl<U: Keeper> Desk<'_, U> {
         apply_session_output(self.alloc, instance, session, said, bits, now)
     }
 
-    /// Has go out what comes of steps.
+    /// Sends what comes of steps.
     fn reply(&mut self, config: &Config, dialogue: &mut Conversation, exchanged: SessionAnswer)
         ensures stays { Stays (talk_of dialogue.old) (talk_of dialogue.new) }
         ensures says { SaysBy exchanged.reply (talk_of dialogue.old).saying (talk_of dialogue.new).saying }
@@ -154,8 +155,8 @@ impl<U: Keeper> Desk<'_, U> {
         }
     }
 
-    /// Has a reply go out: behind the next commit, where something came since the last one. `news` counts what had come before
-    /// its step sent anything.
+    /// Sends a reply, which waits for the next commit if anything came since the last one. `news` counts what had come before
+    /// the reply's step sent anything.
     pub(super) fn reply_by(&self, dialogue: &mut Conversation, making: PendingReply, news: u64)
         ensures stays { Stays (talk_of dialogue.old) (talk_of dialogue.new) }
         ensures says { KeepsBy making (talk_of dialogue.old).saying (talk_of dialogue.new).saying }
@@ -190,7 +191,7 @@ impl<U: Keeper> Desk<'_, U> {
         }
     }
 
-    /// Keeps in mind that frames of a peer were taken now, where there were some.
+    /// Remembers that frames of a peer were taken now, if there were any.
     fn note_frames(&mut self, config: &Config, name: Option<&str>, has_frames: bool) {
         if !has_frames {
             return;
@@ -201,7 +202,7 @@ impl<U: Keeper> Desk<'_, U> {
         }
     }
 
-    /// Ends the first pull, if it is waited for, where a peer has sent all it has, or now that each has.
+    /// Ends the first pull, if it is going on, when a peer has sent all it has, or now that each peer has.
     fn end_first_pull_after(
         &mut self,
         config: &Config,
@@ -218,8 +219,7 @@ impl<U: Keeper> Desk<'_, U> {
         }
     }
 
-    /// Keeps in mind what the frames of a peer asked for: all that is held here, but while the first pull is waited for, and a
-    /// Tick.
+    /// Remembers what the frames of a peer asked for: a Tick, and, except during the first pull, all that is held here.
     fn owe(&mut self, config: &Config, name: Option<&str>, asks: bool, ticks: bool) {
         if ticks {
             self.duties.owe_tick();
@@ -233,7 +233,7 @@ impl<U: Keeper> Desk<'_, U> {
         hand_all(&mut self.shares, place as usize, false);
     }
 
-    /// Whether each peer has pushed all that it has, now that the one of this name did.
+    /// Returns whether each peer has pushed all that it has, now that the one of this name did.
     fn has_all_with(&mut self, config: &Config, name: Option<&str>) -> bool {
         let Some(name) = name else {
             return false;

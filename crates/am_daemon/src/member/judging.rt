@@ -1,6 +1,8 @@
-//! Requests whose patterns are compiled before they are answered, one in a turn of the loop; and posts for which there is no room.
+//! Requests whose patterns are compiled before they are answered, one in each turn of the loop; and posts that there is no room
+//! for.
 
-ghost use Rattle.std.specs.Prelude.{◌≡◌, IfOk, IfSome, IsTrue};
+ghost use Rattle.std.specs.Prelude.{◌≡◌, ◌≤◌, IfErr, IfOk, IfSome, IsTrue};
+ghost use Rattle.am_http.specs.Lines.{line_seen};
 ghost use Rattle.am_http.specs.Sessions.{spoken};
 ghost use Rattle.am_dialogue.specs.Answered.{IsAnswered};
 ghost use Rattle.am_dialogue.specs.Talks.{IsClosed, IsRequest, talk_of};
@@ -15,7 +17,7 @@ use am_member::{Judged, Judging};
 use am_upkeep::Keeper;
 use std::alloc::{AllocError, Global};
 
-/// The patterns of what was said to an instance, where it has such.
+/// Returns the patterns of what was said to an instance, if there are any.
 fn judging_of(
     alloc: Global,
     instance: &Instance,
@@ -29,12 +31,14 @@ fn judging_of(
     }
 }
 
-/// Compiles the next pattern of a request, and answers whether none is left.
+/// Compiles the next pattern of a request, and returns whether none is left.
 ///
 /// # Errors
 ///
-/// Why the request is refused.
-fn is_judged(judging: &mut Judging) -> Result<bool, Refusal> {
+/// The [`Refusal`] of the request.
+fn is_judged(judging: &mut Judging) -> Result<bool, Refusal>
+    ensures { IfErr result (λ refusal. 400 ≤ (line_seen refusal).status) }
+{
     match judging.go_on() {
         Ok(Judged::More) => Ok(false),
         Ok(Judged::Done) => Ok(true),
@@ -60,7 +64,7 @@ impl<U: Keeper> Desk<'_, U> {
         }
     }
 
-    /// Refuses a post for which there is no room, and answers whether it did.
+    /// Refuses a post that there is no room for, and returns whether it did.
     fn refuses(
         &mut self,
         instance: &Instance,
@@ -79,7 +83,7 @@ impl<U: Keeper> Desk<'_, U> {
         }
     }
 
-    /// Answers what was said that isn't refused, or keeps it until its patterns are compiled.
+    /// Answers what was said, which isn't refused, or keeps it until its patterns are compiled.
     fn begin_judging(
         &mut self,
         instance: &mut Instance,
@@ -96,7 +100,7 @@ impl<U: Keeper> Desk<'_, U> {
         }
     }
 
-    /// Compiles the next pattern of a request. Where none is left it is answered.
+    /// Compiles the next pattern of a request. If none is left, the request is answered.
     pub(super) fn go_on_judging(
         &mut self,
         instance: &mut Instance,
@@ -114,7 +118,7 @@ impl<U: Keeper> Desk<'_, U> {
         }
     }
 
-    /// Answers a request by its patterns, which are compiled.
+    /// Answers a request with its compiled patterns.
     fn answer_by(
         &mut self,
         instance: &mut Instance,

@@ -1,68 +1,163 @@
-//! Where peers listen, and all that a member holds, as it is handed to them: part by part, each made when the one before it went
-//! out.
+//! The addresses at which peers listen, and the state that a member hands to them: part by part, each made after the one before
+//! it went out.
 
+use super::bursts::Dropped;
+use super::desk::Desk;
 use am_dialogue::Share;
 use am_faults::Fault;
-use am_instance::{HandedPart, Instance, Place};
-use am_reactor::PeerBytes;
-use am_upkeep::Keeper;
+use am_gossip::Frame;
+use am_instance::{Config, HandedPart, Instance, Place};
+use am_reactor::{LinkFault, PeerBytes};
+use am_upkeep::{Keeper, cause_of};
 use std::alloc::Global;
 use std::net::SocketAddr;
 
-/// The most bytes of a part, but where one version has more.
+/// The maximum number of bytes of a part, unless a single version has more.
 const MOST_OF_PART: usize = 1_048_576;
 
-/// The address that stands at a place.
+/// Returns the address at a place.
 pub fn address_of(addresses: &[Option<SocketAddr>], place: usize) -> Option<SocketAddr> {
     addresses.get(place).copied()?
 }
 
-/// Has a peer be handed all that is held, and perhaps be asked for as much.
+/// Plans to hand a peer all that is held, and with `asks` to ask it for all that it has.
 pub fn hand_all(shares: &mut [Share], peer: usize, asks: bool) {
     if let Some(share) = shares.get_mut(peer) {
         share.want(asks);
     }
 }
 
-/// A peer is handed nothing more.
+/// Plans to hand a peer nothing more.
 pub fn hand_nothing(shares: &mut [Share], peer: usize) {
     if let Some(share) = shares.get_mut(peer) {
         *share = Share::none();
     }
 }
 
-/// A link to the first peer that is to be handed all that is held.
-pub fn open_link(alloc: Global, shares: &mut [Share]) -> Option<PeerBytes> {
-    let peer = shares.iter().position(|share| share.waits())?;
-    let share = shares.get_mut(peer)?;
-    share.open();
+/// Returns a link to a peer, over which nothing but the greeting goes out yet.
+pub fn link_to(alloc: Global, peer: usize) -> PeerBytes {
     let bytes = Vec::new(alloc);
-    Some(PeerBytes { peer, bytes })
+    PeerBytes { peer, bytes }
 }
 
-/// The next part for a peer, as it goes out.
-pub fn next_part<U: Keeper>(
+/// Returns the next part for a peer, as a frame.
+fn next_part<U: Keeper>(
     upkeep: &mut U,
     shares: &mut [Share],
     instance: &Instance,
     peer: usize,
-) -> Option<Vec<u8>> {
+) -> Option<Frame> {
     let share = shares.get_mut(peer)?;
     let left = share.take_left()?;
-    let text = match instance.hand_out(left, MOST_OF_PART) {
+    match instance.hand_out(left, MOST_OF_PART) {
         Ok(part) => {
             let HandedPart { state, next } = part;
-            let frame = share.frame_of(state, next);
-            upkeep.text_of(instance.config(), peer as Place, &[frame])
+            Some(share.frame_of(state, next))
         }
         Err(_) => {
             let place = Some(peer as Place);
             upkeep.tell_of(instance.config(), place, Fault::UnsentMemory(1));
             None
         }
-    };
-    if text.is_none() {
-        hand_nothing(shares, peer);
     }
-    text
+}
+
+impl<U: Keeper> Desk<'_, U> {
+    /// Opens a link to the first peer that is to be handed all that is held.
+    pub(super) fn open_link(&mut self) -> Option<PeerBytes> {
+        let peer = self.shares.iter().position(|share| share.waits())?;
+        self.shares.get_mut(peer)?.open();
+        if let Some(burst) = self.bursts.get_mut(peer) {
+            burst.open();
+        }
+        Some(link_to(self.alloc, peer))
+    }
+
+    /// Keeps frames for a peer until they are sealed, or reports why they are dropped. Returns whether a link is to be opened.
+    pub(super) fn put_by(&mut self, config: &Config, peer: usize, frames: Vec<Frame>) -> bool {
+        let Some(burst) = self.bursts.get_mut(peer) else {
+            return false;
+        };
+        let count = frames.len();
+        match burst.add(frames) {
+            Ok(()) => return burst.open(),
+            Err(Dropped::Again) => self.drop_frames(peer, count, LinkFault::Full),
+            Err(Dropped::Full) => {
+                self.drop_frames(peer, count, LinkFault::Full);
+                self.tell_lost(config, peer, LinkFault::Full);
+            }
+            Err(Dropped::Memory) => {
+                self.drop_frames(peer, count, LinkFault::Memory);
+                self.tell_lost(config, peer, LinkFault::Memory);
+            }
+        }
+        false
+    }
+
+    /// Counts frames for a peer that are dropped, as those of a lost link.
+    fn drop_frames(&mut self, peer: usize, count: usize, fault: LinkFault) {
+        let heard = &mut self.upkeep.figures().heard;
+        heard.hand_on(peer, count as u64);
+        heard.lose(peer, cause_of(fault));
+    }
+
+    /// Reports that what waited for a peer is lost.
+    fn tell_lost(&mut self, config: &Config, peer: usize, fault: LinkFault) {
+        let fault = Fault::Lost(fault, address_of(&self.addresses, peer));
+        self.upkeep.tell_of(config, Some(peer as Place), fault);
+    }
+
+    /// Returns the frames that go to a peer next: those that wait, or the next part of all that is held.
+    fn next_frames(&mut self, instance: &Instance, peer: usize) -> Option<Vec<Frame>> {
+        let waiting = self.bursts.get_mut(peer)?.take();
+        if !waiting.is_empty() {
+            return Some(waiting);
+        }
+        let part = next_part(&mut self.upkeep, &mut self.shares, instance, peer)?;
+        let mut frames = Vec::new(self.alloc);
+        if frames.push(part).is_err() {
+            let place = Some(peer as Place);
+            self.upkeep
+                .tell_of(instance.config(), place, Fault::UnsentMemory(1));
+            return None;
+        }
+        Some(frames)
+    }
+
+    /// Returns the bytes that go to a peer next over its link, which answered with `answer`.
+    fn text_behind(&mut self, instance: &Instance, peer: usize, answer: &[u8]) -> Option<Vec<u8>> {
+        let frames = self.next_frames(instance, peer)?;
+        let burst = self.bursts.get_mut(peer)?;
+        let from = burst.place(answer);
+        burst.count_on(frames.len());
+        self.upkeep
+            .text_of(instance.config(), peer as Place, from, &frames)
+    }
+
+    /// Returns the bytes that go to a peer next over its link, which answered with `answer`. If there are none, the link is
+    /// closed, and nothing more is handed to the peer.
+    pub(super) fn next_text(
+        &mut self,
+        instance: &Instance,
+        peer: usize,
+        answer: &[u8],
+    ) -> Option<Vec<u8>> {
+        let text = self.text_behind(instance, peer, answer);
+        if text.is_none() {
+            hand_nothing(&mut self.shares, peer);
+            self.close_burst(peer);
+        }
+        text
+    }
+
+    /// Closes the link to a peer. The frames that wait for it are counted as those of a lost link.
+    pub(super) fn close_burst(&mut self, peer: usize) {
+        let Some(burst) = self.bursts.get_mut(peer) else {
+            return;
+        };
+        let waiting = burst.close();
+        if waiting > 0 {
+            self.upkeep.figures().heard.hand_on(peer, waiting as u64);
+        }
+    }
 }

@@ -1,4 +1,4 @@
-//! What waits for its place in the line, and goes on there.
+//! The work that waits for its place in the line, and continues there.
 
 ghost use Rattle.am_http.specs.Sessions.{spoken};
 ghost use Rattle.am_dialogue.specs.Answered.{ByItself, IsAnswered};
@@ -14,7 +14,7 @@ use am_upkeep::Keeper;
 use std::mem;
 
 impl<U: Keeper> Desk<'_, U> {
-    /// Goes on with what is still to be done for a connection. What waits for its turn goes on waiting.
+    /// Continues what is still to be done for a connection. What waits for its turn goes on waiting.
     pub(super) fn go_on(&mut self, instance: &mut Instance, dialogue: &mut Conversation)
         ensures { IsTakenUp (talk_of dialogue.old).waiting instance.old (talk_of dialogue.old) instance.new (talk_of dialogue.new) }
     {
@@ -27,7 +27,7 @@ impl<U: Keeper> Desk<'_, U> {
         }
     }
 
-    /// Goes on with the answer to a request that isn't about silences.
+    /// Continues the answer to a request that isn't about silences.
     fn go_on_call(
         &mut self,
         instance: &mut Instance,
@@ -40,8 +40,8 @@ impl<U: Keeper> Desk<'_, U> {
     {
         match call {
             CallProgress::Turn(turn) => dialogue.put_off(CallProgress::Turn(turn)),
-            CallProgress::Due(turn) => {
-                let called = self.answer_turn(instance, turn);
+            CallProgress::Due(due) => {
+                let called = self.answer_due(instance, due);
                 self.follow_call(dialogue, called);
             }
             CallProgress::Deciding(deciding) => {
@@ -56,7 +56,7 @@ impl<U: Keeper> Desk<'_, U> {
         }
     }
 
-    /// Answers what has waited: where it waited for a first pull that a stop has ended, that nothing is answered.
+    /// Answers a request that has waited. If it waited for a first pull that a stop has ended, it is turned away.
     fn answer_late(
         &mut self,
         instance: &mut Instance,
@@ -72,14 +72,14 @@ impl<U: Keeper> Desk<'_, U> {
         }
     }
 
-    /// The moment has come for which a request waited.
+    /// Answers a request whose moment has come.
     pub(super) fn go_on_in_turn(&mut self, instance: &mut Instance, dialogue: &mut Conversation)
         ensures own { ByItself instance.old instance.new }
         ensures lasts { Lasts (talk_of dialogue.old) (talk_of dialogue.new) }
     {
         match mem::replace(&mut dialogue.work, Work::Nothing) {
-            Work::Call(CallProgress::Turn(turn)) => {
-                let called = self.take_turn(instance, turn);
+            Work::Call(call) => {
+                let called = self.take_moment(instance, call);
                 self.follow_call(dialogue, called);
             }
             other => dialogue.set(other),

@@ -1,12 +1,12 @@
-//! What a member does for the loop that serves it.
+//! The work that a member does for the loop that serves it.
 
 ghost use Rattle.std.specs.Prelude.{◌≡◌, false};
 
 use super::clerk::Clerk;
 use super::counting::{count_broken, count_where_done};
-use super::desk::Desk;
+use super::desk::random_challenge;
 use super::guarding::hears_at;
-use super::links::{address_of, next_part, open_link};
+use super::links::address_of;
 use am_attendant::Attendant;
 use am_dialogue::Conversation;
 use am_faults::Fault;
@@ -18,23 +18,24 @@ use am_upkeep::{Keeper, place_of, sooner};
 use std::io::ErrorKind;
 use std::time::Instant;
 
-/// A connection that was closed before its end, as a fault.
-fn fault_of(broken: Broken, is_over: bool) -> Fault {
+/// Returns the fault of a connection that was closed before its end, or `None` if its client left before the reply.
+fn fault_of(broken: Broken, is_over: bool) -> Option<Fault> {
     let write = ConnectionFault::Write {
         written: broken.written,
     };
     let read = ConnectionFault::Read { at: broken.read };
-    match broken.why {
-        Failure::Write(_) => Fault::Connection(write),
+    Some(match broken.why {
+        Failure::Write(_) | Failure::Unread => Fault::Connection(write),
         Failure::Time if is_over => Fault::Connection(write),
         Failure::Read(_) | Failure::Time => Fault::Connection(read),
         Failure::Crowded => Fault::Crowded(broken.read),
         Failure::Unfinished => Fault::Unfinished(broken.read),
-    }
+        Failure::Left => return None,
+    })
 }
 
 impl<U: Keeper> Attendant for Clerk<'_, U> {
-    // (of the bytes this says nothing: only that all was committed that came before them)
+    // (this says nothing about the bytes, only that all that came before them was committed)
     ghost offers = { λ clerk peer bytes clerk'. (U.keeping_of clerk.desk.upkeep).has_news ≡ false };
 
     fn begin(&mut self, entrance: Entrance) -> Conversation {
@@ -53,7 +54,10 @@ impl<U: Keeper> Attendant for Clerk<'_, U> {
         if let Some(refusal) = dialogue.screen(piece, self.desk.hosts.as_slice()) {
             return self.desk.refuse(dialogue, &refusal);
         }
-        let heard = dialogue.gate.feed(&mut dialogue.session, lock, piece);
+        let challenge = random_challenge(&mut self.desk.random);
+        let heard = dialogue
+            .gate
+            .feed(&mut dialogue.session, lock, challenge, piece);
         self.desk.hear_at_gate(instance, dialogue, heard);
     }
 
@@ -71,9 +75,10 @@ impl<U: Keeper> Attendant for Clerk<'_, U> {
             &mut dialogue.account,
             broken.why,
         );
-        let peer = place_of(config, dialogue.session.name());
-        let fault = fault_of(broken, dialogue.session.is_over());
-        self.desk.upkeep.tell_of(config, peer, fault);
+        if let Some(fault) = fault_of(broken, dialogue.session.is_over()) {
+            let peer = place_of(config, dialogue.session.name());
+            self.desk.upkeep.tell_of(config, peer, fault);
+        }
     }
 
     fn may_resume(&self) -> bool {
@@ -98,8 +103,10 @@ impl<U: Keeper> Attendant for Clerk<'_, U> {
     }
 
     fn due(&self, dialogue: &Conversation) -> Option<Instant> {
-        let turn = dialogue.turn()?;
-        Some(turn.due(self.are_heard(turn)))
+        match dialogue.turn() {
+            Some(turn) => Some(turn.due(self.are_heard(turn))),
+            None => dialogue.limit(),
+        }
     }
 
     fn come_due(&mut self, instance: &mut Instance, dialogue: &mut Conversation) {
@@ -120,7 +127,7 @@ impl<U: Keeper> Attendant for Clerk<'_, U> {
         if self.desk.upkeep.keeping().has_news() {
             None
         } else if self.desk.upkeep.sends_nothing() {
-            open_link(self.desk.alloc, &mut self.desk.shares)
+            self.desk.open_link()
         } else {
             self.next_outgoing(config)
         }
@@ -134,10 +141,9 @@ impl<U: Keeper> Attendant for Clerk<'_, U> {
         self.replicas.answered(peer, answer);
     }
 
-    fn more(&mut self, instance: &Instance, peer: usize) -> Option<Vec<u8>> {
-        let Desk { upkeep, shares, .. } = &mut self.desk;
-        upkeep.figures().heard.all_out(peer);
-        next_part(upkeep, shares, instance, peer)
+    fn more(&mut self, instance: &Instance, peer: usize, answer: &[u8]) -> Option<Vec<u8>> {
+        self.desk.upkeep.figures().heard.all_out(peer);
+        self.desk.next_text(instance, peer, answer)
     }
 
     fn lost(&mut self, config: &Config, peer: usize, fault: LinkFault) {

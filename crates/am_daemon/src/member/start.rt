@@ -1,5 +1,6 @@
 //! The start of a member.
 
+use super::bursts::Burst;
 use super::clerk::Clerk;
 use super::desk::Desk;
 use super::guarding::{hosts_of, opening};
@@ -13,7 +14,7 @@ use am_jobs::Options;
 use am_lines::signals;
 use am_peers::{Peer, shown_name};
 use am_reactor::{Entrances, Limits, Peers, listen};
-use am_seal::Lock;
+use am_seal::{CHALLENGE, Lock};
 use am_self::Started;
 use am_upkeep::{Host, Keeper, Upkeep, config_of, lock_of, secret_of};
 use rand::make_rng;
@@ -25,24 +26,24 @@ use std::random::RandomSource;
 use std::rt::{Clock, Files};
 use std::time::Instant;
 
-/// The most bytes that wait for a peer while a connection to it is open.
+/// The maximum number of bytes that wait for a peer while a connection to it is open.
 const MOST_WAITING: usize = 134_217_728;
 
-/// The most bytes that an Alertmanager beside it answers.
+/// The maximum number of bytes that an Alertmanager beside the member answers.
 const MOST_ANSWER: usize = 67_125_248;
 
-/// Runs a member, prints why it ends early, and answers the exit status of the program.
+/// Runs a member, prints why it ends early, and returns the exit status of the program.
 pub fn run<'a, R: Host + HasAudience>(rt: &'a R, options: &'a Options<'a>) -> u8 {
     match run_on(rt, options) {
         Ok(None) => status::DONE,
-        // (no input is refused where a state is too large to be saved)
+        // (a state that is too large to be saved is no refused input)
         Ok(Some(fault)) => fault.status().max(status::OUTSIDE),
         Err(fault) => report(rt, fault),
     }
 }
 
-/// Runs a member until it is told to end, or has taken its connections; then it saves both states. Answers with which fault it
-/// ended, which is told: that of the listener, or else why the last save failed.
+/// Runs a member until it is told to end or has taken its connections, and then saves both states. Returns the fault that it
+/// ended with, which is reported: that of the listener, or else the one of the last save.
 ///
 /// # Errors
 ///
@@ -55,7 +56,7 @@ fn run_on<'a, R: Host>(rt: &'a R, options: &'a Options<'a>) -> Result<Option<Fau
     run_kept(rt, options, lock, instance, upkeep)
 }
 
-/// Runs the member that holds this, and has this upkeep.
+/// Runs the member that has this instance and this upkeep.
 fn run_kept<R: Host, U: Keeper + Drop>(
     rt: &R,
     options: &Options<'_>,
@@ -73,7 +74,7 @@ fn run_kept<R: Host, U: Keeper + Drop>(
     Ok(run_member(rt, options, &mut member, entrances))
 }
 
-/// The listeners.
+/// Returns the listeners.
 fn entrances<R: Net>(rt: &R, options: &Options<'_>) -> Result<Entrances, Fault> {
     let main = match listen(rt, options.address) {
         Ok(listener) => listener,
@@ -91,7 +92,7 @@ fn entrances<R: Net>(rt: &R, options: &Options<'_>) -> Result<Entrances, Fault> 
     }
 }
 
-/// Runs a member that listens. Answers with which fault it ended, which is told.
+/// Runs a member that listens. Returns the fault that it ended with, which is reported.
 fn run_member<R: Clock + Eprint + Input + Net, U: Keeper>(
     rt: &R,
     options: &Options<'_>,
@@ -103,7 +104,7 @@ fn run_member<R: Clock + Eprint + Input + Net, U: Keeper>(
     member.attendant.desk.upkeep.end(&member.instance, failed)
 }
 
-/// Tells of the start of a member, and does what that leaves to be done.
+/// Reports the start of a member, and does what that leaves to be done.
 fn begin<R: Eprint, U: Keeper>(rt: &R, member: &mut Member<'_, Clerk<'_, U>>) {
     let instance = &member.instance;
     let upkeep = &mut member.attendant.desk.upkeep;
@@ -125,14 +126,14 @@ fn tell_start<R: Eprint>(rt: &R, instance: &Instance, options: &Options<'_>) {
     am_self::report(rt, options);
 }
 
-/// Why nobody is served, or no more.
+/// The reason that nobody is served, or no longer.
 #[derive(Clone, Copy)]
 enum Unserved {
     Memory,
     Listener(ErrorKind),
 }
 
-/// That as a fault.
+/// Returns that reason as a fault.
 fn fault_of(why: Unserved) -> Fault {
     match why {
         Unserved::Memory => Fault::Config(ConfigError::Memory),
@@ -140,8 +141,8 @@ fn fault_of(why: Unserved) -> Fault {
     }
 }
 
-/// Serves whoever connects, until the member is told to end or has taken its connections. Answers why it doesn't, or no more,
-/// which is told.
+/// Serves whoever connects, until the member is told to end or has taken its connections. Returns the fault for which it
+/// doesn't, or no longer, which is reported.
 fn serve<R: Clock + Input + Net, U: Keeper>(
     rt: &R,
     options: &Options<'_>,
@@ -179,6 +180,7 @@ fn serve_peers<R: Clock + Input + Net, U: Keeper>(
     let peers = Peers {
         links: &links,
         greeting: &greeting,
+        awaited: awaited(member.lock.is_some()),
         asked: &asked,
     };
     match live(alloc, rt, entrances, peers, member, limits(options)) {
@@ -187,7 +189,12 @@ fn serve_peers<R: Clock + Input + Net, U: Keeper>(
     }
 }
 
-/// What connections may take.
+/// Returns the number of bytes that a peer answers with before frames go out: those of a challenge if frames are sealed.
+fn awaited(is_sealed: bool) -> usize {
+    if is_sealed { CHALLENGE } else { 0 }
+}
+
+/// Returns the limits of connections.
 fn limits(options: &Options<'_>) -> Limits {
     Limits {
         at_once: options.at_once,
@@ -196,26 +203,28 @@ fn limits(options: &Options<'_>) -> Limits {
         link_bytes: MOST_WAITING,
         answer_bytes: MOST_ANSWER,
         held_bytes: options.most_unfinished,
+        unread_bytes: options.most_unfinished / 2,
         watch_input: options.stop_at_input_end,
     }
 }
 
-/// What is kept of each peer, by place.
+/// The state that is kept of each peer, by place.
 #[derive(Drop)]
 struct Links {
     addresses: Vec<Option<SocketAddr>>,
     awaited: Vec<Place>,
     shares: Vec<Share>,
+    bursts: Vec<Burst>,
 }
 
-/// What is kept of each Alertmanager beside it, by place.
+/// The state that is kept of each Alertmanager beside the member, by place.
 #[derive(Drop)]
 struct Beside {
     asked: Vec<Option<SocketAddr>>,
     replicas: Replicas,
 }
 
-/// What is kept of all members.
+/// The state that is kept of all members.
 #[derive(Drop)]
 struct Places<'a> {
     hosts: Vec<&'a str>,
@@ -223,7 +232,7 @@ struct Places<'a> {
     beside: Beside,
 }
 
-/// The clerk of a member that has this upkeep.
+/// Returns the clerk of a member that has this upkeep.
 fn clerk_with<'a, R: AllocGlobal + Clock + Files + RandomSource, U: Keeper + Drop>(
     rt: &R,
     options: &Options<'a>,
@@ -238,7 +247,7 @@ fn clerk_with<'a, R: AllocGlobal + Clock + Files + RandomSource, U: Keeper + Dro
     }
 }
 
-/// The clerk that has all this.
+/// Returns the clerk with all these parts.
 fn clerk_of<'a, U>(
     alloc: Global,
     options: &Options<'a>,
@@ -256,6 +265,7 @@ fn clerk_of<'a, U>(
         addresses,
         awaited,
         shares,
+        bursts,
     } = links;
     let Beside { asked, replicas } = beside;
     let waiting = options.waiting.min(options.at_once / 2);
@@ -268,6 +278,7 @@ fn clerk_of<'a, U>(
         random,
         duties,
         shares,
+        bursts,
         awaited,
         turns: Turns::new(waiting),
         recent: RecentAlerts::new(alloc),
@@ -278,7 +289,7 @@ fn clerk_of<'a, U>(
     Clerk { desk, replicas }
 }
 
-/// What is kept of all members before any is heard.
+/// Returns the state of all members before any is heard.
 fn places_of<'a>(
     alloc: Global,
     config: &Config,
@@ -294,26 +305,28 @@ fn places_of<'a>(
     })
 }
 
-/// What is kept of each peer before any is heard.
+/// Returns the state of each peer before any is heard.
 fn links_of(alloc: Global, config: &Config, options: &Options<'_>) -> Result<Links, AllocError> {
     let addresses = addresses(alloc, config, &options.peers)?;
     let awaited = peer_places(alloc, &addresses)?;
     let shares = shares(alloc, addresses.len())?;
+    let bursts = bursts(alloc, addresses.len())?;
     Ok(Links {
         addresses,
         awaited,
         shares,
+        bursts,
     })
 }
 
-/// What is kept of each Alertmanager beside it before any is asked.
+/// Returns the state of each Alertmanager beside the member before any is asked.
 fn beside_of(alloc: Global, config: &Config, options: &Options<'_>) -> Result<Beside, AllocError> {
     let asked = asked(alloc, config, &options.replicas)?;
-    let replicas = Replicas::new(alloc, &asked, options.gossip_every)?;
+    let replicas = Replicas::new(alloc, &asked, options.gossip_every, config.unknown())?;
     Ok(Beside { asked, replicas })
 }
 
-/// What is due by itself from now on.
+/// Returns the timers of what the member does by itself from now on.
 fn duties<R: Clock + Files>(rt: &R, options: &Options<'_>) -> Result<Timers, Fault> {
     match Instant::now(rt) {
         Ok(now) => Ok(Timers::new(&intervals(options), signals::are_blocked(rt), now)),
@@ -321,7 +334,7 @@ fn duties<R: Clock + Files>(rt: &R, options: &Options<'_>) -> Result<Timers, Fau
     }
 }
 
-/// How often it does what it does by itself.
+/// Returns the intervals of what the member does by itself.
 fn intervals(options: &Options<'_>) -> Intervals {
     let is_alone = options.peers.is_empty() && options.replicas.is_empty();
     let waits = options.pull_first && !is_alone;
@@ -337,7 +350,7 @@ fn intervals(options: &Options<'_>) -> Intervals {
     }
 }
 
-/// What random bits are drawn from.
+/// Returns the generator that random bits are drawn from.
 fn random<R: RandomSource>(rt: &R) -> Result<StdRng, Fault> {
     match make_rng(rt) {
         Ok(random) => Ok(random),
@@ -345,7 +358,7 @@ fn random<R: RandomSource>(rt: &R) -> Result<StdRng, Fault> {
     }
 }
 
-/// At which address each peer listens, by the places of members.
+/// Returns the addresses at which peers listen, by the places of members.
 fn addresses(
     alloc: Global,
     config: &Config,
@@ -359,7 +372,7 @@ fn addresses(
     Ok(addresses)
 }
 
-/// At which address each Alertmanager beside it is asked, by the places of members.
+/// Returns the addresses at which the Alertmanagers beside the member are asked, by the places of members.
 fn asked(
     alloc: Global,
     config: &Config,
@@ -372,7 +385,7 @@ fn asked(
     Ok(asked)
 }
 
-/// The address of the Alertmanager that stands under a name among the members.
+/// Returns the address of the Alertmanager that has a name among the members.
 fn address_beside(replicas: &[Peer<'_>], name: &str) -> Option<SocketAddr> {
     let shown = shown_name(name);
     if shown.len() == name.len() {
@@ -382,7 +395,7 @@ fn address_beside(replicas: &[Peer<'_>], name: &str) -> Option<SocketAddr> {
     Some(replica.address)
 }
 
-/// What each of so many members is handed: nothing yet.
+/// Returns what each of `count` members is handed, which is nothing yet.
 fn shares(alloc: Global, count: usize) -> Result<Vec<Share>, AllocError> {
     let mut shares = Vec::with_capacity(alloc, count)?;
     for _ in 0..count {
@@ -391,7 +404,16 @@ fn shares(alloc: Global, count: usize) -> Result<Vec<Share>, AllocError> {
     Ok(shares)
 }
 
-/// The places of the peers: those of which an address is known.
+/// Returns what goes to each of `count` members, which is nothing yet.
+fn bursts(alloc: Global, count: usize) -> Result<Vec<Burst>, AllocError> {
+    let mut bursts = Vec::with_capacity(alloc, count)?;
+    for _ in 0..count {
+        bursts.push(Burst::new(alloc))?;
+    }
+    Ok(bursts)
+}
+
+/// Returns the places of the peers, which are those with a known address.
 fn peer_places(alloc: Global, addresses: &[Option<SocketAddr>]) -> Result<Vec<Place>, AllocError> {
     let mut places = Vec::with_capacity(alloc, addresses.len())?;
     for (place, address) in addresses.iter().enumerate() {

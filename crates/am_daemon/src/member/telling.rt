@@ -1,4 +1,4 @@
-//! What a member tells of itself.
+//! The answers of a member about itself.
 
 ghost use Rattle.am_dialogue.specs.Talks.{Closes, KeepsGone, Rests, talk_of};
 
@@ -25,7 +25,7 @@ use std::alloc::{AllocError, Global};
 use std::net::SocketAddr;
 use std::time::Duration;
 
-/// How long it is from one moment to a later one; none to an earlier one.
+/// Returns the time from one moment to a later one, or zero if the other one is earlier.
 pub fn time_between(from: Moment, to: Moment) -> Duration {
     let (first, before) = from.parts();
     let (last, behind) = to.parts();
@@ -34,18 +34,18 @@ pub fn time_between(from: Moment, to: Moment) -> Duration {
     ))
 }
 
-/// What is told of a member.
+/// An answer about a member.
 #[derive(Drop)]
 pub enum Told {
-    /// A reply, where there was memory for it.
+    /// A reply, if there was memory for it.
     Reply(Result<Vec<u8>, AllocError>),
     /// A refusal.
     Refused(Refusal),
-    /// Its figures, once more of the silences are counted.
+    /// The member's figures, which follow when more of the silences are counted.
     Counting(Census),
 }
 
-/// Has a connection be told this.
+/// Answers a connection.
 pub fn tell(alloc: Global, dialogue: &mut Conversation, told: Told)
     ensures rests { Rests (talk_of dialogue.old) (talk_of dialogue.new) }
     ensures gone { KeepsGone (talk_of dialogue.old).saying (talk_of dialogue.new).saying }
@@ -57,7 +57,7 @@ pub fn tell(alloc: Global, dialogue: &mut Conversation, told: Told)
     }
 }
 
-/// Counts a stretch more of the silences.
+/// Counts one more stretch of the silences.
 fn counted_on<U: Keeper>(
     upkeep: &U,
     alloc: Global,
@@ -68,7 +68,7 @@ fn counted_on<U: Keeper>(
     census.go_on(alloc, instance.silences(), now)
 }
 
-/// Counts all silences, since nothing is done in stretches now.
+/// Counts all silences at once, since nothing is done in stretches now.
 fn counted<U: Keeper>(
     upkeep: &U,
     alloc: Global,
@@ -85,13 +85,13 @@ fn counted<U: Keeper>(
     Ok(census)
 }
 
-/// How far the clock is behind the moment of the last event.
+/// Returns how far the clock is behind the moment of the last event.
 fn clock_behind<U: Keeper>(upkeep: &U, last: Moment) -> Duration {
     let now = later_moment(upkeep.since_1970(), Moment::LEAST);
     time_between(now, last)
 }
 
-/// A moment of so many nanoseconds since 1970, as a text; an empty one where it is 0.
+/// Returns a moment as a text, by its nanoseconds since 1970; the text is empty if they are 0.
 fn heard_text(alloc: Global, nanos: u64) -> Result<Text, AllocError> {
     if nanos == 0 {
         return Text::copied(alloc, "");
@@ -100,7 +100,7 @@ fn heard_text(alloc: Global, nanos: u64) -> Result<Text, AllocError> {
     Text::copied(alloc, write_moment(moment).as_str())
 }
 
-/// Those of whom an address is known, by place.
+/// Returns the members with a known address, by place.
 fn peers_counted<'b>(
     alloc: Global,
     config: &'b Config,
@@ -119,7 +119,7 @@ fn peers_counted<'b>(
 }
 
 impl<U: Keeper> Desk<'_, U> {
-    /// Answers what was asked of the member itself. Nothing waits for a first pull here.
+    /// Answers a question about the member itself. These don't wait for a first pull.
     pub(super) fn tell_itself(
         &self,
         instance: &Instance,
@@ -142,7 +142,7 @@ impl<U: Keeper> Desk<'_, U> {
         tell(self.alloc, dialogue, told);
     }
 
-    /// What answers a call.
+    /// Returns the answer to a call.
     fn told(&self, instance: &Instance, call: Call) -> Told {
         let alloc = self.alloc;
         let Call { resource, is_bare } = call;
@@ -157,12 +157,12 @@ impl<U: Keeper> Desk<'_, U> {
         }
     }
 
-    /// Whether it answers requests: no first pull is waited for, and it doesn't stop.
+    /// Returns whether the member answers requests: it waits for no first pull, and doesn't stop.
     fn is_ready(&self) -> bool {
         !self.duties.waits_for_pull() && !self.stops
     }
 
-    /// Who it is, as a reply.
+    /// Returns a reply that says who the member is.
     fn status(&self, config: &Config, is_bare: bool) -> Result<Vec<u8>, AllocError> {
         let alloc = self.alloc;
         let options = self.upkeep.options();
@@ -178,7 +178,7 @@ impl<U: Keeper> Desk<'_, U> {
         status_reply(alloc, &standing, is_bare)
     }
 
-    /// All members, with where they listen.
+    /// Returns all members, with the addresses at which they listen.
     fn members_shown(&self, config: &Config) -> Result<Vec<Peer>, AllocError> {
         let alloc = self.alloc;
         let options = self.upkeep.options();
@@ -197,7 +197,7 @@ impl<U: Keeper> Desk<'_, U> {
         Ok(peers)
     }
 
-    /// The Alertmanagers beside it, with where they are asked and what came of that.
+    /// Returns the Alertmanagers beside the member, with the addresses at which they are asked and what came of that.
     fn neighbors_shown(&self, config: &Config) -> Result<Vec<Neighbor>, AllocError> {
         let alloc = self.alloc;
         let mut neighbors = Vec::new(alloc);
@@ -210,7 +210,7 @@ impl<U: Keeper> Desk<'_, U> {
         Ok(neighbors)
     }
 
-    /// The Alertmanager at a place, which has this name and is asked there.
+    /// Returns the Alertmanager at a place, which has this name and is asked at this address.
     fn neighbor(
         &self,
         place: usize,
@@ -228,7 +228,7 @@ impl<U: Keeper> Desk<'_, U> {
         })
     }
 
-    /// Begins to count the silences. While a first pull is waited for nothing that waits is done, so they are counted at once.
+    /// Begins to count the silences. During a first pull nothing that waits is done, so they are counted at once.
     fn begin_counting(&self, instance: &Instance, is_bare: bool) -> Told {
         let census = Census::new(is_bare);
         if self.duties.waits_for_pull() {
@@ -241,7 +241,7 @@ impl<U: Keeper> Desk<'_, U> {
         }
     }
 
-    /// Counts a stretch more of the silences. Where none is left, the figures are told.
+    /// Counts one more stretch of the silences. If none is left, the answer has the figures.
     pub(super) fn go_on_counting(&self, instance: &Instance, census: Census) -> Told {
         self.told_of(
             instance,
@@ -249,7 +249,7 @@ impl<U: Keeper> Desk<'_, U> {
         )
     }
 
-    /// The figures where all silences are counted, and else they are counted on later.
+    /// Returns the figures if all silences are counted; otherwise they are counted on later.
     fn told_of(&self, instance: &Instance, counted: Result<Census, AllocError>) -> Told {
         match counted {
             Ok(census) if census.is_done() => Told::Reply(self.figures(instance, &census)),
@@ -258,14 +258,14 @@ impl<U: Keeper> Desk<'_, U> {
         }
     }
 
-    /// Its figures, as a reply.
+    /// Returns the member's figures, as a reply.
     fn figures(&self, instance: &Instance, census: &Census) -> Result<Vec<u8>, AllocError> {
         let shown = self.shown(instance, census.counts)?;
         let families = families(self.alloc, self.upkeep.counted(), &shown)?;
         metrics_reply(self.alloc, &families, census.is_bare)
     }
 
-    /// What is told of it beside what it counts.
+    /// Returns what the reply says beside what the member counts.
     fn shown<'b>(
         &self,
         instance: &'b Instance,

@@ -64,6 +64,7 @@ pub fn write_link_fault<W: fmt::Write>(
             write!(f, "Send Write {peer} {written}")
         }
         LinkFault::Read { read, .. } => write!(f, "Send Read {peer} {read}"),
+        LinkFault::Unanswered { read } => write!(f, "Send Challenge {peer} {read}"),
         LinkFault::TooLong => numbered(f, "Send TooLarge", peer),
         LinkFault::Full => numbered(f, "Send Full", peer),
         LinkFault::Memory => numbered(f, "Send Memory", peer),

@@ -38,6 +38,9 @@ const UNFINISHED: &str =
 
 const CLOCK_BEHIND: &str = "the clock is so many seconds behind the last event; is it set right?";
 
+const CLOCK_AHEAD: &str =
+    "the clock went so many seconds further than time did, so nothing that has expired is dropped; set it right and restart, or see --trust-clock";
+
 const NO_PULL: &str =
     "no peer answered the first pull in time, so requests are answered without it";
 
@@ -60,6 +63,9 @@ const WITHHELD_PATTERN: &str =
 
 const WITHHELD_MATCHER: &str =
     "this silence isn't sent there, since no Alertmanager can make one with these matchers, or it would mute too much";
+
+const FIELDS_DROPPED: &str =
+    "so many matchers, receivers and moments that this Alertmanager told have fields that aren't known here, which are lost; is it of a later release?";
 
 /// What a fault means.
 pub fn meaning_of(fault: &Fault) -> &'static str {
@@ -87,10 +93,12 @@ pub fn meaning_of(fault: &Fault) -> &'static str {
         Fault::Clock(_) => "the system's clock can't be read",
         Fault::ClockBehind(_) => CLOCK_BEHIND,
         Fault::ClockCaughtUp => "the clock is behind the last event no more",
+        Fault::ClockAhead(_) => CLOCK_AHEAD,
         Fault::NoPull => NO_PULL,
         Fault::Unheard => UNHEARD,
         Fault::WithheldPattern(_) => WITHHELD_PATTERN,
         Fault::WithheldMatcher(_) => WITHHELD_MATCHER,
+        Fault::FieldsDropped(_) => FIELDS_DROPPED,
         Fault::LinesLost(_) => LINES_LOST,
         Fault::UnsentMemory(_) => UNSENT_MEMORY,
         Fault::UnsentLimit(_) => UNSENT_LIMIT,
@@ -128,7 +136,8 @@ fn meaning_of_gate(fault: GateFault) -> &'static str {
         GateFault::Cut => "the connection ended in a sealed frame, of which nothing is taken",
         GateFault::Seal(SealError::Length) => "the length of a sealed frame is out of its range",
         GateFault::Seal(SealError::Sum) =>
-            "the sum of a frame isn't right, so it isn't taken; has the peer the same --secret, and this member's name?",
+            "the sum of a frame isn't right, so it isn't taken; has the peer the same --secret, and this member's name, and is it of this release?",
+        GateFault::Seal(SealError::Number) => "a connection has no number for another frame",
         GateFault::Seal(SealError::Text) => "what is sealed isn't one frame",
         GateFault::Seal(SealError::Memory) => MEMORY,
     }
@@ -333,6 +342,8 @@ fn meaning_of_link(fault: LinkFault) -> &'static str {
         LinkFault::Connect(kind) => meaning_of_connect(kind),
         LinkFault::Write { .. } | LinkFault::Time { .. } => LOST_WRITE,
         LinkFault::Read { .. } => LOST_READ,
+        LinkFault::Unanswered { .. } =>
+            "the peer didn't answer with a challenge; is it of a release before 0.2.0? All members with a --secret have to be of this one",
         LinkFault::TooLong => "over 67,125,248 bytes came back",
         LinkFault::Full => "over 134,217,728 bytes wait for this peer; does it hang?",
         LinkFault::Memory => "memory ran out for what waits for this peer",

@@ -10,7 +10,7 @@ use crate::session::state::State;
 use crate::{Cause, Read, read_request};
 use std::alloc::Global;
 
-/// What the bytes say that came of a request.
+/// Returns what the bytes of a request so far say.
 fn ask(alloc: Global, bytes: Vec<u8>) -> (SessionOutput, State)
     requires { 0 < length bytes.items }
     ensures says { Asks bytes.items (spoken result.0) (standing_in result.1) }
@@ -22,7 +22,7 @@ fn ask(alloc: Global, bytes: Vec<u8>) -> (SessionOutput, State)
     }
 }
 
-/// What a piece says behind the bytes that came of a request.
+/// Returns what a piece says that follows the bytes of a request so far.
 pub fn ask_on(alloc: Global, bytes: Vec<u8>, piece: &[u8]) -> (SessionOutput, State)
     requires { 0 < length (bytes.items ++ piece.now) }
     ensures says { Asks (bytes.items ++ piece.now) (spoken result.0) (standing_in result.1)
@@ -36,7 +36,7 @@ pub fn ask_on(alloc: Global, bytes: Vec<u8>, piece: &[u8]) -> (SessionOutput, St
     }
 }
 
-/// What is said of a request whose input ended in it, of which these bytes came.
+/// Returns the refusal of a request whose input ended after these bytes.
 pub fn cut_short(alloc: Global, bytes: &[u8]) -> SessionOutput
     requires some { 0 < length bytes.now }
     requires open { IsUnfinished bytes.now }

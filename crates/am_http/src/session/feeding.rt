@@ -1,4 +1,4 @@
-//! What comes of a session with the next piece, and at the end of its input.
+//! The output of a session at the next piece, and at the end of its input.
 
 ghost use Rattle.std.specs.Prelude.{◌≡◌};
 ghost use Rattle.am_http.specs.Sessions.{Feeds, SaysEnd, fresh, spoken};
@@ -11,10 +11,10 @@ use crate::session::output::SessionOutput;
 use crate::session::state::State;
 use std::alloc::Global;
 
-/// The first byte of a request is no less; a greeting's is.
+/// The smallest first byte of a request; a greeting's is smaller.
 const LEAST_OF_REQUESTS: u8 = 0x20;
 
-/// What the first piece says.
+/// Returns what the first piece says.
 fn begin(alloc: Global, piece: &[u8]) -> (SessionOutput, State)
     ensures says { Feeds fresh piece.now (spoken result.0) (standing_in result.1) }
     ensures sound { IsSound result.1 }
@@ -26,7 +26,7 @@ fn begin(alloc: Global, piece: &[u8]) -> (SessionOutput, State)
     }
 }
 
-/// What the next piece says.
+/// Returns what the next piece says.
 pub fn next_of(alloc: Global, state: State, piece: &[u8]) -> (SessionOutput, State)
     requires { IsSound state }
     ensures says { Feeds (standing_in state) piece.now (spoken result.0) (standing_in result.1) }
@@ -41,7 +41,7 @@ pub fn next_of(alloc: Global, state: State, piece: &[u8]) -> (SessionOutput, Sta
     }
 }
 
-/// What the end of the input says.
+/// Returns what the end of the input says.
 pub fn end_of(alloc: Global, state: &State) -> SessionOutput
     requires { IsSound state.now }
     ensures { SaysEnd (standing_in state.now) (spoken result) }

@@ -1,4 +1,4 @@
-//! The greeting that a connection of frames begins with.
+//! The greeting at the beginning of a connection of frames.
 
 ghost use Rattle.std.specs.Prelude.{◌≡◌, ◌⊎◌, ◌++◌, [], None, Ok};
 ghost use Rattle.am_gossip.specs.Hellos.{hello_of};
@@ -11,7 +11,7 @@ use crate::session::state::{Hearing, State};
 use am_gossip::{Feeder, FrameError, read_hello};
 use std::alloc::Global;
 
-/// There is no memory for a greeting.
+/// Returns the output if there is no memory for a greeting.
 fn unheard(alloc: Global) -> (SessionOutput, State)
     ensures says { LacksToGreet (spoken result.0) (standing_in result.1) }
     ensures sound { IsSound result.1 }
@@ -22,7 +22,7 @@ fn unheard(alloc: Global) -> (SessionOutput, State)
     )
 }
 
-/// What the bytes say behind a greeting of this name and length.
+/// Returns what the bytes behind a greeting with this name and length say.
 fn greeted(alloc: Global, name: &str, len: usize, piece: &[u8]) -> (SessionOutput, State)
     ensures says { Hears name.now len [] piece.now (spoken result.0) (standing_in result.1)
         ⊎ LacksToGreet (spoken result.0) (standing_in result.1) }
@@ -39,7 +39,7 @@ fn greeted(alloc: Global, name: &str, len: usize, piece: &[u8]) -> (SessionOutpu
     hear(alloc, hearing, piece)
 }
 
-/// The bytes of a greeting that isn't whole wait.
+/// Keeps the bytes of a greeting that isn't whole.
 fn wait(alloc: Global, bytes: &[u8]) -> (SessionOutput, State)
     requires { hello_of bytes.now ≡ Ok None }
     ensures says { Greets bytes.now (spoken result.0) (standing_in result.1)
@@ -52,7 +52,7 @@ fn wait(alloc: Global, bytes: &[u8]) -> (SessionOutput, State)
     }
 }
 
-/// What all the bytes say that came of a connection of frames.
+/// Returns what all the bytes of a connection of frames so far say.
 fn greet(alloc: Global, bytes: &[u8]) -> (SessionOutput, State)
     ensures says { Greets bytes.now (spoken result.0) (standing_in result.1)
         ⊎ LacksToGreet (spoken result.0) (standing_in result.1) }
@@ -68,7 +68,7 @@ fn greet(alloc: Global, bytes: &[u8]) -> (SessionOutput, State)
     }
 }
 
-/// What a piece says behind the bytes that came of a greeting. The piece is copied only where the greeting was cut.
+/// Returns what a piece says that follows the bytes of a greeting so far. The piece is copied only if the greeting was cut.
 pub fn greet_on(alloc: Global, bytes: Vec<u8>, piece: &[u8]) -> (SessionOutput, State)
     ensures says { Greets (bytes.items ++ piece.now) (spoken result.0) (standing_in result.1)
         ⊎ LacksToGreet (spoken result.0) (standing_in result.1) }

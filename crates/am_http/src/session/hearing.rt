@@ -12,10 +12,10 @@ use crate::session::state::{Hearing, State};
 use am_gossip::FrameError;
 use std::alloc::Global;
 
-/// The most bytes of a connection of frames.
+/// The maximum number of bytes in a connection of frames.
 const MOST_BYTES: usize = 134_217_728;
 
-/// What a connection takes of a piece, of which `count` bytes came before, and what is beyond its limit.
+/// Splits a piece, before which `count` bytes came, into what the connection takes and what is beyond its limit.
 fn parted(piece: &[u8], count: usize) -> (&[u8], &[u8])
     ensures took { result.0.now ≡ take (most_bytes - count) piece.now }
     ensures lost { result.1.now ≡ drop (most_bytes - count) piece.now }
@@ -26,7 +26,7 @@ fn parted(piece: &[u8], count: usize) -> (&[u8], &[u8])
     }
 }
 
-/// Why no more is heard behind a piece.
+/// Returns why nothing more is heard after a piece.
 fn ended_by(fault: Option<FrameError>, lost: &[u8]) -> Option<SessionFault>
     ensures { result ≡ ended_by fault lost.now }
 {
@@ -37,7 +37,7 @@ fn ended_by(fault: Option<FrameError>, lost: &[u8]) -> Option<SessionFault>
     }
 }
 
-/// What a piece of a stream says.
+/// Returns what a piece of a stream says.
 pub fn hear(alloc: Global, hearing: Hearing, piece: &[u8]) -> (SessionOutput, State)
     requires { IsSome hearing.feeder }
     ensures says { Hears (string_bytes hearing.name) hearing.count (rest_bytes hearing.feeder) piece.now (spoken

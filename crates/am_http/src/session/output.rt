@@ -1,4 +1,4 @@
-//! What a piece of a connection says.
+//! The output for a piece of a connection.
 
 ghost use Rattle.std.specs.Prelude.{◌≡◌, [], None, Some};
 ghost use Rattle.am_http.specs.Sessions.{IsTurnedAway, asked, heard, nothing, spoken};
@@ -9,26 +9,26 @@ use crate::{Cause, Read};
 use am_gossip::{Frame, FrameError};
 use std::alloc::Global;
 
-/// What a piece of a connection said.
+/// The output for a piece of a connection.
 #[derive(Drop)]
 pub struct SessionOutput {
-    /// The frames that end in the piece, in their order.
+    /// The frames that end in the piece, in order.
     pub frames: Vec<Frame>,
-    /// The request that ends in the piece, or why it is refused; never [`Read::More`].
+    /// The request that ends in the piece, or its refusal; never [`Read::More`].
     pub request: Option<Read>,
-    /// Why no frame is heard behind these.
+    /// The reason why no frame is heard after these.
     pub fault: Option<SessionFault>,
 }
 
 impl SessionOutput {
-    /// Nothing. It takes no memory.
+    /// Returns an output that says nothing. It takes no memory.
     pub fn nothing(alloc: Global) -> SessionOutput
         ensures { spoken result ≡ nothing }
     {
         SessionOutput::heard(Vec::new(alloc), None)
     }
 
-    /// These frames, and why there are no more.
+    /// Returns these frames, with the reason why there are no more.
     pub fn heard(frames: Vec<Frame>, fault: Option<SessionFault>) -> SessionOutput
         ensures { spoken result ≡ heard frames.items fault }
     {
@@ -39,14 +39,14 @@ impl SessionOutput {
         }
     }
 
-    /// No frame, since this is at fault. It takes no memory.
+    /// Returns an output without frames, for this fault. It takes no memory.
     pub fn failed(alloc: Global, fault: FrameError) -> SessionOutput
         ensures { spoken result ≡ heard [] (Some (InFrame fault)) }
     {
         SessionOutput::heard(Vec::new(alloc), Some(SessionFault::Frame(fault)))
     }
 
-    /// What was read of a request. It takes no memory.
+    /// Returns what was read of a request. It takes no memory.
     pub fn asked(alloc: Global, read: Read) -> SessionOutput
         ensures { spoken result ≡ asked read }
     {
@@ -57,7 +57,7 @@ impl SessionOutput {
         }
     }
 
-    /// A request is refused, since memory ran out. It takes no memory.
+    /// Returns the refusal of a request for which memory ran out. It takes no memory.
     pub fn turned_away(alloc: Global) -> SessionOutput
         ensures { IsTurnedAway (spoken result) }
     {

@@ -1,4 +1,4 @@
-//! Where a request comes from, before anything else of it is looked at.
+//! The check of where a request comes from, before anything else of it is looked at.
 
 ghost use Rattle.std.specs.Prelude.{◌≡◌, ◌++◌, IfOk};
 ghost use Rattle.am_http.specs.Hosts.{IsScreened, texts};
@@ -9,7 +9,7 @@ use crate::session::state::State;
 use crate::{Screened, screen};
 use std::alloc::{AllocError, Global};
 
-/// What a piece says behind the bytes that came of a request.
+/// Returns what a piece that follows the bytes of a request so far says about where it comes from.
 fn screen_on(
     alloc: Global,
     bytes: &[u8],
@@ -23,7 +23,7 @@ fn screen_on(
     Ok(screen(joined.as_slice(), names))
 }
 
-/// What is known, once the next piece is there, of where a connection comes from.
+/// Returns what is known, with the next piece, about where a connection comes from.
 pub fn screened(
     alloc: Global,
     state: &State,

@@ -1,4 +1,4 @@
-//! What a session holds.
+//! The state of a session.
 
 ghost use Rattle.std.specs.Prelude.{◌≡◌, length, string_bytes};
 ghost use Rattle.std.specs.Option.{option_copied, option_map};
@@ -10,30 +10,30 @@ use am_gossip::Feeder;
 /// The frames of a peer's connection.
 #[derive(Drop)]
 pub struct Hearing {
-    /// The name of its greeting.
+    /// The name in its greeting.
     pub name: String,
-    /// How many bytes of it came.
+    /// The number of bytes that have come.
     pub count: usize,
     /// The reader of the stream behind the greeting.
     pub feeder: Feeder,
 }
 
-/// What a session holds of its connection.
+/// The state of a session's connection.
 #[derive(Drop)]
 pub enum State {
     /// No byte came.
     Fresh,
-    /// The bytes of a request that came.
+    /// The bytes of a request so far.
     Asking(Vec<u8>),
-    /// The bytes of a greeting that came.
+    /// The bytes of a greeting so far.
     Greeting(Vec<u8>),
     Hearing(Hearing),
-    /// No more is heard. The name of the greeting, where it came.
+    /// The name in the greeting, if one came; nothing more is heard.
     Over(Option<String>),
 }
 
 impl State {
-    /// The name of the greeting, where it came.
+    /// Returns the name in the greeting, if one came.
     pub fn name(&self) -> Option<&str>
         ensures { option_copied result ≡ name_of (standing_in self.now) }
     {
@@ -44,7 +44,7 @@ impl State {
         }
     }
 
-    /// How many bytes wait for the rest of what they begin.
+    /// Returns the number of bytes that wait for the rest of what they begin.
     pub fn waiting(&self) -> usize
         ensures { result ≡ length (waiting_in (standing_in self.now)) }
     {
@@ -55,7 +55,7 @@ impl State {
         }
     }
 
-    /// The name of the greeting, where it came.
+    /// Returns the name in the greeting, if one came.
     pub fn into_name(self) -> Option<String>
         ensures { option_map string_bytes result ≡ name_of (standing_in self) }
     {

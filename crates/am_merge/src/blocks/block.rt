@@ -6,13 +6,13 @@ ghost use Rattle.std.specs.List.{insert, remove};
 use std::alloc::{AllocError, Global};
 use std::marker::Model;
 
-/// How many items a block has room for. It is cut once it has as many.
+/// The number of items for which a block has room. It is cut once it has that many.
 pub const FULL: usize = 128;
 
-/// How many items a block has at most that is made of some at once: behind the last of them there is room for one more.
+/// The maximum number of items in a block that is made from several at once, which leaves room for one more.
 pub const FILLED: usize = FULL - 1;
 
-/// Some of a list's items, with room for 128 from the start.
+/// A part of a list's items, with room for 128 from the start.
 ///
 /// Contracts see it as the list of its items.
 #[derive(Drop)]
@@ -31,7 +31,7 @@ impl<T: Copy> Model for Block<T> {
 }
 
 impl<T: Copy> Block<T> {
-    /// An empty block, or [`AllocError`] where memory runs out.
+    /// Returns an empty block, or [`AllocError`] if memory runs out.
     pub fn new(alloc: Global) -> Result<Self, AllocError>
         ensures { IfOk result (λ block. block ≡ []) }
     {
@@ -39,7 +39,7 @@ impl<T: Copy> Block<T> {
         Ok(Block { items })
     }
 
-    /// A block of these items, or [`AllocError`] where memory runs out.
+    /// Returns a block of these items, or [`AllocError`] if memory runs out.
     pub fn of(alloc: Global, items: &[T]) -> Result<Self, AllocError>
         requires { length items.now < 128 }
         ensures { IfOk result (λ block. block ≡ items.now) }
@@ -49,21 +49,21 @@ impl<T: Copy> Block<T> {
         Ok(block)
     }
 
-    /// The items.
+    /// Returns the items.
     pub fn as_slice(&self) -> &[T]
         ensures { result.now ≡ self.now }
     {
         self.items.as_slice()
     }
 
-    /// How many items there are.
+    /// Returns the number of items.
     pub fn len(&self) -> usize
         ensures { result ≡ length self.now }
     {
         self.items.len()
     }
 
-    /// Puts an item before the one at an offset, or behind the last one. It takes no memory.
+    /// Inserts an item before the one at an offset, or behind the last one, without allocating.
     pub fn insert(&mut self, offset: usize, item: T)
         requires room { length self.old < 128 }
         requires within { offset ≤ length self.old }
@@ -72,7 +72,7 @@ impl<T: Copy> Block<T> {
         let _inserted = self.items.insert(offset, item);
     }
 
-    /// Takes the item at an offset out.
+    /// Removes the item at an offset.
     pub fn remove(&mut self, offset: usize)
         requires { offset < length self.old }
         ensures { self.new ≡ remove self.old offset }
@@ -80,7 +80,7 @@ impl<T: Copy> Block<T> {
         self.items.remove(offset);
     }
 
-    /// Moves the items from an offset on into an empty block. It takes no memory.
+    /// Moves the items from an offset on into an empty block, without allocating.
     pub fn cut(&mut self, offset: usize, upper: &mut Block<T>)
         requires full { length self.old ≤ 128 }
         requires within { offset ≤ length self.old }

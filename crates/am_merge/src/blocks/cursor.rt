@@ -1,12 +1,12 @@
 //! Places in a list of blocks.
 
-/// A place in a list: before the item of this offset in the block of this number.
+/// A place in a list: before the item with this offset in the block with this number.
 ///
-/// It is good until the list changes.
+/// It is valid until the list changes.
 #[derive(Clone, Copy, PartialEq, Eq)]
 pub struct Cursor {
     /// The number of the block.
     pub block: usize,
-    /// How many items of the block stand before the place.
+    /// The number of the block's items before the place.
     pub offset: usize,
 }

@@ -1,4 +1,4 @@
-//! The work on a list's blocks and on the empty ones that wait.
+//! The operations on a list's blocks and on the empty ones in reserve.
 
 ghost use Rattle.std.specs.Prelude.{◌≡◌, ◌+◌, ◌<◌, ◌≤◌, [], length, slice_index_or, IsOk, OnOk, vec_len, vec_capacity};
 ghost use Rattle.std.specs.List.{insert, remove};
@@ -10,7 +10,7 @@ use crate::blocks::block::{Block, FULL};
 use crate::blocks::cursor::Cursor;
 use std::alloc::{AllocError, Global};
 
-/// Makes spare blocks until there are so many.
+/// Makes spare blocks until there are `count`.
 pub fn fill<T: Copy>(
     spares: &mut Vec<Block<T>>,
     count: usize,
@@ -20,7 +20,7 @@ pub fn fill<T: Copy>(
     ensures empty { AreEmpty spares.new.items }
     ensures count { OnOk result (count ≤ vec_len spares.new) }
     ensures kept { vec_len spares.old ≤ vec_len spares.new }
-    // Where there are as many already, nothing is asked for.
+    // If there are as many already, nothing is allocated.
     ensures succeeds { count ≤ vec_len spares.old → IsOk result }
     ensures had_enough { count ≤ vec_len spares.old → vec_len spares.new ≡ vec_len spares.old }
 {
@@ -33,8 +33,8 @@ pub fn fill<T: Copy>(
     Ok(())
 }
 
-/// Where a full block is cut once an item came in at an offset. Behind all others the item begins a
-/// block of its own, so that items that come in order leave full blocks.
+/// Returns the offset at which a full block is cut, after an item was inserted at `offset`. An item behind all others begins
+/// a block of its own, so that items inserted in order leave full blocks.
 fn cut_offset(is_last: bool, offset: usize) -> usize
     ensures lower { 0 < result }
     ensures upper { result < 128 }
@@ -66,7 +66,7 @@ fn cut<T: Copy>(blocks: &mut Vec<Block<T>>, spares: &mut Vec<Block<T>>, block: u
     let _inserted = blocks.insert(block + 1, upper);
 }
 
-/// Puts an item at a place.
+/// Inserts an item at a place.
 pub fn put<T: Copy>(blocks: &mut Vec<Block<T>>, spares: &mut Vec<Block<T>>, cursor: Cursor, item: T)
     requires sound { AreSound blocks.old.items }
     requires empty { AreEmpty spares.old.items }
@@ -101,8 +101,7 @@ pub fn put<T: Copy>(blocks: &mut Vec<Block<T>>, spares: &mut Vec<Block<T>>, curs
     }
 }
 
-/// Takes the item at a cursor out. A block that has no item then waits with the empty ones where there
-/// is room for it.
+/// Removes the item at a cursor. A block that becomes empty is kept in reserve if there is room for it.
 pub fn take_out<T: Copy>(blocks: &mut Vec<Block<T>>, spares: &mut Vec<Block<T>>, cursor: Cursor)
     requires sound { AreSound blocks.old.items }
     requires empty { AreEmpty spares.old.items }

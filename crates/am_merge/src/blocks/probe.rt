@@ -1,16 +1,16 @@
-//! What a search looks for.
+//! The probes by which a search compares.
 
 ghost use Rattle.std.specs.Prelude.{◌≡◌};
 ghost use Rattle.std.specs.declared.cmp.Ordering.{Ordering};
 
 use std::cmp::Ordering;
 
-/// Something that is looked for among items.
+/// A probe for what is searched for among items.
 pub trait Probe<T> {
-    /// Where an item stands: `Less` is before what is looked for, `Greater` behind it.
+    /// The position of an item: `Less` is before what is searched for, `Greater` behind it.
     ghost order: { Self → T → Ordering };
 
-    /// Where the item stands.
+    /// Returns the position of the item.
     fn compare(&self, item: &T) -> Ordering
         ensures { result ≡ order self.now item.now };
 }

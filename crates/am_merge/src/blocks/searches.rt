@@ -9,8 +9,8 @@ ghost use Rattle.am_merge.specs.Searches.{IsRising};
 use crate::blocks::block::Block;
 use crate::blocks::probe::Probe;
 
-/// How many blocks, from the first on, begin with an item that isn't behind what is looked for.
-/// Where the items rise, it is all blocks that do.
+/// Returns the number of leading blocks whose first item isn't behind what is searched for. If the items are in rising
+/// order, these are all such blocks.
 pub fn leading<T: Copy, P: Probe<T>>(blocks: &[Block<T>], probe: &P) -> usize
     requires { AreSound blocks.now }
     ensures within { result ≤ length blocks.now }
@@ -32,14 +32,14 @@ pub fn leading<T: Copy, P: Probe<T>>(blocks: &[Block<T>], probe: &P) -> usize
     low
 }
 
-/// How many items of a block aren't behind what is looked for, where they rise.
+/// Returns the number of a block's items that aren't behind what is searched for, if they are in rising order.
 pub fn leading_items<T: Copy, P: Probe<T>>(items: &[T], probe: &P) -> usize
     ensures { result ≤ length items.now }
 {
     items.partition_point(|item| !probe.compare(item).is_gt())
 }
 
-/// Where in a block an item is that is looked for, or else where it would go.
+/// Searches for an item in a block, and returns its offset, or the offset at which it would be inserted.
 pub fn search_block<T: Copy, P: Probe<T>>(items: &[T], probe: &P) -> Result<usize, usize>
     requires { IsRising (P.order probe.now) items.now }
     ensures inside { IfOk result (λ offset. offset < length items.now) }

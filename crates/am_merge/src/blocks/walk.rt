@@ -1,4 +1,4 @@
-//! Walks over the items of a list.
+//! An iterator over the items of a list.
 
 ghost use Rattle.std.specs.Prelude.{◌≡◌, []};
 ghost use Rattle.std.specs.Iterator.{YieldsFirst, item_count};
@@ -6,12 +6,12 @@ ghost use Rattle.std.specs.Iterator.{YieldsFirst, item_count};
 use crate::blocks::block::Block;
 use std::marker::Model;
 
-/// The items of a list that are left of a walk, in order and by value.
+/// An iterator over the items of a list, in order and by value.
 ///
-/// Contracts see it as the list of those items.
+/// Contracts see it as the list of the items to come.
 #[derive(Drop)]
 pub struct Walk<'a, T: Copy> {
-    // What is left of the block that the walk is in.
+    // The rest of the current block.
     pub(crate) items: &'a [T],
     pub(crate) blocks: &'a [Block<T>],
 }
@@ -28,7 +28,7 @@ impl<'a, T: Copy> Model for Walk<'a, T> {
 }
 
 impl<'a, T: Copy> Walk<'a, T> {
-    /// A walk over nothing.
+    /// Returns an iterator over nothing.
     pub fn none() -> Self
         ensures { result ≡ [] }
     {

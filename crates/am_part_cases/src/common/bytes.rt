@@ -1,19 +1,20 @@
-//! Bytes as pairs of hexadecimal digits, and as text of one line, with `\r`, `\n`, `\\` and `\x1f` (docs/CASES.md).
+//! Bytes as pairs of hexadecimal digits, and as text on one line, with `\r`, `\n`, `\\` and `\x1f` (docs/CASES.md).
 
 use crate::common::case::{Case, Fault};
 
-/// The byte that two hexadecimal digits spell.
+/// Returns the byte that two hexadecimal digits spell.
 fn byte(pair: &[u8]) -> Option<u8> {
     u8::from_str_radix(str::from_utf8(pair).ok()?, 16).ok()
 }
 
 impl Case {
-    /// The bytes that pairs of hexadecimal digits spell, in parts with ` + ` between them; `64 x 0a` stands 64 times.
+    /// Reads the bytes that pairs of hexadecimal digits spell, in parts with ` + ` between them; `64 x 0a` stands for 64 such
+    /// bytes.
     pub fn bytes(&self, text: &str) -> Vec<u8> {
         self.repeated(text, true)
     }
 
-    /// The bytes that a text spells, in such parts.
+    /// Reads the bytes that a text spells, in such parts.
     pub fn spelled(&self, text: &str) -> Vec<u8> {
         self.repeated(text, false)
     }
@@ -51,7 +52,7 @@ impl Case {
         }
     }
 
-    /// The bytes that a text spells.
+    /// Reads the bytes that a text spells.
     pub fn unescaped(&self, text: &str) -> Vec<u8> {
         let mut bytes = Vec::new(self.alloc);
         self.append_unescaped(&mut bytes, text);
@@ -96,13 +97,13 @@ impl Case {
         }
     }
 
-    /// Says bytes as they are spelled, if there are any.
+    /// Prints bytes as they are spelled, on a line, if there are any.
     pub fn say_text(&self, bytes: &[u8]) {
         self.print_text(bytes);
         self.put(if bytes.is_empty() { "" } else { "\n" });
     }
 
-    /// Prints bytes as pairs of hexadecimal digits behind a mark, or a word for no bytes.
+    /// Prints bytes as pairs of hexadecimal digits after a mark, or a word if there are none.
     pub fn print_bytes(&self, mark: &str, bytes: &[u8], none: &str) {
         let mut before = mark;
         for byte in bytes {
@@ -112,7 +113,7 @@ impl Case {
         self.put(if bytes.is_empty() { none } else { "" });
     }
 
-    /// Says bytes as pairs of hexadecimal digits, or `none`; of over 1,000, how many they are.
+    /// Prints bytes as pairs of hexadecimal digits on a line, or `none`; of more than 1,000 bytes, only their number.
     pub fn say_bytes(&self, bytes: &[u8]) {
         match bytes.len() {
             0..=1000 => self.print_bytes("", bytes, "none"),

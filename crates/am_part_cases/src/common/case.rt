@@ -1,24 +1,24 @@
-//! A case: its answer so far, and why it has none.
+//! A case: its answer so far, or the reason that it has none.
 
 use am_wire::Text;
 use std::alloc::Global;
 use std::cell::{Cell, RefCell};
 use std::fmt::{Debug, Display, Write};
 
-/// Why a case has no answer.
+/// The reason that a case has no answer.
 #[derive(Clone, Copy, Debug, PartialEq, Eq)]
 pub enum Fault {
-    /// The words say no case.
+    /// The words aren't a case.
     Words,
     /// Memory ran out.
     Memory,
 }
 
-/// An answer of so many bytes needs no memory once its case has begun.
+/// The size, in bytes, up to which an answer needs no more memory once its case has begun.
 pub const ROOM: usize = 80_000;
 
-/// A case that is answered. The first fault is kept, and behind it nothing is printed and no step is made: what words spell
-/// is then another value.
+/// A case while it is answered. The first fault is kept, and after it nothing is printed and no step is made, since values that
+/// words should spell are then replaced by others.
 #[derive(Drop)]
 pub struct Case {
     pub alloc: Global,
@@ -27,7 +27,7 @@ pub struct Case {
 }
 
 impl Case {
-    /// A case without an answer yet.
+    /// Returns a case without an answer yet.
     pub fn new(alloc: Global) -> Case {
         let made = String::with_capacity(alloc, ROOM);
         let fault = Cell::new(made.is_err().then_some(Fault::Memory));
@@ -35,7 +35,7 @@ impl Case {
         Case { alloc, fault, text }
     }
 
-    /// The answer.
+    /// Returns the answer.
     pub fn into_text(self) -> String {
         self.text.into_inner()
     }
@@ -68,12 +68,12 @@ impl Case {
         }
     }
 
-    /// Prints a value as code spells it.
+    /// Prints a value as code writes it.
     pub fn debug<T: Debug + Drop>(&self, value: T) {
         self.put(format_args!("{value:?}"));
     }
 
-    /// The value of words, if they say one.
+    /// Returns the value of words, and notes a fault if there is none.
     pub fn wanted<T: Drop>(&self, value: Option<T>) -> Option<T> {
         if value.is_none() {
             self.fail(Fault::Words);
@@ -81,12 +81,12 @@ impl Case {
         value
     }
 
-    /// The value of words, or another one where they say none.
+    /// Returns the value of words, or another one if there is none, which is a fault.
     pub fn or<T: Drop>(&self, value: Option<T>, other: T) -> T {
         self.wanted(value).unwrap_or(other)
     }
 
-    /// What was made, if memory was there for it.
+    /// Returns what was made, and notes a fault if memory ran out.
     pub fn made<T: Drop, E: Drop>(&self, made: Result<T, E>) -> Option<T> {
         if made.is_err() {
             self.fail(Fault::Memory);
@@ -94,7 +94,7 @@ impl Case {
         made.ok()
     }
 
-    /// What words spell; a fault other than `memory` is theirs.
+    /// Returns what words spell; any fault other than `memory` is one of the words.
     pub fn sound<T: Drop, E: Copy + PartialEq>(&self, read: Result<T, E>, memory: E) -> Option<T> {
         match read {
             Err(fault) if fault != memory => self.wanted(None),
@@ -102,7 +102,7 @@ impl Case {
         }
     }
 
-    /// What a call is answered. Says what it is refused for, unless that is `memory`.
+    /// Returns the answer to a call. If the call was refused, prints why, unless that is `memory`.
     pub fn got<T: Drop, E: Copy + Debug + Eq>(&self, got: Result<T, E>, memory: E) -> Option<T> {
         match got {
             Err(refusal) if refusal != memory => {
@@ -113,14 +113,14 @@ impl Case {
         }
     }
 
-    /// Puts a value at the end of a list.
+    /// Appends a value to a list.
     pub fn push<T: Drop>(&self, list: &mut Vec<T>, value: T) {
         if list.push(value).is_err() {
             self.fail(Fault::Memory);
         }
     }
 
-    /// A text.
+    /// Returns a text with a copy of a word.
     pub fn text(&self, word: &str) -> Text {
         self.made(Text::copied(self.alloc, word))
             .unwrap_or(Text::new(String::new(self.alloc)))

@@ -1,4 +1,4 @@
-//! Labels in words, as `job=x`, and matchers: a label's name, a sign and a pattern, in which `\n` is a line feed.
+//! Labels in words, such as `job=x`, and matchers: a label's name, a sign and a pattern, in which `\n` is a line feed.
 
 use crate::common::case::Case;
 use crate::common::versions::Spelled;
@@ -7,7 +7,7 @@ use am_matcher::{Filter, FilterError, Label};
 use am_silence::{Matcher, MatcherIter, MatcherKind, MatcherRef, Matchers};
 use am_wire::Text;
 
-/// The signs of matchers: of those that stand in a word the first here is meant.
+/// The signs of matchers: if a word has several, the first one of this list counts.
 const SIGNS: [(&str, MatcherKind); 4] = [
     ("=~", MatcherKind::Regexp),
     ("!~", MatcherKind::NotRegexp),
@@ -15,7 +15,7 @@ const SIGNS: [(&str, MatcherKind); 4] = [
     ("=", MatcherKind::Equal),
 ];
 
-/// The kind, name and pattern of a word that is a matcher. No sign stands in the pattern.
+/// Returns the kind, name and pattern of a word that is a matcher. The pattern contains no sign.
 pub fn matcher_parts(word: &str) -> Option<(MatcherKind, &str, &str)> {
     for (sign, kind) in SIGNS {
         if let Some((name, pattern)) = word.split_once(sign) {
@@ -48,14 +48,14 @@ impl Spelled for Matcher {
 }
 
 impl Case {
-    /// A text in which `\n` is a line feed; `""` is the empty one.
+    /// Returns a text in which `\n` is a line feed; `""` is the empty one.
     pub fn value(&self, word: &str) -> String {
         let word = if word == "\"\"" { "" } else { word };
         self.made(word.replace(self.alloc, "\\n", "\n"))
             .unwrap_or(String::new(self.alloc))
     }
 
-    /// The matchers among the words.
+    /// Reads the matchers among the words.
     pub fn matchers(&self, words: &str) -> Matchers {
         let mut matchers = Matchers::none(self.alloc);
         for word in words.split(' ') {
@@ -68,7 +68,7 @@ impl Case {
         matchers
     }
 
-    /// Prints a text, and a matcher behind it.
+    /// Prints a text, and then a matcher.
     pub fn print_matcher(&self, before: &str, matcher: &MatcherRef<'_>) {
         for (sign, kind) in SIGNS {
             if kind == matcher.kind() {
@@ -77,7 +77,7 @@ impl Case {
         }
     }
 
-    /// Prints matchers, a blank before each.
+    /// Prints matchers, with a blank before each.
     pub fn print_matchers(&self, matchers: MatcherIter<'_>) {
         for matcher in matchers {
             self.print_matcher(" ", &matcher);

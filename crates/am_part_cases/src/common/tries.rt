@@ -1,4 +1,5 @@
-//! Calls over readers and writers that give or take few bytes at a time, or fail, made once or tried in turn (docs/CASES.md).
+//! Calls over readers and writers that give or take few bytes at a time, or fail, made once or in a row of tries
+//! (docs/CASES.md).
 
 ghost use Rattle.std.specs.Prelude.{Some};
 
@@ -7,7 +8,7 @@ use crate::common::words::{first, phrase};
 use am_http::session::{Session, SessionOutput};
 use std::io::{self, Read, Write};
 
-/// A reader over bytes that gives at most so many a call, and fails at a call (0: at none).
+/// A reader over bytes that gives at most `step` bytes per call, and fails at the call `fails_at` (0: at none).
 #[derive(Clone, Copy)]
 pub struct Pieces<'a> {
     pub left: &'a [u8],
@@ -26,7 +27,7 @@ impl<'a> Pieces<'a> {
         }
     }
 
-    /// Feeds a session the next piece, of so many bytes at most and one at least, or the end where all were given.
+    /// Feeds a session the next piece, of at least one and at most `most` bytes, or the end if all bytes were given.
     pub fn feed(&mut self, session: &mut Session, most: usize) -> SessionOutput {
         if self.left.is_empty() {
             return session.end();
@@ -53,7 +54,7 @@ impl Read for Pieces<'_> {
     }
 }
 
-/// A writer over memory that takes at most so many bytes a call, and fails at a call, or takes nothing there (0: at none).
+/// A writer into memory that takes at most `step` bytes per call, and at one call fails or takes nothing (0: at none).
 #[derive(Drop)]
 pub struct Brittle {
     pub taken: Vec<u8>,
@@ -82,23 +83,24 @@ impl Write for Brittle {
     }
 }
 
-/// The input of a call, and how it is made.
+/// The input of a call, and the way that the call is made.
 #[derive(Clone, Copy)]
 pub struct How<'a> {
     pub input: &'a [u8],
-    /// The most bytes that a read gives or a write takes.
+    /// The maximum number of bytes that a read gives or a write takes.
     pub step: usize,
-    /// What is tried in turn: nothing, `read fails`, `write fails`, `write takes nothing`, `front` or `size of pieces`.
+    /// The kind of tries that are made in a row: none, `read fails`, `write fails`, `write takes nothing`, `front` or `size of
+    /// pieces`.
     pub each: &'a str,
-    /// A call that failed is made once more, over the same reader and writer.
+    /// True if a call that failed is made once more, over the same reader and writer.
     pub again: bool,
-    /// The read and the write that fail where nothing is tried in turn, by their numbers from 1 (0: none).
+    /// The number of the read that fails if there are no tries in a row, counted from 1 (0: none); likewise of the write below.
     pub failing_read: usize,
     pub failing_write: usize,
 }
 
 impl<'a> How<'a> {
-    /// The reader of a try.
+    /// Returns the reader of a try.
     fn reader(&self, number: usize) -> Pieces<'a> {
         let input = self.input;
         match self.each {
@@ -109,7 +111,7 @@ impl<'a> How<'a> {
         }
     }
 
-    /// How many calls were made of those of which one was to fail.
+    /// Returns the number of calls of the kind of which one was to fail.
     fn calls(&self, reader: &Pieces<'_>, writer: &Brittle, number: usize) -> usize {
         match self.each {
             "front" | "size of pieces" => number,
@@ -121,20 +123,20 @@ impl<'a> How<'a> {
 
 /// A call over a reader and a writer.
 pub trait Call {
-    /// Makes the call, and prints its answer; a fault that is told with a number of bytes is given in its place.
+    /// Makes the call, and prints its answer. A fault that has a number of bytes is returned instead.
     fn make(&self, case: &Case, reader: &mut Pieces<'_>, writer: &mut Brittle) -> Option<Cut>;
 }
 
-/// A read or a write that failed, by its name, and how many bytes came or went out before it.
+/// The name of a read or a write that failed, and the number of bytes that came or went out before it.
 pub type Cut = (&'static str, u64);
 
-/// The number behind a name among phrases; 0 where there is none.
+/// Returns the number after a name among phrases, or 0 if there is none.
 fn numbered(phrases: &str, name: &str) -> usize {
     first(phrase(phrases, name)).0.parse::<usize>().unwrap_or(0)
 }
 
 impl Case {
-    /// How the words before `: ` say that a call is made: phrases, parted by `, `.
+    /// Reads the way that a call is made from the words before `: `, which are phrases with `, ` between them.
     pub fn how<'a>(&self, phrases: &'a str, input: &'a [u8]) -> How<'a> {
         let size = phrase(phrases, "in pieces of ");
         How {
@@ -147,7 +149,7 @@ impl Case {
         }
     }
 
-    /// The writer of a try.
+    /// Returns the writer of a try.
     pub fn writer(&self, how: &How<'_>, stops_at: usize) -> Brittle {
         let taken = self.made(Vec::with_capacity(self.alloc, ROOM));
         Brittle {
@@ -159,7 +161,7 @@ impl Case {
         }
     }
 
-    /// Prints a cut, and whether it is told with the right number of bytes.
+    /// Prints a cut, and whether its number of bytes is right.
     fn print_cut(&self, cut: Option<Cut>, right: usize) {
         match cut {
             Some((name, number)) if number == right as u64 => put!(self; name, " where it failed"),
@@ -168,7 +170,7 @@ impl Case {
         }
     }
 
-    /// Prints what went out, against what goes out where nothing fails; of that a front only where no number is told.
+    /// Prints how much of the whole output went out. If it is the front of it and a number was told, nothing is printed.
     fn print_out(&self, taken: &[u8], whole: &[u8], is_cut: bool) {
         match (taken.len(), whole.starts_with(taken)) {
             (0, _) => {}
@@ -179,7 +181,7 @@ impl Case {
         }
     }
 
-    /// Makes a try, and prints what came of it; whether the read or the write that was to fail is made.
+    /// Makes a try, and prints its outcome; returns whether the read or the write that was to fail was made.
     fn is_tried<C: Call>(&self, call: &C, how: &How<'_>, whole: &[u8], number: usize) -> bool {
         let is_write = how.each.starts_with("write");
         let mut reader = how.reader(number);
@@ -231,7 +233,7 @@ impl Case {
         }
     }
 
-    /// Makes the tries that are asked, says what the call is answered without these, and gives what was written then.
+    /// Makes the tries that are asked for, prints the answer to the call without them, and returns what was written then.
     pub fn make<C: Call>(&self, call: &C, how: &How<'_>) -> Brittle {
         let mut writer = self.writer(how, how.failing_write);
         let answer = Case::new(self.alloc);

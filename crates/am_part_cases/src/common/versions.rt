@@ -10,7 +10,7 @@ use am_wire::{Message, Text, WireError};
 
 /// A value that words spell.
 pub trait Spelled: Sized + Drop {
-    /// The value, unless memory ran out or the words say none.
+    /// Reads the value. Returns `None` if memory runs out or the words spell none.
     fn spelled(case: &Case, words: &str) -> Option<Self>;
 }
 
@@ -25,12 +25,12 @@ pub trait Printed {
     fn print(&self, case: &Case);
 }
 
-/// A version that cases name, and that is printed as they name it; behind `bytes` it is named by its bytes.
+/// A version that cases name, and that is printed as they name it; after `bytes` it is named by its bytes.
 pub trait Told: Version + Message + Spelled + Printed {}
 
 impl<V: Version + Message + Spelled + Printed> Told for V {}
 
-/// The start and the end among the words. No `..` stands before it.
+/// Returns the start and the end among the words. There is no other `..` before theirs.
 fn span(words: &str) -> (&str, &str) {
     let (front, rest) = words.split_once("..").unwrap_or(("10", "100"));
     (
@@ -45,7 +45,7 @@ impl Case {
         self.sound(M::decode(self.alloc, bytes.as_slice()), WireError::Memory)
     }
 
-    /// The values of a text, parted by a mark; none of an empty text.
+    /// Reads the values of a text with a mark between them; an empty text has none.
     pub fn list<T: Spelled>(&self, text: &str, mark: &str) -> Vec<T> {
         let mut list = Vec::new(self.alloc);
         for words in text.split(mark) {
@@ -59,19 +59,19 @@ impl Case {
         list
     }
 
-    /// Says each of these versions.
+    /// Prints each of these versions on a line.
     pub fn say_versions<V: Told>(&self, versions: &[V]) {
         for version in versions {
             say!(self; @version);
         }
     }
 
-    /// Takes the version of words at a moment.
+    /// Takes the version that words spell at a moment.
     pub fn take<V: Told>(&self, held: &mut Held<V>, words: &str, now: Moment) -> Option<Taken> {
         self.made(held.take(V::spelled(self, words)?, now))
     }
 
-    /// The map of versions that are parted by `, `.
+    /// Returns the map of versions with `, ` between them.
     pub fn held<V: Told>(&self, text: &str) -> Held<V> {
         let mut held = Held::new(self.alloc);
         for version in self.list::<V>(text, ", ") {
@@ -80,7 +80,7 @@ impl Case {
         held
     }
 
-    /// Says all versions of a map.
+    /// Prints all versions of a map on a line.
     pub fn say_held<V: Told>(&self, held: &Held<V>) {
         put!(self; held.len(), " held");
         for version in held.iter() {
@@ -89,7 +89,7 @@ impl Case {
         self.put("\n");
     }
 
-    /// The silence of words.
+    /// Reads the silence that words spell.
     pub fn silence(&self, words: &str) -> Silence {
         let (starts, ends) = span(words);
         let (front, comment) = cut(words, " saying ");
@@ -105,7 +105,7 @@ impl Case {
         }
     }
 
-    /// The receiver of a word such as `r/w/0`.
+    /// Reads the receiver of a word such as `r/w/0`.
     pub fn receiver(&self, word: &str) -> Receiver {
         let (name, rest) = cut(word, "/");
         let (integration, index) = cut(rest, "/");
@@ -116,7 +116,8 @@ impl Case {
         }
     }
 
-    /// The entry of words, without a hash of its group. What isn't said is 10 s as the moment, and no hashes.
+    /// Reads the entry that words spell, without a hash of its group. Unless the words say otherwise, its moment is 10 s and it
+    /// has no hashes.
     pub fn entry(&self, words: &str) -> Option<Entry> {
         let (group, rest) = first(words);
         let receiver = self.receiver(first(rest).0);
@@ -130,7 +131,7 @@ impl Case {
         })
     }
 
-    /// Prints hashes, a word before them; nothing where there are none.
+    /// Prints hashes after a word, or nothing if there are none.
     pub fn print_hashes(&self, word: &str, hashes: HashIter<'_>) {
         let mut is_first = true;
         for hash in hashes {

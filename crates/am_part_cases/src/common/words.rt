@@ -4,17 +4,17 @@ use crate::common::case::Case;
 use crate::common::versions::Printed;
 use am_version_order::{Interval, Moment};
 
-/// The first word, and the text behind the blank after it.
+/// Returns the first word, and the text after the blank that follows it.
 pub fn first(text: &str) -> (&str, &str) {
     cut(text, " ")
 }
 
-/// The text in front of a mark and behind it; all of it is in front where the mark doesn't stand there.
+/// Returns the text before a mark and the text after it. If there is no mark, all of the text is before it.
 pub fn cut<'a>(text: &'a str, mark: &str) -> (&'a str, &'a str) {
     text.split_once(mark).unwrap_or((text, ""))
 }
 
-/// The word behind a name in a text, or another one where the name doesn't stand there. The name has the blanks round it.
+/// Returns the word after a name in a text, or another one if the name isn't there. The name includes the blanks around it.
 pub fn behind<'a>(text: &'a str, name: &str, otherwise: &'a str) -> &'a str {
     match text.split_once(name) {
         Some((_, rest)) => first(rest).0,
@@ -22,7 +22,7 @@ pub fn behind<'a>(text: &'a str, name: &str, otherwise: &'a str) -> &'a str {
     }
 }
 
-/// The phrase that begins with a name, among phrases that commas part; what stands behind the name.
+/// Returns the rest of the phrase that begins with a name, among phrases with commas between them.
 pub fn phrase<'a>(phrases: &'a str, name: &str) -> &'a str {
     cut(cut(phrases, name).1, ",").0
 }
@@ -35,7 +35,7 @@ fn nanos(digits: &str) -> Option<u32> {
     Some(nanos)
 }
 
-/// The moment of a word, if it is one.
+/// Returns the moment of a word, if it is one.
 pub fn moment_of(word: &str) -> Option<Moment> {
     match word {
         "least" => Some(Moment::LEAST),
@@ -48,12 +48,12 @@ pub fn moment_of(word: &str) -> Option<Moment> {
 }
 
 impl Case {
-    /// A word that is a whole number.
+    /// Reads a word that is a whole number.
     pub fn number(&self, word: &str) -> u64 {
         self.or(word.parse::<u64>().ok(), 0)
     }
 
-    /// The numbers of a list, as `1,2`, or `-` for none. `1..9` and `9..1` are all from one to the other.
+    /// Reads the numbers of a list, such as `1,2`, or `-` for none. `1..9` and `9..1` are all numbers from one to the other.
     pub fn numbers(&self, list: &str) -> Vec<u64> {
         let mut numbers = Vec::new(self.alloc);
         for word in list.split(',') {
@@ -73,12 +73,12 @@ impl Case {
         }
     }
 
-    /// The moment of a word.
+    /// Reads the moment of a word.
     pub fn moment(&self, word: &str) -> Moment {
         self.or(moment_of(word), Moment::LEAST)
     }
 
-    /// The interval of so many seconds, if there is one.
+    /// Reads an interval in seconds, if there is such an interval.
     pub fn seconds(&self, word: &str) -> Option<Interval> {
         self.wanted(Interval::from_seconds(self.number(word)))
     }

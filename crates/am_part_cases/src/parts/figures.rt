@@ -1,4 +1,4 @@
-//! What a member says of itself: which calls there are, and the text of figures.
+//! The answers of a member about itself: its calls, and the text of figures.
 
 use crate::common::{Case, cut, first};
 use crate::parts::messages;
@@ -8,7 +8,7 @@ use am_metrics::{Family, Kind, Label, Number, Sample, write_families};
 /// The names of labels, in their order.
 const LABELS: [&str; 3] = ["a", "b", "c"];
 
-/// Cases of calls on the member itself, and of figures.
+/// Answers cases of calls on the member itself, and of figures.
 pub fn answer(case: &Case, verb: &str, rest: &str) {
     match verb {
         "itself" => itself(case, first(rest).0, first(rest).1),
@@ -17,7 +17,7 @@ pub fn answer(case: &Case, verb: &str, rest: &str) {
     }
 }
 
-/// `itself METHOD TARGET`: what a target names, and whether the reply to the method has its head alone.
+/// Answers `itself METHOD TARGET` with what a target names, and whether the reply to the method has only a head.
 fn itself(case: &Case, method: &str, target: &str) {
     let Some(resource) = resource_of(target) else {
         return say!(case; "none of these");
@@ -28,7 +28,7 @@ fn itself(case: &Case, method: &str, target: &str) {
     }
 }
 
-/// The kind that a word names.
+/// Returns the kind that a word names.
 fn kind_of(word: &str) -> Option<Kind> {
     match word {
         "counter" => Some(Kind::Counter),
@@ -38,7 +38,7 @@ fn kind_of(word: &str) -> Option<Kind> {
     }
 }
 
-/// The number that a word spells: whole, or with a point and how many billionths.
+/// Returns the number that a word spells: a whole one, or one with a point and a number of billionths.
 fn number_of(word: &str) -> Option<Number> {
     let Some((whole, nanos)) = word.split_once('.') else {
         return Some(Number::Whole(word.parse::<u64>().ok()?));
@@ -49,7 +49,7 @@ fn number_of(word: &str) -> Option<Number> {
     })
 }
 
-/// The labels with these values.
+/// Returns the labels with these values.
 fn labels_of(case: &Case, values: &str) -> Vec<Label> {
     let mut labels = Vec::new(case.alloc);
     for (name, value) in LABELS.iter().zip(values.split_terminator('|')) {
@@ -60,7 +60,7 @@ fn labels_of(case: &Case, values: &str) -> Vec<Label> {
     labels
 }
 
-/// The figure of these words.
+/// Returns the figure that these words spell.
 fn sample_of(case: &Case, number: &str, values: &str) -> Sample {
     Sample {
         suffix: "",
@@ -69,7 +69,8 @@ fn sample_of(case: &Case, number: &str, values: &str) -> Sample {
     }
 }
 
-/// `figure KIND NUMBER: VALUE|VALUE..`, in brackets: the text of a family `up` with one figure, whose labels have these values.
+/// Answers `figure KIND NUMBER: VALUE|VALUE..` with the text, in brackets, of a family `up` with one figure, whose labels have
+/// these values.
 fn figure(case: &Case, rest: &str) {
     let (kind, rest) = first(rest);
     let (number, values) = cut(rest, ":");
@@ -84,7 +85,7 @@ fn figure(case: &Case, rest: &str) {
     case.put("]\n");
 }
 
-/// The family of these figures.
+/// Returns the family of these figures.
 fn family_of(kind: Kind, samples: Vec<Sample>) -> Family {
     Family {
         name: "up",

@@ -1,4 +1,4 @@
-//! Frames as they are read, in any cut, and as they are made and written; sessions, piece by piece.
+//! Frames as they are read, in any pieces, and as they are made and written; and sessions, piece by piece.
 
 use crate::common::{Brittle, Call, Case, Cut, Fault, Pieces, Spelled, cut, first};
 use crate::parts::gossip;
@@ -11,7 +11,7 @@ use am_http::Read;
 use am_http::session::{Session, SessionFault, SessionOutput};
 use std::slice;
 
-/// Cases of frames and sessions.
+/// Answers cases of frames and sessions.
 pub fn answer(case: &Case, verb: &str, rest: &str) {
     match verb {
         "feed" => feed(case, rest),
@@ -39,7 +39,7 @@ pub fn answer(case: &Case, verb: &str, rest: &str) {
     }
 }
 
-/// `feed PIECE | PIECE ..`: feeds the pieces of a stream, with a line for each.
+/// Answers `feed PIECE | PIECE ..`: feeds the pieces of a stream, with a line for each.
 fn feed(case: &Case, pieces: &str) {
     let mut feeder = Feeder::new(case.alloc);
     for pairs in pieces.split('|') {
@@ -48,7 +48,7 @@ fn feed(case: &Case, pieces: &str) {
     }
 }
 
-/// Says in a line what a piece brings: its frames, the fault behind them, and how many bytes wait then.
+/// Prints on a line what a piece brings: its frames, the fault after them, and how many bytes then wait.
 fn feed_piece(case: &Case, feeder: &mut Feeder, piece: &[u8]) {
     given!(fed = case.got(feeder.feed(piece), FrameError::Memory));
     for frame in &fed.frames {
@@ -72,7 +72,7 @@ fn print_end(case: &Case, feeder: &mut Feeder, piece: &[u8]) {
     }
 }
 
-/// Prints a frame, and its parts with a mark between them and a word for no bytes.
+/// Prints a frame and its parts, with a mark between them, and a word for a part without bytes.
 pub fn print_frame(case: &Case, frame: &Frame, mark: &str, none: &str) {
     case.debug(frame.kind());
     match frame {
@@ -89,7 +89,7 @@ fn print_parts(case: &Case, parts: &[Part], mark: &str, none: &str) {
     }
 }
 
-/// `frame KIND PART + PART ..` writes a frame, and says its bytes.
+/// Answers `frame KIND PART + PART ..`: writes a frame, and prints its bytes.
 fn frame(case: &Case, rest: &str) {
     given!(frame = Frame::spelled(case, rest));
     given!(bytes = case.got(encode_frame(case.alloc, &frame), FrameError::Memory));
@@ -121,7 +121,8 @@ impl Spelled for Part {
     }
 }
 
-/// `session PIECE | PIECE ..`: feeds a session pieces, which are bytes, a text in quotes, `end` or `stop`; a line for each.
+/// Answers `session PIECE | PIECE ..`: feeds a session pieces, which are bytes, a text in quotes, `end` or `stop`, with a line
+/// for each.
 fn session(case: &Case, pieces: &str) {
     let mut session = Session::new(case.alloc);
     for word in pieces.split('|') {
@@ -171,10 +172,10 @@ fn print_said(case: &Case, said: &SessionOutput) {
     }
 }
 
-/// Gives pieces to a session until no more is heard, and then the end.
+/// A call that gives pieces to a session until it hears no more, and then the end.
 #[derive(Clone, Copy)]
 struct Receiving {
-    /// The parts of the request are told, and what is left of the pieces.
+    /// True if the parts of the request are printed, and what is left of the pieces.
     in_full: bool,
 }
 
@@ -196,7 +197,7 @@ impl Call for Receiving {
     }
 }
 
-/// `receive HOW: TEXT`: what a request comes to that comes in pieces, and what then is left of them.
+/// Answers `receive HOW: TEXT` with what a request that comes in pieces is read as, and what is then left of the pieces.
 fn receive(case: &Case, rest: &str) {
     let (phrases, text) = cut(rest, ": ");
     let bytes = case.spelled(text);

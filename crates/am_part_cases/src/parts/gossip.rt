@@ -1,4 +1,4 @@
-//! What running Alertmanagers are asked by gossip, and what they answer.
+//! The requests by gossip to running Alertmanagers, and their answers.
 
 use crate::common::{Case, cut};
 use crate::parts::maps;
@@ -8,10 +8,10 @@ use am_memberlist::{
     AnswerError, Said, read_message, request_text, row_in, states_text, unpack_answer,
 };
 
-/// The most bytes to which an answer is unpacked.
+/// The maximum number of bytes that an answer is unpacked to.
 const MOST: usize = 1_000;
 
-/// Cases of requests and answers.
+/// Answers cases of requests and answers.
 pub fn answer(case: &Case, verb: &str, rest: &str) {
     match verb {
         "unpack" => unpack_words(case, rest),
@@ -32,7 +32,7 @@ pub fn answer(case: &Case, verb: &str, rest: &str) {
     }
 }
 
-/// `unpack MOST BYTES`: what they unpack to.
+/// Answers `unpack MOST BYTES` with what the bytes unpack to.
 fn unpack_words(case: &Case, rest: &str) {
     let (most, bytes) = cut(rest, " ");
     let most = case.number(most) as usize;
@@ -41,7 +41,7 @@ fn unpack_words(case: &Case, rest: &str) {
     case.say_bytes(plain.as_slice());
 }
 
-/// `message BYTES`: what a message says.
+/// Answers `message BYTES` with what a message says.
 fn message(case: &Case, rest: &str) {
     let bytes = case.bytes(rest);
     given!(
@@ -56,21 +56,21 @@ fn message(case: &Case, rest: &str) {
     }
 }
 
-/// Says a word and bytes.
+/// Prints a word and bytes on a line.
 fn say_part(case: &Case, word: &str, bytes: &[u8]) {
     case.put(word);
     case.print_bytes(" ", bytes, " none");
     case.put("\n");
 }
 
-/// A state by its key, and bytes.
+/// Reads the key of a state, and returns it with the words of the bytes.
 fn state_of<'a>(case: &Case, rest: &'a str) -> Option<(StateKey, &'a str)> {
     let (key, bytes) = cut(rest, " ");
     let key = case.wanted(StateKey::from_text(key))?;
     Some((key, bytes))
 }
 
-/// `told KEY BYTES`: the row of a state in states.
+/// Answers `told KEY BYTES` with the row of a state among states.
 fn told(case: &Case, rest: &str) {
     given!(words = state_of(case, rest));
     let (key, bytes) = words;
@@ -87,7 +87,7 @@ fn told(case: &Case, rest: &str) {
     }
 }
 
-/// `telling KEY BYTES`: the states that tell of one alone, by its row.
+/// Answers `telling KEY BYTES` with the states that have only this one, given by its row.
 fn telling(case: &Case, rest: &str) {
     given!(words = state_of(case, rest));
     let (key, bytes) = words;

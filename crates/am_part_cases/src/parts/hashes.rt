@@ -5,7 +5,7 @@ use crate::parts::plans;
 use am_alert_hash::{alert_hash, xxh64};
 use am_matcher::Labels;
 
-/// Cases of hashes: `xxh64 BYTES` and `alert-hash LABEL ..`.
+/// Answers cases of hashes: `xxh64 BYTES` and `alert-hash LABEL ..`.
 pub fn answer(case: &Case, verb: &str, rest: &str) {
     match verb {
         "xxh64" => {

@@ -1,4 +1,4 @@
-//! Moments and silences in JSON: what is shown, written and read, and what is posted.
+//! Moments and silences in JSON: how they are shown, written and read, and how silences are posted.
 
 use crate::common::{Case, Fault, Printed, Spelled, first};
 use crate::parts::snapshots;
@@ -11,7 +11,7 @@ use am_silence_json::{
 };
 use std::alloc::AllocError;
 
-/// Cases of JSON: `moment-text read TEXT` and `moment-text written 10.0005`, and those of silences below.
+/// Answers cases of JSON: `moment-text read TEXT` and `moment-text written 10.0005`, and those of silences below.
 pub fn answer(case: &Case, verb: &str, rest: &str) {
     match (verb, first(rest)) {
         ("json", (verb, rest)) => json(case, verb, rest),
@@ -21,7 +21,7 @@ pub fn answer(case: &Case, verb: &str, rest: &str) {
     }
 }
 
-/// What is written of silences, of an identifier and of a fault, and what is read of a body, in which escapes are.
+/// Prints what is written of silences, of an identifier and of a fault, and what is read of a body, which has escapes.
 fn json(case: &Case, verb: &str, rest: &str) {
     let (alloc, out) = (case.alloc, Vec::new(case.alloc));
     match verb {
@@ -78,7 +78,7 @@ fn say_read(case: &Case, read: Result<Vec<MeshSilence>, ListError>) {
     }
 }
 
-/// What is posted by a body, as `- job=x 10..100 by "ops" saying "hi"`, or why it is refused.
+/// Prints what a body posts, such as `- job=x 10..100 by "ops" saying "hi"`, or why it is refused.
 fn post(case: &Case, body: &str) {
     let body = case.unescaped(body);
     let read = read_post(case.alloc, body.as_slice());

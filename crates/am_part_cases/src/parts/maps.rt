@@ -10,7 +10,7 @@ use std::fmt::Debug;
 
 type Map = Held<MeshSilence>;
 
-/// Cases of maps and keepers: `map STEP; ..`, steps on an empty map; `versions SILENCE, ..`, the map that they make.
+/// Answers cases of maps and keepers: `map STEP; ..`, steps on an empty map; `versions SILENCE, ..`, the map that they make.
 pub fn answer(case: &Case, verb: &str, rest: &str) {
     match verb {
         "map" => {
@@ -51,7 +51,7 @@ fn say_made<T: Debug + Drop>(case: &Case, made: Option<T>) {
     say!(case; ?made);
 }
 
-/// Two versions, parted by `, `.
+/// Two versions with `, ` between them.
 impl Spelled for (MeshSilence, MeshSilence) {
     fn spelled(case: &Case, words: &str) -> Option<(MeshSilence, MeshSilence)> {
         let (one, other) = cut(words, ", ");
@@ -65,7 +65,7 @@ fn take_pair(case: &Case, held: &mut Map, words: &str, now: Moment) {
     say_made(case, case.made(held.take_pair(one, other, now)));
 }
 
-/// Merges versions in; where memory runs out, says how many of them were taken, and what is held then.
+/// Merges versions in. If memory runs out, prints how many of them were taken, and what is held then.
 fn merge(case: &Case, map: &mut Map, words: &str, now: Moment) {
     let other = case.held(words);
     match map.merge(&other, now) {
@@ -88,7 +88,7 @@ fn say_bucket(case: &Case, held: &Map, pairs: &str) {
     say!(case; "(", count, ")");
 }
 
-/// Says why a keeper refused a call.
+/// Prints why a keeper refused a call.
 fn say_refusal(case: &Case, refusal: KeeperError) {
     match refusal {
         KeeperError::MomentBack { last } => say!(case; "MomentBack ", @last),
@@ -118,7 +118,7 @@ fn keep_pair(case: &Case, keeper: &mut Keeper<MeshSilence>, text: &str) {
     }
 }
 
-/// Runs steps, and says where they stop.
+/// Runs steps, and prints where they stop.
 fn run(case: &Case, keeper: &mut Keeper<MeshSilence>, text: &str) {
     let steps = case.list(text, ", ");
     match keeper.run(&steps) {
@@ -164,7 +164,7 @@ fn keeps(case: &Case, keeper: &mut Keeper<MeshSilence>, text: &str) {
     }
 }
 
-/// `keeper MOMENT SILENCE, .. merged with SILENCE, ..; STEP; ..`: a keeper of a map, and its steps.
+/// Answers `keeper MOMENT SILENCE, .. merged with SILENCE, ..; STEP; ..`: a keeper of a map, and its steps.
 fn keeper(case: &Case, rest: &str) {
     let (map, text) = cut(rest, "; ");
     let (word, words) = first(map);
@@ -179,7 +179,7 @@ fn keeper(case: &Case, rest: &str) {
     }
 }
 
-/// `keeper-start MOMENT SILENCE, ..`: a keeper that starts with a list of versions, and what it holds.
+/// Answers `keeper-start MOMENT SILENCE, ..` with what a keeper holds that starts with a list of versions.
 fn keeper_start(case: &Case, rest: &str) {
     let (word, words) = first(rest);
     let keeper = Keeper::start(case.alloc, case.list(words, ", "), case.moment(word));

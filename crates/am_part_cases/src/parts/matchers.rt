@@ -1,4 +1,4 @@
-//! Matchers, filters and mutes; whether a group is notified, and when an instance is due.
+//! Matchers, filters and mutes; decisions whether a group is notified; and the moments at which an instance is due.
 
 use crate::common::{Case, Printed, Spelled, behind, cut, first};
 use crate::parts::hashes;
@@ -14,7 +14,7 @@ use am_version_order::Moment;
 
 type Map = Held<MeshSilence>;
 
-/// Cases of matchers, filters, mutes and decisions.
+/// Answers cases of matchers, filters, mutes and decisions.
 pub fn answer(case: &Case, verb: &str, rest: &str) {
     match verb {
         "matches" => matches(case, rest),
@@ -33,7 +33,7 @@ pub fn answer(case: &Case, verb: &str, rest: &str) {
     }
 }
 
-/// `due start MOMENT place N timeout SECONDS`
+/// Answers `due start MOMENT place N timeout SECONDS`.
 fn say_due(case: &Case, rest: &str) {
     let start = case.moment(behind(rest, "start ", "-"));
     let place = case.number(behind(rest, " place ", "-"));
@@ -41,7 +41,7 @@ fn say_due(case: &Case, rest: &str) {
     say_some!(case; due = due(start, place, timeout); @due);
 }
 
-/// `matches MATCHER VALUE ..`: whether the matcher matches each of the values.
+/// Answers `matches MATCHER VALUE ..` with whether the matcher matches each of the values.
 fn matches(case: &Case, rest: &str) {
     let (word, values) = first(rest);
     given!(matcher = Matcher::spelled(case, word));
@@ -55,7 +55,8 @@ fn matches(case: &Case, rest: &str) {
     case.put("\n");
 }
 
-/// `verdicts LIST; LIST ..`: the verdict on each list of matchers; or by one cache, and how many bytes it keeps then.
+/// Answers `verdicts LIST; LIST ..` with the verdict on each list of matchers; with `is_kept`, by one cache, and with how many
+/// bytes it then keeps.
 fn verdicts(case: &Case, lists: &str, is_kept: bool) {
     let mut patterns = PatternCache::new(case.alloc);
     for (place, words) in lists.split("; ").enumerate() {
@@ -74,7 +75,7 @@ fn verdicts(case: &Case, lists: &str, is_kept: bool) {
     case.put("\n");
 }
 
-/// `re2-verdicts LIST; LIST ..`: the verdict on each list of matchers, where patterns are those of RE2.
+/// Answers `re2-verdicts LIST; LIST ..` with the verdict on each list of matchers, whose patterns are those of RE2.
 fn re2_verdicts(case: &Case, lists: &str) {
     let mut patterns = PatternCache::new(case.alloc);
     for (place, words) in lists.split("; ").enumerate() {
@@ -86,7 +87,7 @@ fn re2_verdicts(case: &Case, lists: &str) {
     case.put("\n");
 }
 
-/// The matchers with texts of their own.
+/// Returns the matchers with texts of their own.
 fn owned(case: &Case, matchers: &Matchers) -> Vec<Matcher> {
     let mut all = Vec::new(case.alloc);
     for matcher in matchers.iter() {
@@ -97,7 +98,7 @@ fn owned(case: &Case, matchers: &Matchers) -> Vec<Matcher> {
     all
 }
 
-/// The filter that a text is.
+/// Reads the filter that a text spells.
 fn filter_of(case: &Case, text: &str, dialect: Dialect) -> Option<Filter> {
     let filter = match dialect {
         Dialect::Regex => Filter::parse(case.alloc, text),
@@ -106,7 +107,8 @@ fn filter_of(case: &Case, text: &str, dialect: Dialect) -> Option<Filter> {
     case.got(filter, FilterError::Memory)
 }
 
-/// `filter [TEXT] of SILENCE`: whether a filter, given with escapes, passes a silence, and whether its version.
+/// Answers `filter [TEXT] of SILENCE` with whether a filter, given with escapes, passes a silence, and whether it passes its
+/// version.
 fn filter(case: &Case, rest: &str, dialect: Dialect) {
     let (text, words) = rest.rsplit_once("] of ").unwrap_or((rest, ""));
     let bytes = case.unescaped(text.strip_prefix('[').unwrap_or(text));
@@ -119,7 +121,8 @@ fn filter(case: &Case, rest: &str, dialect: Dialect) {
     say!(case; is_passed, ", its version ", is_version);
 }
 
-/// `mutes SILENCE, ..; at MOMENT LABEL ..; ..`: which silences mute labels at moments. `forget` drops what is kept.
+/// Answers `mutes SILENCE, ..; at MOMENT LABEL ..; ..` with the silences that mute labels at moments. `forget` drops what is
+/// kept.
 fn all_mutes(case: &Case, rest: &str, dialect: Dialect) {
     let (silences, text) = cut(rest, "; ");
     let held = case.held(silences);
@@ -129,7 +132,7 @@ fn all_mutes(case: &Case, rest: &str, dialect: Dialect) {
     }
 }
 
-/// Which silences mute labels, by patterns that are compiled for the call alone.
+/// Returns the silences that mute labels, by patterns that are compiled only for this call.
 fn mutes_once(
     case: &Case,
     dialect: Dialect,
@@ -167,7 +170,8 @@ fn step(case: &Case, patterns: &mut PatternCache, dialect: Dialect, held: &Map, 
     case.put("\n");
 }
 
-/// `both-mutes SILENCE, ..; at MOMENT LABEL ..; ..`: which silences mute labels by one cache, in both dialects by turns.
+/// Answers `both-mutes SILENCE, ..; at MOMENT LABEL ..; ..` with the silences that mute labels by one cache, in both dialects
+/// in turn.
 fn both_mutes(case: &Case, rest: &str) {
     let (silences, text) = cut(rest, "; ");
     let held = case.held(silences);
@@ -194,7 +198,7 @@ fn print_mutes(case: &Case, mutes: Option<Mutes>) {
     print_ids(case, &mutes.broken);
 }
 
-/// Prints identifiers, parted by commas, or `-` for none.
+/// Prints identifiers with commas between them, or `-` for none.
 fn print_ids(case: &Case, ids: &Ids) {
     let ids = ids.as_slice();
     for (place, id) in ids.iter().enumerate() {
@@ -203,7 +207,8 @@ fn print_ids(case: &Case, ids: &Ids) {
     case.put(if ids.is_empty() { "-" } else { "" });
 }
 
-/// `many-mutes COUNT`: asks one cache twice which of so many silences mute the job x; the patterns of odd numbers are broken.
+/// Answers `many-mutes COUNT`: asks one cache twice which of this many silences mute the job x. The patterns of odd numbers are
+/// broken.
 fn many_mutes(case: &Case, rest: &str) {
     let mut held = Held::new(case.alloc);
     for number in 0..case.number(rest) {
@@ -224,7 +229,7 @@ fn count_mutes(case: &Case, patterns: &mut PatternCache, held: &Map) {
     say!(case; ids, " mute, ", broken, " broken, ", patterns.size() >> 20, " MiB kept");
 }
 
-/// `decide ENTRY; firing LIST resolved LIST wanted no repeat SECONDS at MOMENT`, over an entry or `no entry`.
+/// Answers `decide ENTRY; firing LIST resolved LIST wanted no repeat SECONDS at MOMENT`, over an entry or `no entry`.
 fn say_decisions(case: &Case, rest: &str) {
     let (held, words) = cut(rest, "; ");
     let (entry, version) = match held {

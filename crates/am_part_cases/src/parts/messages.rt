@@ -1,4 +1,4 @@
-//! Decisions in JSON: messages of a webhook, answers, and what was notified.
+//! Decisions in JSON: messages of a webhook, answers, and notices.
 
 use crate::common::{Case, Fault, Printed, Spelled, behind, cut, first};
 use crate::parts::json;
@@ -11,7 +11,7 @@ use am_nflog::{Hashes, Receiver};
 use am_silence_json::moments::write_moment;
 use std::alloc::AllocError;
 
-/// Cases of what programs that send pages post and get back.
+/// Answers cases of what programs that send pages post and get back.
 pub fn answer(case: &Case, verb: &str, rest: &str) {
     match (verb, first(rest)) {
         ("page", ("message", body)) => message(case, body),
@@ -33,7 +33,7 @@ fn say_body(case: &Case, body: Result<Vec<u8>, AllocError>) {
     say!(case; str::from_utf8(body.as_slice()).unwrap_or("no text"));
 }
 
-/// What was read of a body. Else says why it is refused, and the name of the key.
+/// Returns what was read of a body. If it is refused, prints why, and the name of the key.
 fn read<T: Drop>(case: &Case, read: Result<T, MessageError>) -> Option<T> {
     if let Err(MessageError::BadMessage(key)) = read {
         say!(case; ?MessageError::BadMessage(key), ": ", key.text());
@@ -42,7 +42,7 @@ fn read<T: Drop>(case: &Case, read: Result<T, MessageError>) -> Option<T> {
     case.got(read, MessageError::Memory)
 }
 
-/// `page message BODY`: the group key, the receiver, and each alert with its labels.
+/// Answers `page message BODY` with the group key, the receiver, and each alert with its labels.
 fn message(case: &Case, body: &str) {
     let body = case.unescaped(body);
     given!(message = read(case, read_message(case.alloc, body.as_slice())));
@@ -64,7 +64,8 @@ fn print_receiver(case: &Case, receiver: &Receiver) {
     put!(case; receiver.group_name.as_str(), "/", receiver.integration.as_str(), "/", receiver.idx);
 }
 
-/// `page notice BODY`: the group key, the receiver, the repeat interval, the hashes, and when it was decided.
+/// Answers `page notice BODY` with the group key, the receiver, the repeat interval, the hashes, and the moment of the
+/// decision.
 fn notice(case: &Case, body: &str) {
     let body = case.unescaped(body);
     given!(notice = read(case, read_notice(case.alloc, body.as_slice())));
@@ -79,7 +80,7 @@ fn notice(case: &Case, body: &str) {
     case.put("\n");
 }
 
-/// Why a group is notified or not.
+/// Reads the reason that a group is notified or not.
 fn why(case: &Case, word: &str) -> Option<Why> {
     case.wanted(match word {
         "First" => Some(Why::Notify(Reason::First)),
@@ -87,13 +88,14 @@ fn why(case: &Case, word: &str) -> Option<Why> {
         "AllResolved" => Some(Why::Notify(Reason::AllResolved)),
         "NewResolved" => Some(Why::Notify(Reason::NewResolved)),
         "Repeat" => Some(Why::Notify(Reason::Repeat)),
+        "Unjudged" => Some(Why::Unjudged),
         "Skip" => Some(Why::Skip),
         "Muted" => Some(Why::Muted),
         _ => None,
     })
 }
 
-/// A muted alert: `job=x a=b by ID ID`, perhaps with ` and 3` behind it, for the silences that aren't named.
+/// A muted alert: `job=x a=b by ID ID`, perhaps followed by ` and 3`, for the silences that aren't named.
 impl Spelled for Muted {
     fn spelled(case: &Case, words: &str) -> Option<Muted> {
         let (labels, silences) = cut(words, " by ");
@@ -110,7 +112,7 @@ impl Spelled for Muted {
     }
 }
 
-/// `page answer WHY group GROUP to r/w/0 every 60 at 10 turn 15 firing 1,2 resolved 3; MUTED; ..`
+/// Reads the answer of `page answer WHY group GROUP to r/w/0 every 60 at 10 turn 15 firing 1,2 resolved 3; MUTED; ..`.
 fn answer_of(case: &Case, words: &str) -> Option<Answer> {
     let (head, muted) = cut(words, "; ");
     let reason = why(case, first(head).0)?;

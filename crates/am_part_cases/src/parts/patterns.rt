@@ -6,7 +6,7 @@ use am_matcher::{BuildError, Compiled, Re2Error, hazard_of, re2_of};
 use am_silence::{MatcherKind, MatcherRef, MeshSilence};
 use am_wire::Text;
 
-/// Cases of patterns of RE2, and of hazards.
+/// Answers cases of patterns of RE2, and of hazards.
 pub fn answer(case: &Case, verb: &str, rest: &str) {
     match verb {
         "re2" => translate(case, rest),
@@ -16,13 +16,13 @@ pub fn answer(case: &Case, verb: &str, rest: &str) {
     }
 }
 
-/// A word with escapes; `""` is the empty text.
+/// Reads a word with escapes; `""` is the empty text.
 fn text_of(case: &Case, word: &str) -> Text {
     let bytes = case.unescaped(if word == "\"\"" { "" } else { word });
     case.text(str::from_utf8(bytes.as_slice()).unwrap_or("no text"))
 }
 
-/// The pattern of `regex` for one of RE2; else says that it is refused, and where if that is asked.
+/// Translates a pattern of RE2 to one of `regex`. If it is refused, prints that, and with `is_where` also where.
 fn translated(case: &Case, word: &str, is_where: bool) -> Option<Text> {
     let pattern = text_of(case, word);
     match re2_of(case.alloc, pattern.as_str()) {
@@ -33,14 +33,14 @@ fn translated(case: &Case, word: &str, is_where: bool) -> Option<Text> {
     None
 }
 
-/// `re2 PATTERN`: the pattern of `regex`, or behind how many bytes it is refused.
+/// Answers `re2 PATTERN` with the pattern of `regex`, or with the number of bytes after which it is refused.
 fn translate(case: &Case, word: &str) {
     given!(pattern = translated(case, word, true));
     case.print_text(pattern.as_str().as_bytes());
     case.put("\n");
 }
 
-/// `re2-matches PATTERN TEXT ..`: which of the texts match, counted from 1.
+/// Answers `re2-matches PATTERN TEXT ..` with the numbers of the texts that match, counted from 1.
 fn matches(case: &Case, rest: &str) {
     let (word, texts) = first(rest);
     given!(pattern = translated(case, word, false));
@@ -60,7 +60,7 @@ fn matches(case: &Case, rest: &str) {
     case.put(if found { "\n" } else { "none\n" });
 }
 
-/// `hazard SILENCE`: why an Alertmanager can't hold it, or `none`.
+/// Answers `hazard SILENCE` with the reason that an Alertmanager can't hold it, or `none`.
 fn hazard(case: &Case, words: &str) {
     given!(silence = MeshSilence::spelled(case, words));
     given!(hazard = case.made(hazard_of(case.alloc, &silence)));

@@ -8,7 +8,7 @@ use am_silence::{
 };
 use am_wire::{Message, WireError};
 
-/// Cases of plans and of made entries. What is planned keeps silences for 100 s after their end.
+/// Answers cases of plans and of made entries. Plans keep silences for 100 s after their end.
 pub fn answer(case: &Case, verb: &str, rest: &str) {
     match verb {
         "plan-post" => post(case, rest),
@@ -18,7 +18,7 @@ pub fn answer(case: &Case, verb: &str, rest: &str) {
     }
 }
 
-/// The version of words, or none of `nothing`.
+/// Reads the version that words spell, or none from `nothing`.
 fn held(case: &Case, words: &str) -> Option<MeshSilence> {
     match words {
         "nothing" => None,
@@ -26,7 +26,7 @@ fn held(case: &Case, words: &str) -> Option<MeshSilence> {
     }
 }
 
-/// Reads a post: a silence in words, whose matchers are sound; its identifier is `-` if none is posted.
+/// Reads a post: a silence in words, whose matchers are sound. Its identifier is `-` if none is posted.
 fn posted(case: &Case, words: &str) -> Posted {
     let Silence {
         id,
@@ -48,7 +48,8 @@ fn posted(case: &Case, words: &str) -> Posted {
     }
 }
 
-/// `plan-post at MOMENT: SILENCE over VERSION`, by bits 0; behind `at MOMENT, held` the identifier that they give is held.
+/// Answers `plan-post at MOMENT: SILENCE over VERSION`, with bits 0. After `at MOMENT, held` the identifier that they give is
+/// held.
 fn post(case: &Case, rest: &str) {
     let (how, words) = cut(rest, ": ");
     let (words, version) = cut(words, " over ");
@@ -80,7 +81,7 @@ fn say_plan(case: &Case, plan: &Plan) {
     }
 }
 
-/// `plan-end at MOMENT: VERSION`
+/// Answers `plan-end at MOMENT: VERSION`.
 fn end(case: &Case, rest: &str) {
     let (how, version) = cut(rest, ": ");
     let held = held(case, version);
@@ -92,7 +93,7 @@ fn end(case: &Case, rest: &str) {
     }
 }
 
-/// Says why no plan was made.
+/// Prints why no plan was made.
 fn say_refusal(case: &Case, error: SilenceError) {
     match error {
         SilenceError::Newer { held } => say!(case; "Newer ", @held),
@@ -101,7 +102,8 @@ fn say_refusal(case: &Case, error: SilenceError) {
     }
 }
 
-/// `made-entry GROUP RECEIVER firing LIST resolved LIST repeat SECONDS retention SECONDS at MOMENT`: the entry, and its bytes.
+/// Answers `made-entry GROUP RECEIVER firing LIST resolved LIST repeat SECONDS retention SECONDS at MOMENT` with the entry and
+/// its bytes.
 fn made(case: &Case, rest: &str) {
     let (group, words) = first(rest);
     let receiver = case.receiver(first(words).0);

@@ -8,7 +8,7 @@ use am_report::{ListedWord, Numbers, Texts, Word};
 use am_schedule::{FaultKind, parse};
 use am_silence_json::Key;
 
-/// Cases of requests, replies and words.
+/// Answers cases of requests, replies and words.
 pub fn answer(case: &Case, verb: &str, rest: &str) {
     match verb {
         "request" => request(case, rest),
@@ -37,7 +37,7 @@ pub fn answer(case: &Case, verb: &str, rest: &str) {
     }
 }
 
-/// Prints what a read comes to, with the parts of a request or `whole`.
+/// Prints what a read yields, with the parts of a request or `whole`.
 pub fn print_read(case: &Case, read: &Read, has_parts: bool) {
     match read {
         Read::More => case.put("more"),
@@ -52,7 +52,8 @@ pub fn print_read(case: &Case, read: &Read, has_parts: bool) {
     }
 }
 
-/// `request TEXT`: what bytes come to behind which more may come, and where the input ended if more would have to come.
+/// Answers `request TEXT` with what bytes are read as when more may follow, and if more has to follow, what they are read as
+/// when the input ends.
 fn request(case: &Case, text: &str) {
     let bytes = case.spelled(text);
     let open = read_request(case.alloc, bytes.as_slice(), false);
@@ -65,7 +66,7 @@ fn request(case: &Case, text: &str) {
     case.put("\n");
 }
 
-/// `filters QUERY`: the filters of a query.
+/// Answers `filters QUERY` with the filters of a query.
 fn filters(case: &Case, query: &str) {
     given!(filters = case.made(filter_texts(case.alloc, query)));
     put!(case; filters.len(), " filters");
@@ -75,7 +76,7 @@ fn filters(case: &Case, query: &str) {
     case.put("\n");
 }
 
-/// What a request may be refused for before a step is made.
+/// The causes for which a request may be refused before a step is made.
 const CAUSES: [Cause; 18] = [
     Cause::HeadTooLarge,
     Cause::BadHead,
@@ -97,7 +98,7 @@ const CAUSES: [Cause; 18] = [
     Cause::Memory,
 ];
 
-/// `refusals`: the lines of the table of statuses.
+/// Answers `refusals` with the lines of the table of statuses.
 fn refusals(case: &Case) {
     for cause in CAUSES {
         let line = cause.refusal();
@@ -106,7 +107,7 @@ fn refusals(case: &Case) {
     }
 }
 
-/// `reply STATUS ALLOW: BODY`: a reply, where ALLOW is `-` for none.
+/// Answers `reply STATUS ALLOW: BODY` with a reply; ALLOW is `-` for none.
 fn say_reply(case: &Case, rest: &str) {
     let (status, rest) = first(rest);
     let (allow, body) = cut(rest, ":");
@@ -117,7 +118,7 @@ fn say_reply(case: &Case, rest: &str) {
     case.say_text(reply.as_slice());
 }
 
-/// `texts TEXT|TEXT|..`: texts as one word, each of which has a `|` behind it.
+/// Answers `texts TEXT|TEXT|..` with the texts as one word; each of them is followed by a `|`.
 fn texts(case: &Case, rest: &str) {
     let mut copies = Vec::new(case.alloc);
     for text in rest.split_terminator('|') {
@@ -126,7 +127,7 @@ fn texts(case: &Case, rest: &str) {
     say!(case; Texts(&copies));
 }
 
-/// `schedule TEXT`: how many members and lines a schedule has, or its first fault.
+/// Answers `schedule TEXT` with the numbers of members and lines of a schedule, or its first fault.
 fn schedule(case: &Case, text: &str) {
     let text = case.unescaped(text);
     match parse(case.alloc, text.as_slice()) {

@@ -3,10 +3,10 @@
 use crate::common::{Case, Fault, cut};
 use crate::parts::frames::print_frame;
 use crate::parts::requests;
-use am_seal::{Lock, Opened, SealError, hmac_sha256, open_piece, sum_of};
+use am_seal::{CHALLENGE, Lock, Opened, SealError, Sequence, hmac_sha256, open_piece, sum_of};
 
-/// Cases of seals: `hmac KEY | MESSAGE`, `seal SECRET | SENDER | ADDRESSEE | TEXT`, and
-/// `unseal SECRET | ADDRESSEE | SENDER | PIECE | PIECE ..`.
+/// Answers cases of seals: `hmac KEY | MESSAGE`, `seal SECRET | CHALLENGE | NUMBER | SENDER | ADDRESSEE | TEXT`, and `unseal
+/// SECRET | CHALLENGE | NUMBER | ADDRESSEE | SENDER | PIECE | PIECE ..`.
 pub fn answer(case: &Case, verb: &str, rest: &str) {
     match verb {
         "hmac" => {
@@ -20,14 +20,29 @@ pub fn answer(case: &Case, verb: &str, rest: &str) {
     }
 }
 
-/// The sum of a frame's text, from a sender to an addressee.
+/// Reads a place in a connection, and returns it with the words after it, or `None` if the challenge doesn't have 32 bytes.
+fn place<'a>(case: &Case, rest: &'a str) -> Option<(Sequence, &'a str)> {
+    let (challenge, rest) = cut(rest, "|");
+    let (number, rest) = cut(rest, "|");
+    let bytes = case.bytes(challenge.trim());
+    let (challenge, _) = bytes.as_slice().split_first_chunk::<CHALLENGE>()?;
+    let challenge = *challenge;
+    let number = case.number(number.trim());
+    Some((Sequence { challenge, number }, rest))
+}
+
+/// Prints the sum of a frame's text at a place in a connection, from a sender to an addressee.
 fn seal(case: &Case, rest: &str) {
     let (secret, rest) = cut(rest, "|");
+    let Some((place, rest)) = place(case, rest) else {
+        return case.fail(Fault::Words);
+    };
     let (sender, rest) = cut(rest, "|");
     let (addressee, text) = cut(rest, "|");
     let (secret, text) = (case.bytes(secret.trim()), case.bytes(text.trim()));
     let sum = sum_of(
         secret.as_slice(),
+        place,
         sender.trim(),
         addressee.trim(),
         text.as_slice(),
@@ -35,9 +50,12 @@ fn seal(case: &Case, rest: &str) {
     case.say_bytes(&sum);
 }
 
-/// Opens the pieces of a sealed stream from a sender, with a line for each.
+/// Opens the pieces of a sealed stream from a sender, from a place in its connection on, with a line for each.
 fn unseal(case: &Case, rest: &str) {
     let (secret, rest) = cut(rest, "|");
+    let Some((mut place, rest)) = place(case, rest) else {
+        return case.fail(Fault::Words);
+    };
     let (name, rest) = cut(rest, "|");
     let (sender, pieces) = cut(rest, "|");
     let secret = case.bytes(secret.trim());
@@ -52,14 +70,16 @@ fn unseal(case: &Case, rest: &str) {
             case.alloc,
             lock,
             sender.trim(),
+            place,
             &mut waiting,
             piece.as_slice(),
         );
         say_opened(case, &opened, waiting.len());
+        place = opened.next;
     }
 }
 
-/// Says what a piece opens to: its frames, why none is taken behind them, and how many bytes wait then.
+/// Prints what a piece opens to: its frames, why none is taken after them, and how many bytes then wait.
 fn say_opened(case: &Case, opened: &Opened, waiting: usize) {
     for frame in &opened.frames {
         print_frame(case, frame, " +", "");

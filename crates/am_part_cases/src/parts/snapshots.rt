@@ -6,16 +6,17 @@ use am_nflog::MeshEntry;
 use am_report::write_view;
 use am_silence::MeshSilence;
 use am_snapshot::laws::what_is_saved_is_loaded;
-use am_snapshot::{SnapshotError, fold, load, save, take_row};
+use am_snapshot::{SnapshotError, fold, fold_held, load, load_within, save, take_row};
 use am_streams::send;
 use am_version_order::{Moment, Version};
-use am_wire::Message;
+use am_wire::{MOST_MESSAGE_BYTES, Message, Unknown};
 use std::alloc::Global;
 
 /// The verbs of calls.
 const VERBS: [&str; 7] = ["load", "take_row", "save", "copy", "fold", "show", "send"];
 
-/// `VERB STATE HOW: ROW` or `VERB STATE ROW`; `fold STATE at MOMENT, HOW: ROW`; `show HOW: STATE at MOMENT: ROW`; `send HOW: TEXT`.
+/// Answers `VERB STATE HOW: ROW` or `VERB STATE ROW`; `fold STATE at MOMENT, HOW: ROW`; `show HOW: STATE at MOMENT: ROW`; `send
+/// HOW: TEXT`. Rows are read without their unknown fields, unless HOW has the phrase `with unknown fields`.
 pub fn answer(case: &Case, verb: &str, rest: &str) {
     if !VERBS.contains(&verb) {
         return case.fail(Fault::Words);
@@ -31,7 +32,17 @@ pub fn answer(case: &Case, verb: &str, rest: &str) {
     };
     let now = case.moment(cut(behind(of, " at ", "least"), ",").0);
     let state = first(of).0;
-    let call = Calling { verb, state, now };
+    let unknown = if how.contains("with unknown fields") {
+        Unknown::Keep
+    } else {
+        Unknown::Drop
+    };
+    let call = Calling {
+        verb,
+        state,
+        now,
+        unknown,
+    };
     let writer = case.make(&call, &case.how(how, bytes.as_slice()));
     if writer.calls > 0 {
         put!(case; writer.calls, " calls: ");
@@ -42,12 +53,13 @@ pub fn answer(case: &Case, verb: &str, rest: &str) {
     }
 }
 
-/// Something that is done with a row of silences or of the log, or folded or shown of it at a moment.
+/// A call with a row of silences or of the log, which may fold or show it at a moment.
 #[derive(Clone, Copy)]
 struct Calling<'a> {
     verb: &'a str,
     state: &'a str,
     now: Moment,
+    unknown: Unknown,
 }
 
 type Outcome = Result<u64, SnapshotError>;
@@ -79,10 +91,10 @@ impl Calling<'_> {
                 send(writer, reader.left)?;
                 Ok(reader.left.len() as u64)
             }
-            (verb, "nfl") => done_with::<MeshEntry>(alloc, verb, self.now, reader, writer),
-            (verb, _) => {
+            (_, "nfl") => done_with::<MeshEntry>(alloc, self, reader, writer),
+            _ => {
                 what_is_saved_is_loaded::<MeshSilence>();
-                done_with::<MeshSilence>(alloc, verb, self.now, reader, writer)
+                done_with::<MeshSilence>(alloc, self, reader, writer)
             }
         }
     }
@@ -90,19 +102,27 @@ impl Calling<'_> {
 
 fn done_with<V: Version + Message>(
     alloc: Global,
-    verb: &str,
-    now: Moment,
+    call: &Calling<'_>,
     reader: &mut Pieces<'_>,
     writer: &mut Brittle,
 ) -> Outcome {
-    if verb == "take_row" {
-        return Ok(take_row::<V, _>(alloc, reader)?.len() as u64);
+    let unknown = call.unknown;
+    if call.verb == "take_row" {
+        return Ok(take_row::<V, _>(alloc, unknown, reader)?.len() as u64);
     }
-    if verb == "fold" {
-        return Ok(fold::<V, _, _>(alloc, reader, writer, now)?);
+    if call.verb == "fold" {
+        return match unknown {
+            Unknown::Drop => Ok(fold::<V, _, _>(alloc, reader, writer, call.now)?),
+            Unknown::Keep => Ok(
+                fold_held::<V, _, _>(alloc, unknown, reader, writer, call.now)?.written,
+            ),
+        };
     }
-    let held: Held<V> = load(alloc, reader)?;
-    match verb {
+    let held: Held<V> = match unknown {
+        Unknown::Drop => load(alloc, reader)?,
+        Unknown::Keep => load_within(alloc, unknown, reader, MOST_MESSAGE_BYTES as u32)?,
+    };
+    match call.verb {
         "save" => save(alloc, &held, writer),
         "copy" => save(alloc, &held.try_clone()?, writer),
         _ => Ok(held.len() as u64),

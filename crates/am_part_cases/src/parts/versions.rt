@@ -5,9 +5,10 @@ use crate::parts::frames;
 use am_nflog::{MeshEntry, Receiver};
 use am_silence::{Matcher, MeshSilence, fresh_id, state_at};
 use am_version_order::Version;
-use am_wire::{Message, WireError};
+use am_wire::{Message, Unknown, WireError};
 
-/// Cases of versions, of a matcher and a receiver that are read, of matchers copied, of the identifier that bits give.
+/// Answers cases of versions, of a matcher and a receiver that are read, of copied matchers, and of the identifier that bits
+/// give.
 pub fn answer(case: &Case, verb: &str, rest: &str) {
     match verb {
         "sil" if rest.starts_with("state ") => states(case, first(rest).1),
@@ -25,7 +26,8 @@ pub fn answer(case: &Case, verb: &str, rest: &str) {
     }
 }
 
-/// `nfl VERB WORDS` of log entries, and `sil VERB WORDS` of silences.
+/// Answers `nfl VERB WORDS` about log entries, and `sil VERB WORDS` about silences; `nfl kept BYTES` reads an entry with its
+/// unknown fields.
 fn of_state<V: Told>(case: &Case, text: &str)
 where
     V::Key: Drop,
@@ -42,18 +44,23 @@ where
             case.say_bytes(version.bucket());
         }
         ("copied", words) => copied::<V>(case, words),
-        _ => say_read::<V>(case, text),
+        ("kept", hex) => say_read::<V>(case, Unknown::Keep, hex),
+        _ => say_read::<V>(case, Unknown::Drop, text),
     }
 }
 
-/// What bytes are read as, unless they are refused.
-fn read<M: Message>(case: &Case, hex: &str) -> Option<M> {
+/// Returns what bytes are read as, given what is done with unknown fields, unless they are refused.
+fn read<M: Message>(case: &Case, unknown: Unknown, hex: &str) -> Option<M> {
     let bytes = case.bytes(hex);
-    case.got(M::decode(case.alloc, bytes.as_slice()), WireError::Memory)
+    let read = match unknown {
+        Unknown::Drop => M::decode(case.alloc, bytes.as_slice()),
+        Unknown::Keep => M::decode_at(case.alloc, unknown, bytes.as_slice(), 0),
+    };
+    case.got(read, WireError::Memory)
 }
 
-fn say_read<V: Told>(case: &Case, hex: &str) {
-    given!(version = read::<V>(case, hex));
+fn say_read<V: Told>(case: &Case, unknown: Unknown, hex: &str) {
+    given!(version = read::<V>(case, unknown, hex));
     say!(case; @version);
     put!(case; "order: updated ", @version.updated(), ", expires ", @version.expires());
     case.put(", bucket ");
@@ -62,7 +69,7 @@ fn say_read<V: Told>(case: &Case, hex: &str) {
     case.say_bytes(version.canonical());
 }
 
-/// Says the bytes of a message that is written twice into one vector.
+/// Prints the bytes of a message that is written twice into one vector.
 fn say_written<M: Message>(case: &Case, message: &M) {
     let mut bytes = Vec::new(case.alloc);
     case.made(message.encode(&mut bytes));
@@ -70,7 +77,7 @@ fn say_written<M: Message>(case: &Case, message: &M) {
     case.say_bytes(bytes.as_slice());
 }
 
-/// Says how the copies of the key and of a version compare with them, and the version's copy.
+/// Prints how the copies of the key and of a version compare with them, and then the version's copy.
 fn copied<V: Told>(case: &Case, words: &str)
 where
     V::Key: Drop,
@@ -100,7 +107,7 @@ fn say_orders<V: Told>(case: &Case, are_keys: bool, version: &V, others: &[V]) {
     case.put("\n");
 }
 
-/// `state WORDS at MOMENT ..`: the state at each of the moments, of the silence and of its version.
+/// Answers `state WORDS at MOMENT ..` with the state of the silence and of its version at each of the moments.
 fn states(case: &Case, text: &str) {
     let (words, moments) = cut(text, " at ");
     let silence = case.silence(words);
@@ -112,7 +119,7 @@ fn states(case: &Case, text: &str) {
 }
 
 fn matcher(case: &Case, hex: &str) {
-    given!(matcher = read::<Matcher>(case, hex));
+    given!(matcher = read::<Matcher>(case, Unknown::Drop, hex));
     case.print_matcher("", &matcher.borrowed());
     put!(case; ", wants the label: ", matcher.wants_label());
     say!(case; ", regular expression: ", matcher.kind.is_regexp());
@@ -128,7 +135,7 @@ fn matchers_copied(case: &Case, words: &str) {
 }
 
 fn receiver(case: &Case, hex: &str) {
-    given!(receiver = read::<Receiver>(case, hex));
+    given!(receiver = read::<Receiver>(case, Unknown::Drop, hex));
     put!(case; receiver.group_name.as_str(), "/", receiver.integration.as_str());
     say!(case; "/", receiver.idx);
     say_written(case, &receiver);

@@ -1,4 +1,4 @@
-//! Moments and intervals; varints, fields, timestamps, and rows, also over readers that give few bytes, or fail.
+//! Moments and intervals; varints, fields, timestamps and rows, also over readers that give few bytes or fail.
 
 use crate::common::{
     Brittle, Call, Case, Cut, Fault, Pieces, Printed, behind, cut, first, moment_of, phrase,
@@ -8,10 +8,12 @@ use am_silence::MeshSilence;
 use am_version_order::{Interval, Moment};
 use am_wire::reading::{AnyField, Scan, Schema, TimestampDraft};
 use am_wire::writing::append_text;
-use am_wire::{Message, RowFault, RowReader, Rows, Value, WireError, read_varint, write_varint};
+use am_wire::{
+    Message, RowFault, RowReader, Rows, Unknown, Value, WireError, read_varint, write_varint,
+};
 use std::io::{self, Read};
 
-/// Cases of moments, and of bytes on the wire.
+/// Answers cases of moments, and of bytes on the wire.
 pub fn answer(case: &Case, verb: &str, rest: &str) {
     let (one, other) = first(rest);
     match verb {
@@ -27,7 +29,8 @@ pub fn answer(case: &Case, verb: &str, rest: &str) {
     }
 }
 
-/// `sum MOMENT NANOSECONDS`: the sum, and that which ends at the last moment; `sums MOMENT NANOSECONDS COUNT`: of so many.
+/// Answers `sum MOMENT NANOSECONDS` with the sum, and the one that is capped at the last moment; `sums MOMENT NANOSECONDS
+/// COUNT` with that many of them.
 fn sum(case: &Case, start: Moment, rest: &str) {
     let (length, count) = first(rest);
     given!(length = case.wanted(Interval::from_nanos(case.number(length))));
@@ -39,7 +42,7 @@ fn sum(case: &Case, start: Moment, rest: &str) {
     }
 }
 
-/// `wire WHAT: BYTES` reads what the words say; `timestamp at 5` one whose bytes begin at that offset.
+/// Answers `wire WHAT: BYTES` with what the words say is read; `timestamp at 5` reads one whose bytes begin at that offset.
 fn wire(case: &Case, rest: &str) {
     let (what, pairs) = cut(rest, ": ");
     let bytes = case.bytes(pairs);
@@ -54,7 +57,7 @@ fn wire(case: &Case, rest: &str) {
         ("rows", _) => say_rows(case, bytes),
         (_, which) => {
             let at = case.number(which.strip_prefix("at ").unwrap_or("0")) as usize % (1 << 32);
-            let read = Moment::decode_at(case.alloc, bytes, at);
+            let read = Moment::decode_at(case.alloc, Unknown::Drop, bytes, at);
             given!(moment = case.got(read, WireError::Memory));
             say!(case; @moment);
         }
@@ -81,7 +84,7 @@ fn say_rows(case: &Case, bytes: &[u8]) {
     }
 }
 
-/// `put PART; PART ..` writes `append BYTES`, which were written before, `varint NUMBER` and `timestamp MOMENT`.
+/// Answers `put PART; PART ..`: writes `append BYTES`, which were written before, `varint NUMBER` and `timestamp MOMENT`.
 fn put(case: &Case, rest: &str) {
     let mut out = Vec::new(case.alloc);
     for part in rest.split("; ") {
@@ -99,8 +102,8 @@ fn put(case: &Case, rest: &str) {
     case.say_bytes(out.as_slice());
 }
 
-/// `timestamps in pieces of N, read N fails: BYTES`; `timestamps and zeros behind it: BYTES`, over the limit of an input; so
-/// `silences`. With `each read fails` it is a call that is tried, of timestamps alone.
+/// Answers `timestamps in pieces of N, read N fails: BYTES`; `timestamps and zeros behind it: BYTES`, which is over the limit
+/// of an input; and likewise `silences`. `each read fails` makes a row of tries, with timestamps only.
 fn messages<M: Message + Printed>(case: &Case, rest: &str) {
     let (how, pairs) = cut(rest, ": ");
     let bytes = case.bytes(pairs);
@@ -117,7 +120,7 @@ fn messages<M: Message + Printed>(case: &Case, rest: &str) {
     say_messages::<M, _>(case, &mut Pieces::new(&bytes, step, fails_at));
 }
 
-/// Reads a row of timestamps to its end or its first fault.
+/// A call that reads a row of timestamps to its end or its first fault.
 #[derive(Clone, Copy)]
 struct Reading;
 
@@ -151,7 +154,7 @@ impl Call for Reading {
     }
 }
 
-/// Says the messages, up to the end or a fault, and what is answered behind that.
+/// Prints the messages up to the end or a fault, and what is answered after that.
 fn say_messages<M: Message + Printed, R: Read>(case: &Case, reader: &mut R) {
     let mut rows = RowReader::<M>::new(case.alloc);
     for _ in 0..1_000 {

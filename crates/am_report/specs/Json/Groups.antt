@@ -1,6 +1,6 @@
 -- A difference as a value of JSON: its key, and one group for those sources that hold the same there, greatest first.
--- X is the type of versions, `seen` is what the merge sees of one, `key_data` is the value of a key, and `name` and `value` are the name
--- and the value of the member that is a version.
+-- X is the type of versions, `seen` is what the merge sees of one, `key_data` is the value of a key, `name` and
+-- `value` are the name and the value of the member that is a version, and `by` says by what one is less than another.
 use Rattle.std.specs.Prelude.{ℕ, List, [], ◌∷◌, ◌++◌, Option, Some, None, map, codes, if◌then◌else◌}
 use Rattle.std.specs.List.{list_any}
 use Rattle.serde_json.specs.Data.{Data, string, array, object, member, no_members}
@@ -9,7 +9,7 @@ use Rattle.am_version_order.specs.Versions.{Version}
 use Rattle.am_report.specs.Sources.{Holding}
 use Rattle.am_report.specs.Differences.{Difference, is_same}
 use Rattle.am_report.specs.Ranked.{ranked}
-use Rattle.am_report.specs.ReportLine.{holders, less_word}
+use Rattle.am_report.specs.ReportLine.{holders}
 use Rattle.am_report.specs.Json.Views.{list_line}
 
 module _ {K X : Type 0} (seen : X → Version K) where
@@ -35,31 +35,32 @@ module _ {K X : Type 0} (seen : X → Version K) where
         member (codes "relation") (string (codes "greatest")) (
         member name (value greatest) no_members)))
 
-    -- {"sources":NAMES,"relation":"behind","by":WHAT,NAME:VERSION}
-    unfoldable pub behind_data : List (Holding X) → X → X → Data
-    behind_data holdings greatest v =
-        object (
-        member (codes "sources") (sources_data (Some v) holdings) (
-        member (codes "relation") (string (codes "behind")) (
-        member (codes "by") (string (less_word (seen v) (seen greatest))) (
-        member name (value v) no_members))))
+    module _ (by : X → X → List ℕ) where
+      -- {"sources":NAMES,"relation":"behind","by":WHAT,NAME:VERSION}
+      unfoldable pub behind_data : List (Holding X) → X → X → Data
+      behind_data holdings greatest v =
+          object (
+          member (codes "sources") (sources_data (Some v) holdings) (
+          member (codes "relation") (string (codes "behind")) (
+          member (codes "by") (string (by v greatest)) (
+          member name (value v) no_members))))
 
-    -- the groups of these versions, which are all that are held
-    abbrev pub version_groups : List (Holding X) → List X → List Data
-    version_groups holdings [] = []
-    version_groups holdings (greatest ∷ others) = greatest_data holdings greatest ∷ map (behind_data holdings greatest) others
+      -- the groups of these versions, which are all that are held
+      abbrev pub version_groups : List (Holding X) → List X → List Data
+      version_groups holdings [] = []
+      version_groups holdings (greatest ∷ others) = greatest_data holdings greatest ∷ map (behind_data holdings greatest) others
 
-    -- all groups
-    abbrev pub groups_data : List (Holding X) → List Data
-    groups_data holdings = version_groups holdings (ranked seen holdings) ++ missing_group holdings
+      -- all groups
+      abbrev pub groups_data : List (Holding X) → List Data
+      groups_data holdings = version_groups holdings (ranked seen holdings) ++ missing_group holdings
 
-    -- {"key":KEY,"groups":GROUPS}
-    unfoldable pub difference_data : (K → Data) → Difference K X → Data
-    difference_data key_data difference =
-        object (
-        member (codes "key") (key_data difference.key) (
-        member (codes "groups") (array (items_of (groups_data difference.holdings))) no_members))
+      -- {"key":KEY,"groups":GROUPS}
+      unfoldable pub difference_data : (K → Data) → Difference K X → Data
+      difference_data key_data difference =
+          object (
+          member (codes "key") (key_data difference.key) (
+          member (codes "groups") (array (items_of (groups_data difference.holdings))) no_members))
 
-    -- all differences
-    abbrev pub differences_line : (K → Data) → List (Difference K X) → List ℕ
-    differences_line key_data differences = list_line (map (difference_data key_data) differences)
+      -- all differences
+      abbrev pub differences_line : (K → Data) → List (Difference K X) → List ℕ
+      differences_line key_data differences = list_line (map (difference_data key_data) differences)

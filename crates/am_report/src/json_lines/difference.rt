@@ -7,6 +7,7 @@ ghost use Rattle.am_report.specs.Ranked.{ranked};
 ghost use Rattle.am_report.specs.ReportLine.{IsKeyOf};
 ghost use Rattle.am_silence_json.specs.Tokens.{Adds, data_tokens, row_tokens};
 ghost use Rattle.am_report.specs.Json.Groups.{behind_data, difference_data, groups_data};
+ghost use Rattle.am_report.specs.Less.{less_word};
 
 use crate::groups::{greatest_of, next_below};
 use crate::json_lines::groups::{add_behind, add_greatest, add_missing};
@@ -27,7 +28,7 @@ fn add_others<V: InJson>(
 ) -> Result<(), AllocError>
     requires { greatest_within V.seen None (map holding_of sides.now) ≡ Some greatest.now }
     ensures { OnOk result (Adds out.old out.new (row_tokens
-        (map (behind_data V.seen V.named (V.value now) (map holding_of sides.now) greatest.now)
+        (map (behind_data V.seen V.named (V.value now) (less_word V.seen V.unknown_of V.known_of) (map holding_of sides.now) greatest.now)
         (drop 1 (ranked V.seen (map holding_of sides.now)))))) }
 {
     let mut last = greatest;
@@ -48,7 +49,7 @@ fn add_groups<V: InJson>(
 ) -> Result<(), AllocError>
     requires { greatest_within V.seen None (map holding_of sides.now) ≡ Some greatest.now }
     ensures { OnOk result (Adds out.old out.new
-        (row_tokens (groups_data V.seen V.named (V.value now) (map holding_of sides.now)))) }
+        (row_tokens (groups_data V.seen V.named (V.value now) (less_word V.seen V.unknown_of V.known_of) (map holding_of sides.now)))) }
 {
     add_greatest(alloc, out, sides, greatest, now)?;
     add_others(alloc, out, sides, greatest, now)?;
@@ -69,7 +70,7 @@ pub fn add_difference<V: InJson>(
 ) -> Result<(), AllocError>
     ensures before { OnOk result (out.new.before ≡ out.old.before) }
     ensures tokens { OnOk result ((key : V.Key) → IsKeyOf V.seen (map holding_of sides.now) key →
-        out.new.tokens ≡ out.old.tokens ++ data_tokens (difference_data V.seen V.named (V.value now) V.key_data
+        out.new.tokens ≡ out.old.tokens ++ data_tokens (difference_data V.seen V.named (V.value now) (less_word V.seen V.unknown_of V.known_of) V.key_data
         (record { key = key; holdings = map holding_of sides.now }))) }
 {
     let Some(greatest) = greatest_of(sides) else {

@@ -6,10 +6,11 @@ ghost use Rattle.am_version_order.specs.Versions.{is_below};
 ghost use Rattle.am_report.specs.Sources.{holding_of};
 ghost use Rattle.am_silence_json.specs.Tokens.{Adds, data_tokens, row_tokens};
 ghost use Rattle.am_report.specs.Json.Groups.{behind_data, greatest_data, missing_group};
+ghost use Rattle.am_report.specs.Less.{less_word};
 
-use crate::group_lines::less_by;
 use crate::json_lines::sources::add_sources;
 use crate::json_lines::values::InJson;
+use crate::less::less_by;
 use crate::names::{is_held, nothing};
 use crate::side::Side;
 use am_silence_json::tokens::{add, add_text};
@@ -61,12 +62,13 @@ pub fn add_behind<V: InJson>(
 ) -> Result<(), AllocError>
     requires { is_below (V.seen version.now) (V.seen greatest.now) ≡ true }
     ensures { OnOk result (Adds out.old out.new
-        (data_tokens (behind_data V.seen V.named (V.value now) (map holding_of sides.now) greatest.now version.now))) }
+        (data_tokens (behind_data V.seen V.named (V.value now) (less_word V.seen V.unknown_of V.known_of) (map holding_of sides.now) greatest.now version.now))) }
 {
+    let by = less_by(alloc, version, greatest)?;
     add(out, Token::BeginObject)?;
     add_sources(out, sides, Some(version))?;
     add_text(out, "relation", "behind")?;
-    add_text(out, "by", less_by(version, greatest))?;
+    add_text(out, "by", by.as_str())?;
     add_version(alloc, out, version, now)?;
     add(out, Token::EndObject)?;
     Ok(())

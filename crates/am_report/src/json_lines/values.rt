@@ -6,16 +6,17 @@ ghost use Rattle.am_silence_json.specs.Tokens.{Adds, data_tokens};
 
 use crate::json_lines::entry::{add_entry, add_log_key};
 use crate::json_lines::shown::add_shown;
+use crate::with_unknown::WithUnknown;
 use am_nflog::{LogKey, MeshEntry};
 use am_silence::MeshSilence;
 use am_silence_json::tokens::{add, add_text};
-use am_version_order::{Moment, Version};
+use am_version_order::Moment;
 use am_wire::Text;
 use json::{Token, Writer};
 use std::alloc::{AllocError, Global};
 
 /// A version that is told in JSON.
-pub trait InJson: Version {
+pub trait InJson: WithUnknown {
     /// The value of a key.
     ghost key_data: { Self.Key → Data };
 

@@ -5,6 +5,7 @@ ghost use Rattle.std.specs.Io.KnownBytes.{Appends};
 ghost use Rattle.am_merge.specs.Maps.{IsMap};
 ghost use Rattle.am_report.specs.Sources.{rest_of};
 ghost use Rattle.am_report.specs.Json.Written.{AreAdded, IsLine, StopsLine};
+ghost use Rattle.am_report.specs.Less.{less_word};
 
 use crate::compared::Compared;
 use crate::differences::next_difference;
@@ -31,7 +32,7 @@ fn add_left<V: InJson>(
 ) -> Result<bool, AllocError>
     requires order { All (λ side. IsMap V.seen V.Key.cmp side.left) sides.old }
     ensures { IfOk result (λ found.
-        AreAdded V.seen V.Key.cmp V.key_data V.named (V.value now) compared now (map rest_of sides.old) found out.old out.new) }
+        AreAdded V.seen V.Key.cmp V.key_data V.named (V.value now) (less_word V.seen V.unknown_of V.known_of) compared now (map rest_of sides.old) found out.old out.new) }
 {
     let mut found = false;
     while next_difference(sides, compared, now) {
@@ -50,7 +51,7 @@ fn add_differences<V: InJson>(
     now: Moment,
 ) -> Result<bool, AllocError>
     ensures { IfOk result (λ found.
-        AreAdded V.seen V.Key.cmp V.key_data V.named (V.value now) compared now replicas.now found out.old out.new) }
+        AreAdded V.seen V.Key.cmp V.key_data V.named (V.value now) (less_word V.seen V.unknown_of V.known_of) compared now replicas.now found out.old out.new) }
 {
     let mut sides = sides_of(alloc, replicas)?;
     add_left(alloc, out, &mut sides, compared, now)
@@ -71,7 +72,7 @@ fn differences_of<V: InJson>(
     now: Moment,
 ) -> Result<Differences, AllocError>
     ensures { IfOk result (λ d.
-        IsLine V.seen V.Key.cmp V.key_data V.named (V.value now) compared now replicas.now d.found d.line.items) }
+        IsLine V.seen V.Key.cmp V.key_data V.named (V.value now) (less_word V.seen V.unknown_of V.known_of) compared now replicas.now d.found d.line.items) }
 {
     let mut out = Writer::new(Vec::new(alloc));
     add(&mut out, Token::BeginArray)?;
@@ -98,9 +99,9 @@ pub fn write_differences_json<V: InJson, W: Write>(
     writer: &mut W,
 ) -> Result<bool, SnapshotError>
     ensures line { IfOk result (λ found. (line : List ℕ) ×
-        IsLine V.seen V.Key.cmp V.key_data V.named (V.value now) compared now replicas.now found line ×
+        IsLine V.seen V.Key.cmp V.key_data V.named (V.value now) (less_word V.seen V.unknown_of V.known_of) compared now replicas.now found line ×
         Appends (W.contents writer.old) (W.contents writer.new) line) }
-    ensures stopped { IfErr result (StopsLine V.seen V.Key.cmp V.key_data V.named (V.value now) compared now replicas.now
+    ensures stopped { IfErr result (StopsLine V.seen V.Key.cmp V.key_data V.named (V.value now) (less_word V.seen V.unknown_of V.known_of) compared now replicas.now
         W.contents writer.old writer.new) }
 {
     let differences = differences_of(alloc, replicas, compared, now)?;

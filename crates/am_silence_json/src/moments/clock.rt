@@ -6,7 +6,7 @@ ghost use Rattle.am_silence_json.specs.Clocks.{HasMarks, IsClockText};
 
 use crate::moments::digits::{byte_at, two_at};
 
-/// What a calendar and a clock show, to the second.
+/// The reading of a calendar and a clock, to the second.
 #[derive(Clone, Copy)]
 pub struct Clock {
     pub year: u16,
@@ -20,7 +20,7 @@ pub struct Clock {
 impl Clock {
     ghost use Rattle.am_silence_json.specs.Clocks.{second_of_day};
 
-    /// The second of the day.
+    /// Returns the number of seconds since midnight.
     pub fn second_of_day(self) -> u32
         ensures { result ≡ second_of_day self }
     {
@@ -28,7 +28,7 @@ impl Clock {
     }
 }
 
-/// What parts the numbers stands where it has to.
+/// Returns whether the separators of the numbers stand in their places.
 fn has_marks(text: &[u8]) -> bool
     ensures { IsTrue result ↔ HasMarks text.now }
 {
@@ -39,7 +39,7 @@ fn has_marks(text: &[u8]) -> bool
         && byte_at(text, 16) == b':'
 }
 
-/// The date and the time of day in the first 19 bytes.
+/// Reads the date and the time of day in the first 19 bytes.
 pub fn read_clock(text: &[u8]) -> Option<Clock>
     ensures value { IfSome result (IsClockText text.now) }
     ensures only { (c : Clock) → IsClockText text.now c → result ≡ Some c }

@@ -3,7 +3,7 @@
 ghost use Rattle.std.specs.Prelude.{◌≡◌, ℕ, ◌+◌, ◌<◌, ◌^◌, IfSome, Some, slice_index};
 ghost use Rattle.am_silence_json.specs.Digits.{HasDigit, HasTwo};
 
-/// The byte at a place, 0 past the end.
+/// Returns the byte at a place, or 0 past the end.
 pub fn byte_at(text: &[u8], place: usize) -> u8
     ensures { result ≡ slice_index text.now place }
 {
@@ -13,7 +13,7 @@ pub fn byte_at(text: &[u8], place: usize) -> u8
     }
 }
 
-/// The number whose digit stands at a place.
+/// Returns the number whose digit stands at a place.
 pub fn digit_at(text: &[u8], place: usize) -> Option<u8>
     ensures value { IfSome result (HasDigit text.now place) }
     ensures only { (n : ℕ) → HasDigit text.now place n → result ≡ Some n }
@@ -26,7 +26,7 @@ pub fn digit_at(text: &[u8], place: usize) -> Option<u8>
     }
 }
 
-/// The number whose two digits stand at a place.
+/// Returns the number whose two digits stand at a place.
 pub fn two_at(text: &[u8], place: usize) -> Option<u8>
     requires { place < 64 }
     ensures value { IfSome result (HasTwo text.now place) }

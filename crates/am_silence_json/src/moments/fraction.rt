@@ -6,14 +6,14 @@ ghost use Rattle.am_silence_json.specs.Fractions.{IsFraction, digit_count, fract
 
 use crate::moments::digits::byte_at;
 
-/// A fraction of a second, and how many bytes of a text spell it.
+/// A fraction of a second, and the length of its text in bytes.
 #[derive(Clone, Copy)]
 pub struct Fraction {
     pub nanos: u32,
     pub size: usize,
 }
 
-/// How many digits the text begins with.
+/// Returns the number of digits at the beginning of the text.
 fn count_digits(text: &[u8]) -> usize
     ensures value { result ≡ digit_count text.now }
     ensures within { result ≤ length text.now }
@@ -21,7 +21,7 @@ fn count_digits(text: &[u8]) -> usize
     text.iter().take_while(|byte| byte.is_ascii_digit()).count()
 }
 
-/// The nanoseconds of these digits behind the point.
+/// Returns the nanoseconds of these digits after the point.
 fn nanos_of(digits: &[u8]) -> u32
     requires { All (λ d. (48 ≤ d) × (d ≤ 57)) digits.now }
     ensures { result ≡ fraction_nanos 100_000_000 digits.now }
@@ -35,7 +35,7 @@ fn nanos_of(digits: &[u8]) -> u32
     nanos
 }
 
-/// The fraction that the text begins with.
+/// Reads the fraction at the beginning of the text.
 pub fn read_fraction(text: &[u8]) -> Option<Fraction>
     ensures value { IfSome result (IsFraction text.now) }
     ensures only { (f : Fraction) → IsFraction text.now f → result ≡ Some f }

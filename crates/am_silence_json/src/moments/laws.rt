@@ -1,4 +1,4 @@
-//! What holds of texts of moments.
+//! Laws about the texts of moments.
 
 ghost use Rattle.std.specs.Prelude.{◌≡◌, ◌-◌, ◌%◌, Some, ℕ, List};
 ghost use Rattle.am_silence_json.specs.Moments.{ReadsMoment};
@@ -8,7 +8,7 @@ use crate::moments::read::read_moment;
 use crate::moments::write::write_moment;
 use am_version_order::Moment;
 
-/// A written text is read as the moment cut to milliseconds.
+/// Writes a moment's text and reads it back, as the moment cut to milliseconds.
 pub fn reads_again(moment: Moment) -> Option<Moment>
     ensures { result ≡ Some (moment - moment % 1_000_000) }
 {
@@ -16,12 +16,12 @@ pub fn reads_again(moment: Moment) -> Option<Moment>
     read_moment(text.as_str())
 }
 
-/// Each text that is written for a moment spells the moment cut to milliseconds.
+/// States that each text written for a moment spells the moment cut to milliseconds.
 pub fn texts_are_read()
     ensures { (m : ℕ) (text : List ℕ) → WritesMoment m text → ReadsMoment text (m - m % 1_000_000) }
 {}
 
-/// Two texts that are written for a moment are the same.
+/// States that there is only one text for a moment.
 pub fn texts_are_unique()
     ensures { (m : ℕ) (text other : List ℕ) → WritesMoment m text → WritesMoment m other → text ≡ other }
 {}

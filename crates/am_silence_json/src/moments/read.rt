@@ -1,4 +1,4 @@
-//! Moments out of their texts.
+//! Reading moments from their texts.
 
 ghost use Rattle.std.specs.Prelude.{◌≡◌, ◌<◌, ◌≤◌, ◌*◌, ◌^◌, ℕ, pos, ◌+ℤ◌, IfSome, Some};
 ghost use Rattle.jiff_core.specs.Date.{IsYmd};
@@ -13,7 +13,7 @@ use crate::moments::zone::{Offset, read_zone};
 use am_version_order::Moment;
 use jiff_core::civil::Date;
 
-/// What a text spells.
+/// The parts of a moment's text.
 #[derive(Clone, Copy)]
 struct DateTime {
     clock: Clock,
@@ -21,13 +21,13 @@ struct DateTime {
     offset: Offset,
 }
 
-/// A day more than there are from the calendar's first date to 1970-01-01: so no offset leads below 0.
+/// The number of days from the calendar's first date to 1970-01-01, plus one, so that no offset leads below 0.
 const DAYS_BEFORE_1970: u64 = 4_371_588;
 
-/// The seconds of those days.
+/// The number of seconds in those days.
 const SECONDS_BEFORE_1970: i64 = 377_705_203_200;
 
-/// Seconds since the midnight that lies so many days before 1970, when a clock in UTC shows this.
+/// Returns the seconds since the midnight `DAYS_BEFORE_1970` days before 1970 at which a clock in UTC has this reading.
 fn shown_seconds(date: Date, clock: Clock) -> u64
     requires date_in { IsYmd (pos clock.year) (pos clock.month) (pos clock.day) date }
     requires time_in { second_of_day clock < 86400 }
@@ -39,7 +39,7 @@ fn shown_seconds(date: Date, clock: Clock) -> u64
     days * 86_400 + clock.second_of_day() as u64
 }
 
-/// Seconds of UTC since 1970, when a clock with this offset shows this.
+/// Returns the seconds since 1970 in UTC at which a clock with this offset has this reading.
 fn utc_seconds(date: Date, clock: Clock, offset: Offset) -> i64
     requires date_in { IsYmd (pos clock.year) (pos clock.month) (pos clock.day) date }
     requires time_in { second_of_day clock < 86400 }
@@ -55,7 +55,7 @@ fn utc_seconds(date: Date, clock: Clock, offset: Offset) -> i64
     }
 }
 
-/// The moment at which a clock with this offset shows this, if it is one.
+/// Returns the moment at which a clock with this offset has this reading, if it is one.
 fn moment_of(clock: Clock, nanos: u32, offset: Offset) -> Option<Moment>
     requires date_in { (clock.year < 10000) × (clock.month < 100) × (clock.day < 100) }
     requires offset_in { offset_size offset < 86400 }
@@ -71,7 +71,7 @@ fn moment_of(clock: Clock, nanos: u32, offset: Offset) -> Option<Moment>
     }
 }
 
-/// The date-time that the text is.
+/// Reads the date-time in the text.
 fn read_date_time(text: &[u8]) -> Option<DateTime>
     ensures value { IfSome result (IsDateTime text.now) }
     ensures only { (d : DateTime) → IsDateTime text.now d → result ≡ Some d }
@@ -93,9 +93,10 @@ fn read_date_time(text: &[u8]) -> Option<DateTime>
     })
 }
 
-/// The moment that a text spells: `YYYY-MM-DD`, `T` or `t`, `HH:MM:SS`, perhaps a point and digits, of which the
-/// nanoseconds count, and `Z`, `z`, `+HH:MM` or `-HH:MM` (RFC 3339, section 5.6, without leap seconds). None where
-/// the text is none, or what it spells is before the year 1 or after the year 9999 in UTC. It takes no memory.
+/// Reads the moment in a text: `YYYY-MM-DD`, `T` or `t`, `HH:MM:SS`, optionally a point and digits, which count to the
+/// nanosecond, and `Z`, `z`, `+HH:MM` or `-HH:MM` (RFC 3339, section 5.6, without leap seconds). Returns `None` if the text is not
+/// of
+/// this form, or if its moment is before the year 1 or after the year 9999 in UTC. This takes no memory.
 pub fn read_moment(text: &str) -> Option<Moment>
     // PROMISE: A moment's text is read as the moment that it spells.
     ensures value { IfSome result (ReadsMoment text.now) }

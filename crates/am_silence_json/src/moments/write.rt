@@ -1,4 +1,4 @@
-//! Texts out of moments.
+//! Writing the texts of moments.
 
 ghost use Rattle.std.specs.Prelude.{◌≡◌, ◌<◌, ◌≤◌, ◌+◌, ◌*◌, pos, ◌+ℤ◌, ◌*ℤ◌, ◌≤ℤ◌};
 ghost use Rattle.jiff_core.specs.Date.{epoch_day};
@@ -12,13 +12,13 @@ use jiff_core::civil::Date;
 use std::marker::Model;
 use std::str;
 
-/// Seconds from the first moment, 0001-01-01T00:00:00Z, to 1970.
+/// The number of seconds from the first moment, 0001-01-01T00:00:00Z, to 1970.
 const SECONDS_BEFORE_1970: i64 = 62_135_596_800;
 
-/// Days from the calendar's first date to 0001-01-01.
+/// The number of days from the calendar's first date to 0001-01-01.
 const DAYS_BEFORE_YEAR_1: u32 = 3_652_425;
 
-/// The 24 bytes of a moment's text, which contracts see as their list.
+/// The 24 bytes of a moment's text, which contracts see as a list.
 #[derive(Clone, Copy)]
 pub struct MomentText {
     bytes: [u8; 24],
@@ -45,7 +45,7 @@ impl MomentText {
     }
 }
 
-/// What a clock shows on a date, at a second of the day.
+/// Returns the reading of a clock on a date, at a second of the day.
 fn clock_of(date: Date, second: u32) -> Clock
     requires year_in { pos 0 ≤ℤ date.year }
     requires second_in { second < 86400 }
@@ -63,7 +63,7 @@ fn clock_of(date: Date, second: u32) -> Clock
     }
 }
 
-/// What a clock in UTC shows so many seconds after the first moment.
+/// Returns the reading of a clock in UTC a number of seconds after the first moment.
 fn clock_at(seconds: u64) -> Clock
     requires { seconds < 315_537_897_600 }
     ensures real { IsReal result }
@@ -75,7 +75,7 @@ fn clock_at(seconds: u64) -> Clock
     clock_of(Date::from_days_since_min(days + DAYS_BEFORE_YEAR_1), second)
 }
 
-/// Seconds since the first moment, of those since 1970.
+/// Converts seconds since 1970 into seconds since the first moment.
 fn since_least(seconds: i64) -> u64
     requires not_before { pos 0 ≤ℤ (seconds +ℤ pos seconds_before_1970) }
     requires not_after { seconds ≤ℤ pos 253_402_300_799 }
@@ -84,7 +84,7 @@ fn since_least(seconds: i64) -> u64
     (seconds + SECONDS_BEFORE_1970) as u64
 }
 
-/// The digit of a number below 10.
+/// Returns the digit of a number below 10.
 fn digit(n: u8) -> u8
     requires { n < 10 }
     ensures { result ≡ 48 + n }
@@ -92,7 +92,7 @@ fn digit(n: u8) -> u8
     b'0' + n
 }
 
-/// The bytes of what a clock in UTC shows, and so many milliseconds.
+/// Returns the bytes for the reading of a clock in UTC and milliseconds.
 fn bytes_of(clock: Clock, millis: u16) -> [u8; 24]
     requires real { IsReal clock }
     requires millis_in { millis < 1000 }
@@ -129,7 +129,8 @@ fn bytes_of(clock: Clock, millis: u16) -> [u8; 24]
     ]
 }
 
-/// The text of a moment: `YYYY-MM-DDTHH:MM:SS.mmmZ`, in UTC, the nanoseconds cut to milliseconds. It takes no memory.
+/// Returns the text of a moment: `YYYY-MM-DDTHH:MM:SS.mmmZ`, in UTC, with the nanoseconds cut to milliseconds. This takes no
+/// memory.
 pub fn write_moment(moment: Moment) -> MomentText
     ensures { WritesMoment moment result }
 {

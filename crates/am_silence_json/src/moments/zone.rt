@@ -6,7 +6,7 @@ ghost use Rattle.am_silence_json.specs.Zones.{IsZone, IsNumeric, IsSign, offset_
 
 use crate::moments::digits::{byte_at, two_at};
 
-/// How far a clock is ahead of UTC, or behind it: less than a day.
+/// The offset of a clock ahead of UTC or behind it, less than a day.
 #[derive(Clone, Copy)]
 pub struct Offset {
     pub behind: bool,
@@ -17,7 +17,7 @@ pub struct Offset {
 impl Offset {
     ghost use Rattle.am_silence_json.specs.Zones.{offset_size};
 
-    /// The seconds of the offset, without its sign.
+    /// Returns the number of seconds in the offset, without its sign.
     pub fn size(self) -> u32
         ensures { result ≡ offset_size self }
     {
@@ -25,7 +25,7 @@ impl Offset {
     }
 }
 
-/// Whether the sign says that the clock is behind UTC.
+/// Returns whether the sign says that the clock is behind UTC.
 fn read_sign(byte: u8) -> Option<bool>
     ensures value { IfSome result (IsSign byte) }
     ensures only { (b : Bool) → IsSign byte b → result ≡ Some b }
@@ -37,7 +37,7 @@ fn read_sign(byte: u8) -> Option<bool>
     }
 }
 
-/// The sign, hours and minutes that the text is.
+/// Reads the text as a sign, hours and minutes.
 fn read_numeric(text: &[u8]) -> Option<Offset>
     ensures value { IfSome result (IsNumeric text.now) }
     ensures only { (o : Offset) → IsNumeric text.now o → result ≡ Some o }
@@ -59,7 +59,7 @@ fn read_numeric(text: &[u8]) -> Option<Offset>
     })
 }
 
-/// The offset that the whole text is.
+/// Reads the whole text as an offset.
 pub fn read_zone(text: &[u8]) -> Option<Offset>
     ensures value { IfSome result (IsZone text.now) }
     ensures only { (o : Offset) → IsZone text.now o → result ≡ Some o }

@@ -1,4 +1,4 @@
--- A field that is spelled is read, whatever follows it.
+-- A spelled field is read, whatever follows it.
 use Rattle.std.proofs.Common.{◌≡◌, ℕ, ◌+◌, ◌*◌, ◌/◌, ◌%◌, ◌^◌, ◌<◌, Bool, ltb, true, false, List, ◌++◌, length, take, drop, Ok, refl, sym}
 use Rattle.std.proofs.Common.{ap, ◌∙◌, append_assoc, length-append, arith}
 use Rattle.std.proofs.lemmas.Bool.{lt-ltb, le-ltb}
@@ -38,7 +38,7 @@ kind_of_is at n kind =
     let e : (n * 8 + wire_code kind) % 8 ≡ wire_code kind = omega arith in
     ap (kind_of at) e ∙ kind_of-wire_code at kind
 
--- the payload at the front
+-- a payload that is spelled is read
 pub payload_read : (p : Payload) (at start : ℕ) (text rest : List ℕ) → IsPayload p start text
     → payload_at (wire_type_of p) at start (text ++ rest) ≡ Ok (p, length text)
 unfolding payload_at number_at payload_behind_length

@@ -1,4 +1,4 @@
--- A moment that is written is read again, by itself and inside a message.
+-- A moment that is written is read back, by itself and inside a message.
 use Rattle.std.proofs.Common.{◌≡◌, ℕ, ◌/◌, ◌%◌, ◌^◌, ◌<◌, ◌≤◌, Bool, ltb, true, cond, List, [], ◌∷◌, length, Some, None, Ok, refl, ap, ◌∙◌}
 use Rattle.std.proofs.Common.{arith}
 use Rattle.std.proofs.lemmas.Bool.{lt-ltb, and_from}
@@ -18,7 +18,7 @@ seconds_again m h = omega arith
 nanos_again : (m : ℕ) → low_half (m % 1_000_000_000) ≡ m % 1_000_000_000
 nanos_again m = omega arith
 
--- a moment's text is read as the moment, wherever it stands
+-- a moment's text is read as the moment, at any offset
 pub moment_reads : (m : ℕ) → m ≤ greatest → length (writes_moment m) < 2 ^ 64 → ReadsAs timestamp timestamp_tests moment (writes_moment m) m
 unfolding writes_moment
 moment_reads m h small =

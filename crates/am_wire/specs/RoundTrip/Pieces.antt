@@ -1,4 +1,4 @@
--- Pieces that come one after the other.
+-- Pieces that follow one another.
 use Rattle.std.proofs.Common.{◌≡◌, ℕ, zero, suc, ◌+◌, ◌-◌, ◌<◌, ◌≤◌, List, [], ◌∷◌, ◌++◌, length, map, drop, Result, Ok, refl, sym, ap, ◌∙◌}
 use Rattle.std.proofs.Common.{length-append, arith}
 use Rattle.std.proofs.lemmas.List.{drop_at}
@@ -7,12 +7,12 @@ use Rattle.am_wire.specs.declared.error.WireError.{WireError}
 use Rattle.am_wire.specs.Fields.{pieces}
 use Rattle.am_wire.specs.Grammar.{AreSpelled}
 
--- what is read without a fault
+-- the result of reading without a fault
 abbrev pub done : {A : Type 0} → A → Result A WireError
 done x = Ok x
 
 module _ {A : Type 0} (front : ℕ → List ℕ → Result (A × ℕ) WireError) where
-  -- what is passed over is no part of the pieces to come
+  -- bytes that are skipped are no part of the pieces to come
   pub pieces-skip : (skip at : ℕ) (bytes : List ℕ) → pieces front skip at bytes ≡ pieces front 0 (at + skip) (drop skip bytes)
   unfolding pieces
   pieces-skip skip at [] = simp drop-nil refl
@@ -33,7 +33,7 @@ module _ {A : Type 0} (front : ℕ → List ℕ → Result (A × ℕ) WireError)
       one ∙ ap (λ (r : List (Result A WireError)). Ok x.0 ∷ r) (two ∙ ap (λ (n : ℕ). pieces front 0 n (drop (x.1 - 1) bytes)) place
       ∙ ap (λ (r : List ℕ). pieces front 0 (at + x.1) r) rest)
 
--- `front` reads what is spelled, whatever follows
+-- `front` reads this item from its text, whatever follows
 pub record Reads {A : Type 0} (front : ℕ → List ℕ → Result (A × ℕ) WireError) (x : A) (at : ℕ) (text : List ℕ) : Type 0 where
   pub filled : 0 < length text
   pub reads : (rest : List ℕ) → front at (text ++ rest) ≡ Ok (x, length text)
@@ -45,7 +45,7 @@ module _ {A : Type 0} (front : ℕ → List ℕ → Result (A × ℕ) WireError)
       pieces-first front at (text ++ rest) (x, length text) (r.reads rest) r.filled (omega (arith, length-append text rest))
       ∙ ap (λ (bytes : List ℕ). Ok x ∷ pieces front 0 (at + length text) bytes) (drop_at text rest (length text) refl)
 
-  -- so it reads the pieces of a whole text
+  -- if `front` reads each spelled item, it reads the pieces of a whole text
   pub pieces-spelled : (Spells : A → ℕ → List ℕ → Type 0) → ((x : A) (at : ℕ) (text : List ℕ) → Spells x at text → Reads front x at text)
       → (xs : List A) (at : ℕ) (bytes : List ℕ) → AreSpelled Spells xs at bytes → pieces front 0 at bytes ≡ map done xs
   unfolding pieces

@@ -1,4 +1,4 @@
--- Fields that were written are read again, whatever follows them.
+-- Fields that are written are read back, whatever follows them.
 use Rattle.std.proofs.Common.{◌≡◌, ℕ, ◌+◌, ◌*◌, ◌^◌, ◌<◌, ◌≤◌, Bool, eqb, true, false, cond, List, [], ◌∷◌, ◌++◌, length, map, Option, None}
 use Rattle.std.proofs.Common.{Result, refl, sym, ap, ◌∙◌, append_assoc, length-append, arith}
 use Rattle.std.specs.List.{flat_map}
@@ -19,7 +19,7 @@ use Rattle.am_wire.specs.RoundTrip.Fields.{field_read}
 pub record Puts (fits : ℕ → WireType → Bool) (at : ℕ) (text : List ℕ) (es : List FieldAt) : Type 0 where
   pub reads : (rest : List ℕ) → fields_of fits at (text ++ rest) ≡ map done es ++ fields_of fits (at + length text) rest
 
--- ---- the fields that are written for a number, for bytes, for a text, and for many texts
+-- ---- the fields written for a number, for bytes, for a text, and for several texts
 abbrev pub number_field : ℕ → ℕ → ℕ → FieldAt
 number_field n v at = record { number = n; payload = varint v; at = at }
 
@@ -28,11 +28,11 @@ abbrev pub delimited_field : ℕ → List ℕ → ℕ → FieldAt
 delimited_field n bytes at =
     record { number = n; payload = delimited_at (at + length (tag n 2) + length (shortest (length bytes))) bytes; at = at }
 
--- the fields of a number: none where it is 0
+-- the fields of a number: none if it is 0
 abbrev pub number_fields : ℕ → ℕ → ℕ → List FieldAt
 number_fields n v at = cond (eqb v 0) [] (number_field n v at ∷ [])
 
--- the fields of a text: none where it is empty
+-- the fields of a text: none if it is empty
 abbrev pub text_fields : ℕ → List ℕ → ℕ → List FieldAt
 text_fields n bytes at = cond (eqb (length bytes) 0) [] (delimited_field n bytes at ∷ [])
 
@@ -142,7 +142,7 @@ pub sound_fields-done : (es : List FieldAt) → sound_fields (map done es) ≡ e
 sound_fields-done [] = refl
 sound_fields-done (e ∷ es) = ap (λ (x : List FieldAt). e ∷ x) (sound_fields-done es)
 
--- nothing in the fields is at fault
+-- the fields have no fault inside
 abbrev pub AllClean : (FieldAt → Option WireError) → List FieldAt → Type 0
 AllClean inside [] = Unit {0}
 AllClean inside (e ∷ es) = (inside e ≡ None) × AllClean inside es

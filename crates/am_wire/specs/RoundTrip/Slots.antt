@@ -1,4 +1,4 @@
--- What a message writes at each of its numbers, and what is seen in the fields that are read of it.
+-- The slots that a message writes, one for each of its numbers, and the fields that are read back from them.
 use Rattle.std.proofs.Common.{◌≡◌, ℕ, ◌+◌, ◌^◌, ◌<◌, ◌≤◌, Bool, ltb, eqb, true, false, cond, ◌&&◌, List, [], ◌∷◌, ◌++◌, length, None, refl}
 use Rattle.std.proofs.Common.{sym, ap, ◌∙◌, length-append, arith}
 use Rattle.std.specs.List.{flat_map}
@@ -12,8 +12,8 @@ use Rattle.am_wire.specs.Writing.{writes_number, writes_text, writes_delimited}
 use Rattle.am_wire.specs.RoundTrip.Puts.{AllClean, number_field, number_fields, text_fields, delimited_field, delimited_fields}
 
 -- ---- what is written
--- a number that is left out where it is 0, bytes that are left out where there are none, a message, and messages:
--- all their bytes, and the text of each
+-- the content of a slot: a number, which is left out if it is 0; bytes, which are left out if there are none; a message; or
+-- messages, as all their bytes and the text of each
 pub data Content : Type 0 where
   number : ℕ → Content
   text : List ℕ → Content
@@ -25,30 +25,30 @@ pub record Slot : Type 0 where
   pub slot_number : ℕ
   pub content : Content
 
--- a slot of these parts
+-- the slot of this number and content
 abbrev pub slot : ℕ → Content → Slot
 slot n c = record { slot_number = n; content = c }
 
--- what is written for a content
+-- the bytes written for a content
 abbrev pub put : ℕ → Content → List ℕ
 put n (number v) = writes_number n v
 put n (text bytes) = writes_text n bytes
 put n (part bytes) = writes_delimited n bytes
 put n (items bytes texts) = bytes
 
--- the bytes of a message; the slot that is written last comes first
+-- the bytes of a message, whose slots are listed from the last written to the first
 abbrev pub written : List Slot → List ℕ
 written [] = []
 written (s ∷ before) = written before ++ put s.slot_number s.content
 
--- ---- the fields that are read of it
+-- ---- the fields that are read from slots
 unfoldable pub slot_fields : ℕ → Content → ℕ → List FieldAt
 slot_fields n (number v) at = number_fields n v at
 slot_fields n (text bytes) at = text_fields n bytes at
 slot_fields n (part bytes) at = delimited_field n bytes at ∷ []
 slot_fields n (items bytes texts) at = delimited_fields n texts at
 
--- the fields of slots, the last of which comes first
+-- the fields of slots, which are listed from the last written to the first
 unfoldable pub fields_at : ℕ → List Slot → List FieldAt
 fields_at at [] = []
 fields_at at (s ∷ before) = fields_at at before ++ slot_fields s.slot_number s.content (at + length (written before))
@@ -58,7 +58,7 @@ abbrev pub content_at : ℕ → List Slot → Content
 content_at n [] = number 0
 content_at n (s ∷ before) = cond (eqb s.slot_number n) s.content (content_at n before)
 
--- where the text of a number begins
+-- the offset at which the text for a number begins
 abbrev pub place_at : ℕ → ℕ → List Slot → ℕ
 place_at n at [] = at
 place_at n at (s ∷ before) = cond (eqb s.slot_number n) (at + length (written before)) (place_at n at before)
@@ -72,7 +72,7 @@ is_new n (s ∷ before) = cond (eqb s.slot_number n) false (is_new n before)
 abbrev pub is_next : ℕ → List Slot → Bool
 is_next n before = ltb 0 n && (ltb n (2 ^ 29) && is_new n before)
 
--- the same as a fact
+-- the number may be written next: a field may have it, and no slot has it yet
 pub record IsNext (n : ℕ) (before : List Slot) : Type 0 where
   pub low : 0 < n
   pub high : n < 2 ^ 29
@@ -84,7 +84,7 @@ IsNext-from n before h =
     let b = and_parts _ _ a.1 in
     record { low = ltb-true _ _ a.0; high = ltb-true _ _ b.0; new = b.1 }
 
--- no two slots have one number
+-- no two slots have the same number
 abbrev pub AreDistinct : List Slot → Type 0
 AreDistinct [] = Unit {0}
 AreDistinct (s ∷ before) = (is_new s.slot_number before ≡ true) × AreDistinct before
@@ -123,7 +123,7 @@ module _ {A : Type 0} (view : FieldAt → List A) (n : ℕ) where
       ∙ ap (λ (x : List A). cond (eqb m n) (view e) [] ++ x) (picked-numbered m es h.1)
       ∙ both
 
-  -- a number that is not written
+  -- a number that is not written has no fields
   pub picked-new : (at : ℕ) (slots : List Slot) → is_new n slots ≡ true → picked view n (fields_at at slots) ≡ []
   unfolding fields_at
   picked-new at [] h = refl
@@ -182,7 +182,7 @@ length-content_at n (s ∷ before) =
     ] refl
 
 -- ---- a number's row
--- any field may stand at an unknown number
+-- the row of an unknown number, which takes any field
 abbrev pub unknown_row : ℕ → Row
 unknown_row n = record { row_number = n; takes = λ kind. true; row_inside = λ e. None }
 

@@ -1,20 +1,20 @@
--- A number that is spelled is read, and the shortest spelling is one.
+-- A spelled number is read, and the shortest spelling is a spelling.
 use Rattle.std.proofs.Common.{◌≡◌, ℕ, zero, suc, ◌+◌, ◌*◌, ◌/◌, ◌%◌, ◌^◌, ◌<◌, ◌≤◌, ltb, cond, true, false, List, [], ◌∷◌, ◌++◌, length}
 use Rattle.std.proofs.Common.{Result, Ok, sym, ap, ◌∙◌, arith, inl, inr}
 use Rattle.std.proofs.lemmas.Bool.{lt-ltb, le-ltb, cases_lt}
 use Rattle.am_wire.specs.declared.error.WireError.{WireError}
 use Rattle.am_wire.specs.Varint.{total, IsChain, varint_within, groups, IsVarint, shortest}
 
--- what is read of a spelling: its number and its length
+-- the result of reading a spelling: its number and its length
 abbrev done : ℕ → ℕ → Result (ℕ × ℕ) WireError
 done n len = Ok (n, len)
 
--- what one number and `room` more bytes can say
+-- the bound of the numbers that `room` + 1 bytes can spell, if the last one of all of them is below 2
 abbrev pub bound : ℕ → ℕ
 bound zero = 2
 bound (suc room) = 128 * bound room
 
--- what is spelled is read, whatever follows
+-- a spelled number is read, whatever follows
 pub spelled : (at room : ℕ) (text rest : List ℕ) → IsChain text → length text ≤ room + 1 → total text < bound room
     → varint_within at room (text ++ rest) ≡ Ok (total text, length text)
 unfolding varint_within
@@ -35,7 +35,7 @@ spelled at (suc room) (b ∷ c ∷ bs) rest chain len fits =
     let k : length (c ∷ bs) + 1 ≡ length (b ∷ c ∷ bs) = omega arith in
     rw (t, more) (ap (λ (n : ℕ). done (b % 128 + 128 * total (c ∷ bs)) n) k)
 
--- the bytes spell the number, in at most `room` and one of them
+-- the bytes spell the number, and have at most `room` + 1 bytes
 pub record IsSpelled (room n : ℕ) (text : List ℕ) : Type 0 where
   pub chain : IsChain text
   pub len : length text ≤ room + 1
@@ -45,7 +45,7 @@ pub longer : (b : ℕ) (text : List ℕ) → 128 ≤ b → IsChain text → IsCh
 longer b [] le chain = absurd chain
 longer b (c ∷ bs) le chain = (le, chain)
 
--- the shortest spelling is one
+-- the shortest spelling is a spelling
 pub groups_spell : (room n : ℕ) → n < bound room → IsSpelled room n (groups room n)
 unfolding groups
 groups_spell zero n fits =
@@ -64,7 +64,7 @@ groups_spell (suc room) n fits =
           })
     ]
 
--- what is written is read, whatever follows
+-- a number that is written is read back, whatever follows
 pub varint_again : (at n : ℕ) (rest : List ℕ) → n < 2 ^ 64 → varint_within at 9 (shortest n ++ rest) ≡ Ok (n, length (shortest n))
 varint_again at n rest fits =
     let s = groups_spell 9 n fits in

@@ -1,7 +1,7 @@
--- A message that is written slot by slot is read again.
+-- A message that is written slot by slot is read back.
 --
--- Build `IsWritten rows slots` by one call for each slot, in rising number; then take each value back by one
--- call for its number; last, join them by `reads_whole`.
+-- Build `IsWritten rows slots` by one call for each slot, in rising order of their numbers. Then take each value back by one
+-- call for its number. At last, join them by `reads_whole`.
 use Rattle.std.proofs.Common.{◌≡◌, ℕ, ◌+◌, ◌^◌, ◌<◌, Bool, eqb, true, false, cond, List, [], ◌∷◌, ◌++◌, length, map, Option, Some, None}
 use Rattle.std.proofs.Common.{Result, Ok, refl, sym, ap, subst, ◌∙◌, length-append, arith}
 use Rattle.std.specs.List.{All, flat_map}
@@ -32,19 +32,19 @@ use Rattle.am_wire.specs.RoundTrip.Slots.{Content, number, text, part, items, Sl
 use Rattle.am_wire.specs.RoundTrip.Slots.{place_at, is_next, IsNext, IsNext-from, AreDistinct, slot_fields_numbered, picked-slots}
 use Rattle.am_wire.specs.RoundTrip.Slots.{length-content_at, row_at, fits_by-row, AllClean-row}
 
--- the fields pass a message's tests, and are the value
+-- the fields pass a message's tests, and make the value
 pub record Means {A : Type 0} (tests : ℕ → List FieldAt → Option WireError)
     (value : List FieldAt → A) (es : List FieldAt) (v : A) : Type 0 where
   pub passes : (place : ℕ) → tests place es ≡ None
   pub value_is : value es ≡ v
 
--- wherever the text stands, nothing in it is at fault, and it is read as the value
+-- the text has no fault at any offset, and is read as the value
 pub record ReadsAs {A : Type 0} (table : Table) (tests : ℕ → List FieldAt → Option WireError)
     (value : List FieldAt → A) (bytes : List ℕ) (v : A) : Type 0 where
   pub clean : (at : ℕ) → faults_in table at bytes ≡ None
   pub means : (at : ℕ) → Means tests value (fields_in table at bytes) v
 
--- each of these values is read so of its own text
+-- each of these values is read back from its own text
 pub record EachReads {A : Type 0} (table : Table) (tests : ℕ → List FieldAt → Option WireError) (value : List FieldAt → A)
     (writes : A → List ℕ) (xs : List A) : Type 0 where
   pub each : All (λ x. length (writes x) < 2 ^ 64 → ReadsAs table tests value (writes x) x) xs
@@ -78,7 +78,7 @@ clean_if inside false e h = (h, tt)
 delimited_small : (n : ℕ) (bytes : List ℕ) → length (writes_delimited n bytes) < 2 ^ 64 → length bytes < 2 ^ 64
 delimited_small n bytes small = let h = length-writes_delimited n bytes in omega (arith, h)
 
--- a text that is left out is empty
+-- a text is shorter than 2 ^ 64 bytes if its field is, even if the field is left out
 text_small : (n : ℕ) (bytes : List ℕ) → length (writes_text n bytes) < 2 ^ 64 → length bytes < 2 ^ 64
 text_small n bytes =
     elim (eqb (length bytes) 0) as (λ b. eqb (length bytes) 0 ≡ b → length (cond b [] (writes_delimited n bytes)) < 2 ^ 64
@@ -88,7 +88,7 @@ text_small n bytes =
     ] refl
 
 module _ {rows : List Row} {before : List Slot} (w : IsWritten rows before) (n : ℕ) where
-  -- one slot more
+  -- one more slot is written
   one_more : (c : Content) → IsNext n before
       → ((at : ℕ) → length (put n c) < 2 ^ 64 → Puts (fits_by rows) at (put n c) (slot_fields n c at))
       → ((at : ℕ) → length (put n c) < 2 ^ 64 → AllClean (row_at rows n).row_inside (slot_fields n c at))
@@ -124,7 +124,7 @@ module _ {rows : List Row} {before : List Slot} (w : IsWritten rows before) (n :
       (λ at _. Puts-number (fits_by rows) n order.low order.high v at small (taken (varint_row n) kinds.Varint row refl))
       (λ at _. cleaned (varint_row n) (number_fields n v at) row (clean_if (varint_row n).row_inside (eqb v 0) (number_field n v at) refl))
 
-  -- bytes whose row takes them, and in which nothing is at fault
+  -- bytes are written that their row takes, and that have no fault inside
   written_bytes : (bytes : List ℕ) (row : Row) → ((at : ℕ) → row.row_inside (delimited_field n bytes at) ≡ None)
       → row.takes kinds.Bytes ≡ true → is_next n before ≡ true → row_at rows n ≡ row → IsWritten rows (slot n (text bytes) ∷ before)
   unfolding slot_fields
@@ -139,12 +139,12 @@ module _ {rows : List Row} {before : List Slot} (w : IsWritten rows before) (n :
       → IsWritten rows (slot n (text bytes) ∷ before)
   written_text bytes utf8 next row = written_bytes bytes (text_row n) (λ at. text_is_clean at bytes utf8) refl next row
 
-  -- bytes that need not be a text
+  -- bytes are written that need not be a text
   pub written_blob : (bytes : List ℕ) → is_next n before ≡ true → row_at rows n ≡ blob_row n → IsWritten rows (slot n (text bytes) ∷ before)
   written_blob bytes next row = written_bytes bytes (blob_row n) (λ at. refl) refl next row
 
   module _ {A : Type 0} {table : Table} {tests : ℕ → List FieldAt → Option WireError} {value : List FieldAt → A} where
-    -- a message that the message holds once
+    -- a message is written that is held once
     pub written_part : {bytes : List ℕ} {v : A} → (length bytes < 2 ^ 64 → ReadsAs table tests value bytes v)
         → is_next n before ≡ true → row_at rows n ≡ part_row n table → IsWritten rows (slot n (part bytes) ∷ before)
     unfolding slot_fields
@@ -155,7 +155,7 @@ module _ {rows : List Row} {before : List Slot} (w : IsWritten rows before) (n :
         (taken (part_row n table) kinds.Bytes row refl))
         (λ at small. cleaned (part_row n table) (delimited_field n bytes at ∷ []) row ((inner (delimited_small n bytes small)).clean _, tt))
 
-    -- messages, each of them a field; a message x is written as `writes x`
+    -- messages are written, each in a field of its own; a message x is written as `writes x`
     module _ {writes : A → List ℕ} where
       items_clean : (xs : List A) (at : ℕ) → EachReads table tests value writes xs
           → length (writes_each_delimited n (map writes xs)) < 2 ^ 64
@@ -216,19 +216,19 @@ written_numbers w n xs small next row =
     written_bytes w n (flat_map shortest xs) (numbers_row n) (λ at. ap first_fault (unpacked_from at 0 xs small)
     ∙ first_fault-done xs) refl next row
 
--- ---- what is read of it
+-- ---- what is read back
 last_delimited_or : {A : Type 0} (view : FieldAt → List A) (d : A) (x : A) (b : Bool) (e : FieldAt) → view e ≡ x ∷ [] → (b ≡ true → x ≡ d)
     → last_or d (flat_map view (cond b [] (e ∷ []))) ≡ x
 last_delimited_or {A} view d x true e is none = sym (none refl)
 last_delimited_or {A} view d x false e is none = ap (λ (xs : List A). last_or d (xs ++ [])) is
 
 module _ {rows : List Row} {slots : List Slot} (w : IsWritten rows slots) (at n : ℕ) where
-  -- what is seen in the fields of the number
+  -- `view` gives the same for the fields with this number as for those of its slot
   seen : {A : Type 0} (view : FieldAt → List A) (c : Content) → content_at n slots ≡ c
       → picked view n (fields_at at slots) ≡ flat_map view (slot_fields n c (place_at n at slots))
   seen view c is = picked-slots view n at slots w.distinct ∙ ap (λ (x : Content). flat_map view (slot_fields n x (place_at n at slots))) is
 
-  -- nothing is written at the number
+  -- `view` gives nothing for a number that is not written
   pub nothing_again : {A : Type 0} (view : FieldAt → List A) → content_at n slots ≡ number 0 → picked view n (fields_at at slots) ≡ []
   unfolding slot_fields
   nothing_again view is = seen view (number 0) is
@@ -267,7 +267,11 @@ module _ {rows : List Row} {slots : List Slot} (w : IsWritten rows slots) (at n 
   unfolding slot_fields
   given_again {bytes} is = ap (last_or false) (seen delimited_given (part bytes) is)
 
-  -- the message's fields, read where its text stands
+  pub delimited_again : {bytes : List ℕ} → content_at n slots ≡ part bytes → picked delimited_in n (fields_at at slots) ≡ bytes ∷ []
+  unfolding slot_fields
+  delimited_again {bytes} is = seen delimited_in (part bytes) is
+
+  -- the message's fields are those of its text, at the offset of the text
   module _ (table : Table) where
     merged_again : {bytes : List ℕ} → content_at n slots ≡ part bytes
         → (p : ℕ) × (merged table n (fields_at at slots) ≡ fields_in table p bytes)
@@ -316,17 +320,19 @@ module _ {rows : List Row} {slots : List Slot} (w : IsWritten rows slots) (at n 
           ∙ values xs (place_at n at slots) inner (omega (arith, len, whole, same))
 
 -- ---- the whole message
+items_written : {rows : List Row} {slots : List Slot} → IsWritten rows slots → length (written slots) < 2 ^ 64 → (at : ℕ)
+    → fields_of (fits_by rows) at (written slots) ≡ map done (fields_at at slots)
+items_written {rows} {slots} w small at = Puts-whole (fits_by rows) at (written slots) (fields_at at slots) (w.puts at small)
+
+pub fields_written : {rows : List Row} {slots : List Slot} → IsWritten rows slots → length (written slots) < 2 ^ 64 → (at : ℕ)
+    → fields_in (table_of rows) at (written slots) ≡ fields_at at slots
+fields_written {rows} {slots} w small at = ap sound_fields (items_written w small at) ∙ sound_fields-done (fields_at at slots)
+
 pub reads_whole : {A : Type 0} {rows : List Row} {slots : List Slot} {tests : ℕ → List FieldAt → Option WireError}
     {value : List FieldAt → A} {v : A}
     → IsWritten rows slots → length (written slots) < 2 ^ 64
     → ((at : ℕ) → Means tests value (fields_at at slots) v) → ReadsAs (table_of rows) tests value (written slots) v
 reads_whole {A} {rows} {slots} {tests} {value} {v} w small means = record {
-  clean = λ at. ap (scan (inside_by rows)) (items at) ∙ scan-done (inside_by rows) (fields_at at slots) (w.clean at small);
-  means = λ at. subst (λ (es : List FieldAt). Means tests value es v) (sym (fields at)) (means at);
+  clean = λ at. ap (scan (inside_by rows)) (items_written w small at) ∙ scan-done (inside_by rows) (fields_at at slots) (w.clean at small);
+  means = λ at. subst (λ (es : List FieldAt). Means tests value es v) (sym (fields_written w small at)) (means at);
 }
-  where
-    items : (at : ℕ) → fields_of (fits_by rows) at (written slots) ≡ map done (fields_at at slots)
-    items at = Puts-whole (fits_by rows) at (written slots) (fields_at at slots) (w.puts at small)
-
-    fields : (at : ℕ) → fields_in (table_of rows) at (written slots) ≡ fields_at at slots
-    fields at = ap sound_fields (items at) ∙ sound_fields-done (fields_at at slots)

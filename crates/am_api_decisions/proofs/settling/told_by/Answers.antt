@@ -6,4 +6,4 @@ use Rattle.am_api_decisions.proofs.settling.told_by.Goals as goal
 
 pub returns-in-Decided : goal.returns-in-Decided
 returns-in-Decided c =
-    rw c.in-Decided.is (subst (λ (why : Why). Says (IsAnswerBytes c.args.timing c.args.group c.args.tally why) c.told_of.result) c.why_of.ensures c.told_of.ensures)
+    rw c.in-Decided.is (subst (λ (why : Why). Says (IsAnswerBytes c.args.timing c.args.group c.args.tally why) c.told_of.result) c.why_of-why.ensures c.told_of.ensures)

@@ -7,6 +7,6 @@ use Rattle.am_beside.proofs.Begun.{as_read}
 use Rattle.am_beside.proofs.reading.begin_row.Goals as goal
 
 pub returns : goal.returns
-returns g c = λ start.
+returns g c = λ unknown start.
     let keys = key_order g.met.V.Key.Ord.total g.met.V.Version.exact_keys in
-    rw c.new-held.ensures (as_read g.V.Message.reads g.V.Version.seen g.V.Key.Ord.cmp start start _ [] [] [] (reads_none g.V.Message.reads most start _ c.new-rows.ensures) tt (IsBestAt-nil g.V.Version.seen g.V.Key.Ord.cmp keys))
+    rw c.new-held.ensures (as_read (g.V.Message.reads unknown) g.V.Version.seen g.V.Key.Ord.cmp start start _ [] [] [] (reads_none (g.V.Message.reads unknown) most start _ c.new-rows.ensures) tt (IsBestAt-nil g.V.Version.seen g.V.Key.Ord.cmp keys))

@@ -1,3 +1,4 @@
+use Rattle.am_wire.specs.declared.unknown.Unknown.TheVariants.{Drop}
 use Rattle.std.proofs.Common.{◌≡◌, [], true}
 use Rattle.std.specs.Prelude.{All}
 use Rattle.am_instance.specs.Replies.{IsNothing}
@@ -7,13 +8,13 @@ use Rattle.am_steps.specs.Recorded.{AreValues}
 use Rattle.am_cluster.specs.declared.recording.Kind.TheVariants as kinds
 use Rattle.am_cluster.specs.Recording.{brings_or_makes}
 use Rattle.am_cluster.specs.Ties.{CanFly}
-use Rattle.am_cluster.proofs.Acted.{all_fly_from, brings_nothing, can_be_next, on_ok, on_ok_and, told_frames, values_known}
+use Rattle.am_cluster.proofs.Acted.{all_fly_from, all_sound, brings_nothing, can_be_next, on_ok, on_ok_and, told_frames, values_known}
 use Rattle.am_cluster.proofs.events.step_and_record.Goals as goal
 
 pub write_answer-requires : goal.write_answer-requires
 write_answer-requires c =
     let values = values_known c.args.event c.step_of-answer.new.instance c.step_of-answer.result
-    (λ made silences log. c.values_are_delivered.ensures c.args.event made c.requires.values silences log) c.step_of-answer.ensures.silences c.step_of-answer.ensures.log
+    (λ made silences log. c.values_are_delivered.ensures Drop c.args.event made c.requires.values silences log) c.step_of-answer.ensures.silences c.step_of-answer.ensures.log
     c.step_of-answer.ensures.held_silences c.step_of-answer.ensures.held_log c.step_of-answer.ensures.maps in (
       c.requires.room,
       c.args.event,
@@ -22,10 +23,10 @@ write_answer-requires c =
         room_for_it = c.requires.enough;
         silences =
             can_be_next silence_state c.steps_are_possible.ensures.silences c.args.journal.now.members c.args.journal.now.silences c.args.entry.now c.args.event c.args.instance.now c.step_of-answer.new.instance c.step_of-answer.result
-            c.requires.ready.silences c.step_of-answer.ensures.step values;
+            c.requires.ready.silences c.requires.ready.unknown c.requires.ready.whole c.step_of-answer.ensures.step values;
         log =
             can_be_next log_state c.steps_are_possible.ensures.log c.args.journal.now.members c.args.journal.now.log c.args.entry.now c.args.event c.args.instance.now c.step_of-answer.new.instance c.step_of-answer.result
-            c.requires.ready.log c.step_of-answer.ensures.step values;
+            c.requires.ready.log c.requires.ready.unknown c.requires.ready.whole c.step_of-answer.ensures.step values;
         not_refused = c.step_of-answer.ensures.not_refused;
         idle = on_ok (λ o. collects c.args.event ≡ true → (o.frames.items ≡ []) × (o.unsent.memory ≡ 0)) c.args.instance.now c.step_of-answer.new.instance c.args.event c.args.entry.now.moment c.step_of-answer.result
             (λ o step collecting. (c.collecting_leaves_nothing_out.ensures.frames c.args.instance.now c.step_of-answer.new.instance c.args.event c.args.entry.now.moment o collecting step, c.collecting_leaves_nothing_out.ensures.memory c.args.instance.now c.step_of-answer.new.instance c.args.event c.args.entry.now.moment o collecting step)) c.step_of-answer.ensures.step;
@@ -38,16 +39,16 @@ write_answer-requires c =
 pub returns : goal.returns
 returns c =
     let values = values_known c.args.event c.step_of-answer.new.instance c.step_of-answer.result
-    (λ made silences log. c.values_are_delivered.ensures c.args.event made c.requires.values silences log) c.step_of-answer.ensures.silences c.step_of-answer.ensures.log
+    (λ made silences log. c.values_are_delivered.ensures Drop c.args.event made c.requires.values silences log) c.step_of-answer.ensures.silences c.step_of-answer.ensures.log
     c.step_of-answer.ensures.held_silences c.step_of-answer.ensures.held_log c.step_of-answer.ensures.maps in
     let recorded = c.write_answer.ensures c.args.event c.requires.coming (record {
       room_for_it = c.requires.enough;
       silences =
           can_be_next silence_state c.steps_are_possible.ensures.silences c.args.journal.now.members c.args.journal.now.silences c.args.entry.now c.args.event c.args.instance.now c.step_of-answer.new.instance c.step_of-answer.result
-          c.requires.ready.silences c.step_of-answer.ensures.step values;
+          c.requires.ready.silences c.requires.ready.unknown c.requires.ready.whole c.step_of-answer.ensures.step values;
       log =
           can_be_next log_state c.steps_are_possible.ensures.log c.args.journal.now.members c.args.journal.now.log c.args.entry.now c.args.event c.args.instance.now c.step_of-answer.new.instance c.step_of-answer.result
-          c.requires.ready.log c.step_of-answer.ensures.step values;
+          c.requires.ready.log c.requires.ready.unknown c.requires.ready.whole c.step_of-answer.ensures.step values;
       not_refused = c.step_of-answer.ensures.not_refused;
       idle = on_ok (λ o. collects c.args.event ≡ true → (o.frames.items ≡ []) × (o.unsent.memory ≡ 0)) c.args.instance.now c.step_of-answer.new.instance c.args.event c.args.entry.now.moment c.step_of-answer.result
           (λ o step collecting. (c.collecting_leaves_nothing_out.ensures.frames c.args.instance.now c.step_of-answer.new.instance c.args.event c.args.entry.now.moment o collecting step, c.collecting_leaves_nothing_out.ensures.memory c.args.instance.now c.step_of-answer.new.instance c.args.event c.args.entry.now.moment o collecting step)) c.step_of-answer.ensures.step;
@@ -59,8 +60,9 @@ returns c =
       step = c.step_of-answer.ensures.step;
       recorded = recorded;
       can_fly = told_frames c.args.entry.now.source (CanFly c.args.journal.now.members c.args.entry.now.place) c.step_of-answer.result recorded.frames c.write_answer.result
-          (on_ok_and (λ o. AreValues c.args.event o c.step_of-answer.new.instance) (λ o. All (CanFly c.args.journal.now.members c.args.entry.now.place) o.frames.items) c.args.instance.now c.step_of-answer.new.instance c.args.event c.args.entry.now.moment c.step_of-answer.result
+          (on_ok_and (λ o. AreValues Drop c.args.event o c.step_of-answer.new.instance) (λ o. All (CanFly c.args.journal.now.members c.args.entry.now.place) o.frames.items) c.args.instance.now c.step_of-answer.new.instance c.args.event c.args.entry.now.moment c.step_of-answer.result
           (λ o known step. all_fly_from c.args.instance.now.config c.args.journal.now.members c.args.entry.now.place o.frames.items c.requires.ready.own_place c.requires.ready.all_members
-          (c.sent_frames_are_sound.ensures.sound c.args.instance.now c.step_of-answer.new.instance c.args.event c.args.entry.now.moment o step known) (c.sent_frames_are_sound.ensures.addressed c.args.instance.now c.step_of-answer.new.instance c.args.event c.args.entry.now.moment o step))
+          (all_sound c.args.instance.now c.step_of-answer.new.instance c.args.event o c.requires.ready.unknown
+          (λ are. c.sent_frames_are_sound.ensures.sound c.args.instance.now c.step_of-answer.new.instance c.args.event c.args.entry.now.moment o step are c.requires.ready.whole) known) (c.sent_frames_are_sound.ensures.addressed c.args.instance.now c.step_of-answer.new.instance c.args.event c.args.entry.now.moment o step))
           values c.step_of-answer.ensures.step) recorded.told;
     }

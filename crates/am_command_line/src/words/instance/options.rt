@@ -1,10 +1,11 @@
 //! The options of `instance`.
 
+use crate::words::KEEP_UNKNOWN;
 use crate::words::options::{Named, Takes, command_of};
 use clap::Command;
 use std::alloc::{AllocError, Global};
 
-/// The command with its options, under a name.
+/// Returns the command with its options, under a name.
 pub fn command<'a>(alloc: Global, name: &'a str) -> Result<Command<'a>, AllocError> {
     command_of(alloc, name, ABOUT, AFTER, &OPTIONS)
 }
@@ -12,8 +13,8 @@ pub fn command<'a>(alloc: Global, name: &'a str) -> Result<Command<'a>, AllocErr
 const ABOUT: &str =
     "Runs one member: serves the silences of API v2 to people and tools, and frames to its peers";
 
-/// In the order of the help.
-static OPTIONS: [Named; 29] = [
+/// The options, in the order of the help.
+static OPTIONS: [Named; 32] = [
     Named {
         name: "name",
         value: "NAME",
@@ -63,6 +64,12 @@ static OPTIONS: [Named; 29] = [
         help: "Which regular expressions patterns are: regex, or re2, as an Alertmanager means them, which refuses more posts; without it re2 with --gossip, and else regex",
     },
     Named {
+        name: KEEP_UNKNOWN,
+        value: "",
+        takes: Takes::Nothing,
+        help: "Keeps the fields of versions that aren't known here, as those of a later Alertmanager, and sends them on; with --gossip it always does, and without either they are dropped",
+    },
+    Named {
         name: "host",
         value: "NAME",
         takes: Takes::Many,
@@ -105,6 +112,12 @@ static OPTIONS: [Named; 29] = [
         help: "For how many seconds a connection may last, of a client or to a peer, 1 to 3600",
     },
     Named {
+        name: "decide-limit",
+        value: "S",
+        takes: Takes::Default("10"),
+        help: "How many seconds a decision may take once its turn has come, 1 to 3600; then alerts that aren't held against all silences count as not muted",
+    },
+    Named {
         name: "at-once",
         value: "N",
         takes: Takes::Default("256"),
@@ -139,6 +152,12 @@ static OPTIONS: [Named; 29] = [
         value: "S",
         takes: Takes::One,
         help: "Ticks by itself every so many seconds, 1 to 999999999: drops what has expired, and saves both files",
+    },
+    Named {
+        name: "trust-clock",
+        value: "",
+        takes: Takes::Nothing,
+        help: "Ticks even where the clock went ahead by more than --retention in a moment; without it, it then drops nothing, and says so each minute",
     },
     Named {
         name: "pull-every",

@@ -7,7 +7,7 @@ use Rattle.am_commands.proofs.rows.take_within.Given as goal
 abbrev pub invariant-loop-rows : goal.invariant-loop-rows
 invariant-loop-rows g l =
     (bytes : List ℕ) × (versions : List g.row.V.Denot)
-    × ReadsSoFar g.V.Message.reads l.limit (g.R.Read.remaining l.fn.reader) (g.R.Read.remaining l.reader) l.rows bytes versions
+    × ReadsSoFar (g.V.Message.reads l.unknown) l.limit (g.R.Read.remaining l.fn.reader) (g.R.Read.remaining l.reader) l.rows bytes versions
     × IsMap g.V.Version.seen g.V.Key.Ord.cmp l.held
     × ((key : g.row.V-Key.Denot) → IsBestAt g.V.Version.seen versions key (at g.V.Version.seen g.V.Key.Ord.cmp l.held key))
 

@@ -18,7 +18,7 @@ some_came coming left (Err e) gives = gives.0
 
 pub loop-message-init : goal.loop-message-init
 loop-message-init g c =
-    let same = c.into_iter-message-iterator.ensures.into_iter_gives ∙ c.new-message-items.ensures in
+    let same = c.into_iter-message-iterator.ensures.into_iter_gives ∙ c.within-message-items.ensures in
     begins _ _ _ _ _ _ _ _ _ (ap before_fault (sym same)) (ap first_fault same ∙ c.requires)
 
 pub loop-message-preserved : goal.loop-message-preserved

@@ -31,10 +31,10 @@ returns-clause-kept c = λ test passes pass.
 pub returns-clause-answer : goal.returns-clause-answer
 returns-clause-answer c =
     let m = c.args.matcher.now in
-    let value = c.value_of-value.result.now in
+    let value = c.value-value.result.now in
     let found = c.if-is_regexp.found in
     let labels = c.args.labels.now in
-    let value_is : value ≡ value_in labels m.name = c.value_of-value.ensures ∙ ap (value_in labels) c.name.ensures in
+    let value_is : value ≡ value_in labels m.name = c.value-value.ensures ∙ ap (value_in labels) c.name.ensures in
     let wants : Wants m.kind found c.as_wanted.result = subst (λ (k : MatcherKind). Wants k found c.as_wanted.result) c.kind-2.ensures c.as_wanted.ensures in
     elim c.if-is_regexp.branch [
       | then-is_regexp+in_ok-found w ↦

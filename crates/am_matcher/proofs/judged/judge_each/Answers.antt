@@ -1,7 +1,10 @@
-use Rattle.std.proofs.Common.{◌≡◌, ◌∙◌, Bool, ◌&&◌, [], get_or, sym, ap, subst}
+use Rattle.std.proofs.Common.{◌≡◌, ◌∙◌, List, Bool, ◌&&◌, [], get_or, sym, ap, subst}
 use Rattle.std.proofs.lemmas.List.Elements.{All-more}
 use Rattle.std.proofs.lemmas.List.Folds.{list_all_more}
 use Rattle.am_silence.specs.declared.matcher.Matcher.{Matcher}
+use Rattle.am_matcher.specs.declared.dialect.Dialect.TheVariants.{Regex}
+use Rattle.am_matcher.specs.declared.labels.Label.{Label}
+use Rattle.am_matcher.specs.Dialects.{DoesMatch}
 use Rattle.am_matcher.specs.Matching.{IsSoundMatcher, IsBrokenMatcher, matches_value}
 use Rattle.am_matcher.proofs.HandedOn.{handed_on}
 use Rattle.am_matcher.proofs.Meant.{match_itself, refused_itself}
@@ -13,7 +16,8 @@ loop-matcher-preserved c =
     let here = c.matcher-item.result in
     let within = c.loop-matcher-test.true in
     let is : c.borrowed.result ≡ get_or c.args.matchers.now at here = c.borrowed.ensures ∙ c.matcher-item.is in
-    let judged = match_itself c.borrowed.result [] c.in_ok-matches.matches c.in_ok-matches.ensures.answer in
+    let judged = match_itself c.borrowed.result [] c.in_ok-matches.matches
+    (subst (λ (ls : List Label). DoesMatch Regex c.borrowed.result ls c.in_ok-matches.matches) c.none-labels.ensures c.in_ok-matches.ensures.answer) in
     let before = c.loop-matcher.invariant in record {
       answer =
           ap (λ (b : Bool). c.loop-matcher.every && b) (judged.0 ∙ ap (λ (m : Matcher). matches_value m []) is)

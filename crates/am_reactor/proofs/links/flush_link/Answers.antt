@@ -2,10 +2,10 @@ use Rattle.std.proofs.Common.{refl, inl, inr}
 use Rattle.am_reactor.proofs.links.flush_link.Goals as goal
 
 pub returns-in-Ok-Going-Idle-clause-moved : goal.returns-in-Ok-Going-Idle-clause-moved
-returns-in-Ok-Going-Idle-clause-moved g c = inr (inl (c.is_open.ensures.open (cc), record { mid = c.advance.new.self; open_ = c.advance.ensures.open; went = c.advance.ensures.out; next = inl (refl, refl) }))
+returns-in-Ok-Going-Idle-clause-moved g c = inr (inl (c.is_open.ensures.open (cc), record { mid = c.advance.new.self; open_ = c.advance.ensures.open; went = c.advance.ensures.out; next = inl (refl, refl, c.in-Ok-Going-Idle.ensures.heard) }))
 
 pub returns-in-Ok-Going-Busy-clause-moved : goal.returns-in-Ok-Going-Busy-clause-moved
-returns-in-Ok-Going-Busy-clause-moved g c = inr (inl (c.is_open.ensures.open (cc), record { mid = c.advance.new.self; open_ = c.advance.ensures.open; went = c.advance.ensures.out; next = inl (refl, refl) }))
+returns-in-Ok-Going-Busy-clause-moved g c = inr (inl (c.is_open.ensures.open (cc), record { mid = c.advance.new.self; open_ = c.advance.ensures.open; went = c.advance.ensures.out; next = inl (refl, refl, c.in-Ok-Going-Busy.ensures.heard) }))
 
 pub returns-in-Ok-Done-clause-moved : goal.returns-in-Ok-Done-clause-moved
 returns-in-Ok-Done-clause-moved g c = inr (inl (
@@ -14,7 +14,7 @@ returns-in-Ok-Done-clause-moved g c = inr (inl (
     mid = c.advance.new.self;
     open_ = c.advance.ensures.open;
     went = c.advance.ensures.out;
-    next = inr (inl (c.advance.ensures.done (cc), c.ask_more.ensures.asked));
+    next = inr (inl (c.advance.ensures.done (cc), c.in-Ok-Done.ensures.heard, c.advance.ensures.answered (cc), c.ask_more.ensures.asked));
   },
 ))
 

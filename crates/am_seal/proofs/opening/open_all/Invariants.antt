@@ -3,7 +3,7 @@ use Rattle.am_seal.proofs.Walked.{HasOpened}
 use Rattle.am_seal.proofs.opening.open_all.Given as goal
 
 abbrev pub invariant-loop-frame : goal.invariant-loop-frame
-invariant-loop-frame l = (l.used ≤ length l.bytes) × HasOpened l.lock l.sender l.bytes (drop l.used l.bytes) l.frames.items
+invariant-loop-frame l = (l.used ≤ length l.bytes) × HasOpened l.lock l.sender l.fn.place l.bytes l.reached (drop l.used l.bytes) l.frames.items
 
 abbrev pub decreases-loop-frame : goal.decreases-loop-frame
 decreases-loop-frame l = length l.bytes - l.used

@@ -1,7 +1,10 @@
 use Rattle.std.proofs.Common.{◌≡◌, take}
-use Rattle.std.specs.List.{flat_map}
-use Rattle.am_seal.specs.Seals.{sealed_frame}
+use Rattle.am_seal.specs.Seals.{sealed_frames}
+use Rattle.am_seal.specs.Sequences.{after}
 use Rattle.am_seal.proofs.seal.sealed_text.Given as goal
 
 abbrev pub invariant-loop-frame : goal.invariant-loop-frame
-invariant-loop-frame l = l.out.items ≡ flat_map (sealed_frame l.lock l.addressee) (take l.frame-index l.frames)
+invariant-loop-frame l = record {
+  text : l.text.items ≡ sealed_frames l.lock l.addressee l.fn.place (take l.frame-index l.frames);
+  next : l.next ≡ after l.frame-index l.fn.place;
+}

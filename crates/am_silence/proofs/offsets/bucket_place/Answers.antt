@@ -1,4 +1,4 @@
-use Rattle.std.proofs.Common.{◌≡◌, ℕ, ◌+◌, ◌<◌, List, ◌++◌, length, inr, sym, subst, ap, ◌∙◌, arith}
+use Rattle.std.proofs.Common.{◌≡◌, ℕ, ◌+◌, ◌<◌, List, ◌++◌, length, inr, sym, subst, ap, arith}
 use Rattle.am_wire.specs.Offsets.{Follows}
 use Rattle.am_wire.proofs.Offsets.{follows_past}
 use Rattle.am_silence.specs.declared.matcher.Matcher.{Matcher}

@@ -1,7 +1,7 @@
 use Rattle.std.proofs.Common.{rules, ◌≡◌, IfSome}
 use Rattle.std.specs.Option.{option_copied}
 use Rattle.std.proofs.lemmas.Result.{IfOk-weaker}
-use Rattle.am_silence.specs.Plans.{post_of, silence_in_view, plan_over, successor, Succeeds}
+use Rattle.am_silence.specs.Plans.{post_of, plan_over, successor, Succeeds}
 use Rattle.am_silence.proofs.Planning.{posted_passes, plan-succeeds}
 use Rattle.am_silence.proofs.Refusing.{posted_tells_no_memory}
 use Rattle.am_silence.proofs.plan.plan_post.Goals as goal
@@ -15,7 +15,7 @@ returns-clause-greater c =
     let passed = posted_passes (option_copied c.args.held) c.args.posted c.args.verdict c.args.now c.in_ok-held.ensures.tests in
     let post = post_of c.args.posted c.args.now c.args.bits c.args.retention in
     let greater = plan-succeeds (option_copied c.args.held) post passed.1 in
-    IfOk-weaker c.plan_over.result (λ plan. plan ≡ plan_over (silence_in_view (option_copied c.in_ok-held.held)) post)
+    IfOk-weaker c.plan_over.result (λ plan. plan ≡ plan_over (option_copied c.in_ok-held.held) post)
     (λ plan. IfSome (successor plan) (λ v. IfSome (option_copied c.args.held) (λ held. Succeeds held v)))
     (λ plan e. rw (e, c.in_ok-held.ensures.held) greater) c.plan_over.ensures.planned
 

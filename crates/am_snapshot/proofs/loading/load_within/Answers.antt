@@ -16,25 +16,25 @@ answered b = Ok b
 
 pub loop-rows-init : goal.loop-rows-init
 loop-rows-init g c =
-    rw c.new-held.ensures ([], [], reads_none g.V.Message.reads _ _ _ c.within-rows.ensures, tt, IsPermutation-refl [], distinct_none g.V.Version.seen)
+    rw c.new-held.ensures ([], [], reads_none (g.V.Message.reads c.args.unknown) _ _ _ c.within-rows.ensures, tt, IsPermutation-refl [], distinct_none g.V.Version.seen)
 
 pub returns-in_err-version-clause-stopped : goal.returns-in_err-version-clause-stopped
 returns-in_err-version-clause-stopped g c =
     let p = err_from_is_err_and c.from_residual.result c.from_residual.ensures.1 in
     let (bytes, versions, so_far, _, _, distinct) = c.loop-rows.invariant in
     let (row, read, answer) = c.in_err-version.ensures in
-    rw (p.1, p.2) (load_reading g.V.Version.seen g.V.Message.reads _ _ _ c.in_err-version.field-0.0
-    (reads_stop_with g.V.Message.reads _ _ _ _ _ _ bytes row versions so_far read (λ (all : List g.row.V.Denot). AreDistinct g.V.Version.seen all) distinct _ answer))
+    rw (p.1, p.2) (load_reading g.V.Version.seen (g.V.Message.reads c.args.unknown) _ _ _ c.in_err-version.field-0.0
+    (reads_stop_with (g.V.Message.reads c.args.unknown) _ _ _ _ _ _ bytes row versions so_far read (λ (all : List g.row.V.Denot). AreDistinct g.V.Version.seen all) distinct _ answer))
 
 pub returns-then-not-is_new-clause-stopped : goal.returns-then-not-is_new-clause-stopped
 returns-then-not-is_new-clause-stopped g c =
     let keys = key_order g.met.V.Key.Ord.total g.met.V.Version.exact_keys in
     let (bytes, versions, so_far, _, members, distinct) = c.loop-rows.invariant in
     let (row, read, answer) = rw c.in-Some.is at c.in_ok-version.ensures in
-    let one = reads_more g.V.Message.reads _ _ _ _ _ _ bytes row versions so_far read _ answer in
+    let one = reads_more (g.V.Message.reads c.args.unknown) _ _ _ _ _ _ bytes row versions so_far read _ answer in
     let found = some_found (at g.V.Version.seen g.V.Key.Ord.cmp c.loop-rows.held (g.V.Version.seen c.in-Some.version).key) c.in_ok-is_new.is_new c.in_ok-is_new.ensures.answer c.if-not-is_new.true in
     let was = earlier g.V.Version.seen g.V.Key.Ord.cmp keys versions c.loop-rows.held _ found.0 members found.1 in
-    load_repeat g.V.Version.seen g.V.Message.reads _ _ _ _ (bytes ++ row) versions c.in-Some.version found.0 one distinct was.1 was.0
+    load_repeat g.V.Version.seen (g.V.Message.reads c.args.unknown) _ _ _ _ (bytes ++ row) versions c.in-Some.version found.0 one distinct was.1 was.0
 
 pub loop-rows-preserved : goal.loop-rows-preserved
 loop-rows-preserved g c =
@@ -46,7 +46,7 @@ loop-rows-preserved g c =
     let none = none_found (at g.V.Version.seen g.V.Key.Ord.cmp c.loop-rows.held (g.V.Version.seen c.in-Some.version).key) c.in_ok-is_new.is_new c.in_ok-is_new.ensures.answer new in (
       bytes ++ row,
       versions ++ c.in-Some.version ∷ [],
-      reads_more g.V.Message.reads _ _ _ _ _ _ bytes row versions so_far read _ answer,
+      reads_more (g.V.Message.reads c.args.unknown) _ _ _ _ _ _ bytes row versions so_far read _ answer,
       put.order,
       members_more g.V.Version.seen g.V.Key.Ord.cmp keys c.loop-rows.held c.insert_new.new.self c.in-Some.version map put.order put.joined none versions members,
       distinct_more g.V.Version.seen g.V.Key.Ord.cmp keys c.loop-rows.held c.insert_new.new.self c.in-Some.version map put.order put.joined none versions members distinct,
@@ -56,13 +56,13 @@ pub returns-clause-members : goal.returns-clause-members
 returns-clause-members g c =
     let (bytes, versions, so_far, _, members, distinct) = c.loop-rows.invariant in
     let (row, read, answer) = rw c.in_default.is at c.in_ok-version.ensures in
-    load_end g.V.Version.seen g.V.Message.reads _ (g.R.Read.remaining c.next.new.reader) versions c.loop-rows.held (reads_end g.V.Message.reads _ _ _ _ _ _ bytes row versions so_far read answer).1 distinct members
+    load_end g.V.Version.seen (g.V.Message.reads c.args.unknown) _ (g.R.Read.remaining c.next_by.new.reader) versions c.loop-rows.held (reads_end (g.V.Message.reads c.args.unknown) _ _ _ _ _ _ bytes row versions so_far read answer).1 distinct members
 
 pub returns-clause-size : goal.returns-clause-size
 returns-clause-size g c =
     let (bytes, versions, so_far, _, _, _) = c.loop-rows.invariant in
     let (row, read, answer) = rw c.in_default.is at c.in_ok-version.ensures in
-    (reads_end g.V.Message.reads _ _ _ _ _ _ bytes row versions so_far read answer).2
+    (reads_end (g.V.Message.reads c.args.unknown) _ _ _ _ _ _ bytes row versions so_far read answer).2
 
 pub returns-in_err-is_new-clause-stopped : goal.returns-in_err-is_new-clause-stopped
 returns-in_err-is_new-clause-stopped g c =
@@ -73,4 +73,4 @@ pub returns-clause-end : goal.returns-clause-end
 returns-clause-end g c =
     let (bytes, versions, so_far, _, _, _) = c.loop-rows.invariant in
     let (row, read, answer) = rw c.in_default.is at c.in_ok-version.ensures in
-    (reads_end g.V.Message.reads _ _ _ _ _ _ bytes row versions so_far read answer).0
+    (reads_end (g.V.Message.reads c.args.unknown) _ _ _ _ _ _ bytes row versions so_far read answer).0

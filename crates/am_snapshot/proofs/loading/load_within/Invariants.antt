@@ -8,7 +8,7 @@ use Rattle.am_snapshot.proofs.loading.load_within.Given as goal
 abbrev pub invariant-loop-rows : goal.invariant-loop-rows
 invariant-loop-rows g l =
     (bytes : List ℕ) × (versions : List g.row.V.Denot)
-    × ReadsSoFar g.V.Message.reads l.limit (g.R.Read.remaining l.fn.reader) (g.R.Read.remaining l.reader) l.rows bytes versions
+    × ReadsSoFar (g.V.Message.reads l.unknown) l.limit (g.R.Read.remaining l.fn.reader) (g.R.Read.remaining l.reader) l.rows bytes versions
     × IsMap g.V.Version.seen g.V.Key.Ord.cmp l.held
     × IsPermutation versions l.held
     × AreDistinct g.V.Version.seen versions

@@ -11,4 +11,4 @@ returns-then-len-count-clause-members g c =
     let all = behind ∙ ap (λ (l : List g.row.V.Denot). l ++ versions) (c.in_ok-builder.ensures.same ∙ c.new.ensures) in
     let best = subst (λ (l : List g.row.V.Denot). HoldsBest g.V.Version.seen l c.in_ok-held.held) all c.in_ok-held.ensures in
     let same : length c.in_ok-held.held ≡ length c.read_sound.new.builder = search rules in
-    loaded g.V.Version.seen g.V.Key.Ord.cmp keys g.V.Message.reads c.args.row.now versions c.in_ok-held.held are c.has_values.ensures.order best (same ∙ ap length all)
+    loaded g.V.Version.seen g.V.Key.Ord.cmp keys (g.V.Message.reads c.args.unknown) c.args.row.now versions c.in_ok-held.held are c.has_values.ensures.order best (same ∙ ap length all)

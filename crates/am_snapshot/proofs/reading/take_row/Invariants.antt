@@ -8,7 +8,7 @@ use Rattle.am_snapshot.proofs.reading.take_row.Given as goal
 abbrev pub invariant-loop-rows : goal.invariant-loop-rows
 invariant-loop-rows g l =
     (bytes : List ℕ) × (versions : List g.row.V.Denot)
-    × ReadsSoFar g.V.Message.reads most (g.R.Read.remaining l.fn.reader) (g.R.Read.remaining l.reader) l.rows bytes versions
+    × ReadsSoFar (g.V.Message.reads l.unknown) most (g.R.Read.remaining l.fn.reader) (g.R.Read.remaining l.reader) l.rows bytes versions
     × IsMap g.V.Version.seen g.V.Key.Ord.cmp l.held
     × ((key : g.row.V-Key.Denot) → IsBestAt g.V.Version.seen versions key (at g.V.Version.seen g.V.Key.Ord.cmp l.held key))
 

@@ -9,7 +9,7 @@ pub returns-clause-log : goal.returns-clause-log
 returns-clause-log c = lent_maps_are_its_lenders of_log
 
 pub returns-clause-sound : goal.returns-clause-sound
-returns-clause-sound c = λ config sender now lent is are. lent_sound lent is are config sender now
+returns-clause-sound c = lent_sound
 
 pub returns-clause-whole : goal.returns-clause-whole
-returns-clause-whole c = λ sender lent is are. lent_whole lent is are
+returns-clause-whole c = λ unknown sender lent is are. lent_whole unknown lent is are

@@ -1,3 +1,4 @@
+use Rattle.am_wire.specs.declared.unknown.Unknown.TheVariants.{Drop}
 use Rattle.std.proofs.Common.{◌≡◌, sym, ◌∙◌, subst, length, Some, arith, slice_get}
 use Rattle.am_steps.specs.BothStates.{log_state, silence_state}
 use Rattle.am_steps.specs.Recorded.{HasSource}
@@ -16,8 +17,8 @@ step_and_record-requires c =
     let tells = tell _ (record { replicas = c.self.inside.members.items; silences = c.self.inside.journal.silences; log = c.self.inside.journal.log; lines = c.self.inside.journal.lines; flights = c.self.inside.flights.items; room = c.self.inside.journal.room }) (c.make_room.ensures.members ∙ c.self.invariant.members) c.make_room.ensures.silences c.make_room.ensures.log c.make_room.ensures.lines c.in_ok-make_room.ensures.room in
     record {
       ready = can_act _ _ tells c.args.place c.args.now c.args.line _ c.args.event c.args.source c.self.invariant.world found ready.runs
-          (subst (λ v. HasSource silence_state (length v.replicas) v.silences c.args.now c.args.event c.args.source) (sym c.self.view_is) c.requires.silences)
-          (subst (λ v. HasSource log_state (length v.replicas) v.log c.args.now c.args.event c.args.source) (sym c.self.view_is) c.requires.log)
+          (subst (λ v. HasSource silence_state Drop (length v.replicas) v.silences c.args.now c.args.event c.args.source) (sym c.self.view_is) c.requires.silences)
+          (subst (λ v. HasSource log_state Drop (length v.replicas) v.log c.args.now c.args.event c.args.source) (sym c.self.view_is) c.requires.log)
           ready.accepted;
       coming = c.in_ok-coming.ensures.coming;
       values = c.in_ok-coming.ensures.values;

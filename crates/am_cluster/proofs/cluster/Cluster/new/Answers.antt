@@ -58,7 +58,7 @@ pub of-requires : goal.of-requires
 of-requires c = none_unborn c.new.result.items c.new.ensures.items
 
 pub of-requires-2 : goal.of-requires-2
-of-requires-2 c = unborn c.in_ok-config.config c.in_ok-members.members.items c.in_ok-members.ensures
+of-requires-2 c = unborn c.in_ok-config.config c.in_ok-members.members.items c.in_ok-config.ensures.unknown c.in_ok-members.ensures
 
 pub returns-clause-members : goal.returns-clause-members
 returns-clause-members c =
@@ -66,7 +66,7 @@ returns-clause-members c =
       ordered = s.members;
       order = c.in_ok-config.ensures.order;
       among = IsPermutation-trans _ _ _ (to_front c.args.names.items c.pop.new.self.items c.in-Some.name c.in-Some.ensures.items) c.in_ok-config.ensures.members;
-      members = c.of-2.ensures.members ∙ (c.in_ok-members.ensures ∙ newborns_are s c.args.retention c.args.peer_timeout c.in_ok-config.ensures.retention c.in_ok-config.ensures.peer_timeout c.in_ok-config.ensures.dialect);
+      members = c.of-2.ensures.members ∙ (c.in_ok-members.ensures ∙ newborns_are s c.args.retention c.args.peer_timeout c.in_ok-config.ensures.retention c.in_ok-config.ensures.peer_timeout c.in_ok-config.ensures.dialect c.in_ok-config.ensures.unknown);
       silences = c.of-2.ensures.silences;
       log = c.of-2.ensures.log;
       lines = c.of-2.ensures.lines;

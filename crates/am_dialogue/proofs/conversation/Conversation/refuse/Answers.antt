@@ -1,12 +1,22 @@
-use Rattle.std.proofs.Common.{◌∙◌, ap}
-use Rattle.am_dialogue.specs.Talks.{Talk}
-use Rattle.am_dialogue.proofs.Sayings.{keeps_line, line_made}
+use Rattle.std.proofs.Common.{◌∙◌, ap, inr}
+use Rattle.am_dialogue.specs.Talks.{Talk, gone_of}
+use Rattle.am_dialogue.proofs.Sayings.{keeps_line, line_made, next_gone}
 use Rattle.am_dialogue.proofs.conversation.Conversation.refuse.Goals as goal
 
-pub returns : goal.returns
-returns c = record {
+pub returns-clause-refused : goal.returns-clause-refused
+returns-clause-refused c refuses = record {
   way = ap (λ (t : Talk). t.way) c.say.ensures;
   session = ap (λ (t : Talk). t.session) c.say.ensures ∙ c.stop.ensures;
   waiting = ap (λ (t : Talk). t.waiting) c.say.ensures;
-  saying = keeps_line _ _ _ (ap (λ (t : Talk). t.saying) c.say.ensures) (line_made _ _ _ c.refuse-making.ensures c.finish.ensures);
+  saying = keeps_line _ _ _ (ap (λ (t : Talk). t.saying) c.say.ensures) (line_made _ _ _ c.refuse-making.ensures refuses c.finish.ensures);
 }
+
+pub returns-clause-closes : goal.returns-clause-closes
+returns-clause-closes c = record {
+  way = ap (λ (t : Talk). t.way) c.say.ensures;
+  session = ap (λ (t : Talk). t.session) c.say.ensures ∙ c.stop.ensures;
+  waiting = inr (ap (λ (t : Talk). t.waiting) c.say.ensures);
+}
+
+pub returns-clause-gone : goal.returns-clause-gone
+returns-clause-gone c = ap gone_of (ap (λ (t : Talk). t.saying) c.say.ensures) ∙ next_gone _ _

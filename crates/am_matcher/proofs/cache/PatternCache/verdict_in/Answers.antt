@@ -31,7 +31,7 @@ returns-clause-verdict c =
     let answer = c.if-not-takes_names.false in
     let taken : c.takes_names.result ≡ true = search rules in
     let names : takes_names dialect c.iter-2.result ≡ true = ap (takes_names dialect) (c.iter-2.ensures ∙ sym c.iter.ensures) ∙ sym c.takes_names.ensures ∙ taken in
-    let judged = c.judge_all.ensures in
+    let judged = c.judge_by_no_labels.ensures in
     let told = c.verdict_of.ensures in
     subst (λ (ms : List Matcher). IfOk c.verdict_of.result (IsVerdictIn dialect ms)) c.iter-2.ensures
-    (of_judged dialect c.iter-2.result c.judge_all.result c.verdict_of.result alloc_error names judged.answer judged.broken told.all told.some told.broken told.memory)
+    (of_judged dialect c.iter-2.result c.judge_by_no_labels.result c.verdict_of.result alloc_error names judged.answer judged.broken told.all told.some told.broken told.memory)

@@ -7,7 +7,7 @@ pub returns : goal.returns
 returns c =
     let h = c.in-Some.ensures in
     let text : c.in_ok-canonical.canonical.items ≡ c.args.text.now = search rules in
-    λ at. rw text (read_anywhere (spelled c.args.text.now) c.args.text.now at h.value h.canonical)
+    λ unknown at. rw text (read_anywhere (spelled c.args.text.now) c.args.text.now unknown at h.value h.canonical h.plain)
 
 pub invariant_of-version : goal.invariant_of-version
 invariant_of-version c =

@@ -1,4 +1,4 @@
-use Rattle.std.proofs.Common.{◌≡◌, ℕ, ◌≤◌, ◌^◌, List, ◌++◌, length, sym, ap, subst, ◌∙◌, arith}
+use Rattle.std.proofs.Common.{◌≡◌, ◌≤◌, ◌^◌, length, sym, ap, subst, ◌∙◌, arith}
 use Rattle.am_nflog.specs.Fields.{entry_in}
 use Rattle.am_nflog.specs.Mesh.{Mesh, IsMesh, writes_mesh_entry}
 use Rattle.am_nflog.specs.Offsets.{StandAt}
@@ -9,18 +9,18 @@ use Rattle.am_nflog.proofs.mesh.MeshEntry.of_sized.Goals.{In_ok-key}
 
 module _ (c : In_ok-key) where
   version : Mesh
-  version = record { entry = entry_in c.args.fields.now; expires_at = c.args.expires_at }
+  version = record { entry = entry_in c.args.fields.now; expires_at = c.args.expires_at; unknown = c.args.unknown.now }
 
   text : c.write_version.new.out.items ≡ writes_mesh_entry version
   unfolding version
-  text = c.in_ok-places.ensures.written ∙ ap (λ (x : List ℕ). x ++ writes_mesh_entry version) c.in_ok-canonical.ensures.items
+  text = rw c.new-canonical.ensures.items at c.in_ok-places.ensures.written
 
   is_mesh : IsMesh version
   unfolding version
   is_mesh =
       let v = c.write_version.new.out in
       let size : length v.items ≤ 2 ^ 63 = omega (arith, v.ok.0, v.ok.1, v.small) in
-      record { entry = c.in_ok-places.ensures.value; expires_at = c.in_ok-places.ensures.moment; size = rw (← text) size }
+      record { entry = c.in_ok-places.ensures.value; expires_at = c.in_ok-places.ensures.moment; unknown = c.requires.unknown; size = rw (← text) size }
 
   same : spelled c.write_version.new.out.items ≡ version
   same = spelled_is version c.write_version.new.out.items is_mesh text

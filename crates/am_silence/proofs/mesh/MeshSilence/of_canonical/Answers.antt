@@ -1,6 +1,6 @@
 use Rattle.std.proofs.Common.{◌≡◌, ℕ, List, sym, ap, subst, ◌∙◌}
 use Rattle.am_silence.specs.declared.silence.Silence.{Silence}
-use Rattle.am_silence.specs.Mesh.{Mesh, IsMesh, writes_mesh_silence}
+use Rattle.am_silence.specs.Mesh.{Mesh, IsMesh, without_unknown, writes_mesh_silence}
 use Rattle.am_silence.specs.Offsets.{StandIn}
 use Rattle.am_silence.specs.Spelled.{version_in, version_spelled}
 use Rattle.am_silence.specs.Canonical.{version_of}
@@ -38,6 +38,9 @@ invariant_of-result c =
 
 pub returns-clause-text : goal.returns-clause-text
 returns-clause-text c = c.in-Some.ensures.is ∙ ap writes_mesh_silence (sym (spelled c))
+
+pub returns-clause-plain : goal.returns-clause-plain
+returns-clause-plain c = ap without_unknown (spelled c) ∙ sym (spelled c)
 
 pub returns-clause-value : goal.returns-clause-value
 returns-clause-value c = subst IsMesh (sym (spelled c)) c.in-Some.ensures.value

@@ -1,9 +1,9 @@
 use Rattle.std.proofs.Common.{◌≡◌, ℕ, List, sym, ap, subst, ◌∙◌, arith}
 use Rattle.am_version_order.specs.Heads.{head_of_text}
 use Rattle.am_silence.specs.declared.silence.Silence.{Silence}
-use Rattle.am_silence.specs.Mesh.{Mesh, IsMesh, writes_mesh_silence}
+use Rattle.am_silence.specs.Mesh.{Mesh, IsMesh, without_unknown, writes_mesh_silence}
 use Rattle.am_silence.specs.MeshTable.{reads_mesh_silence}
-use Rattle.am_silence.specs.RoundTrip.{mesh_again}
+use Rattle.am_silence.specs.RoundTrip.{plain_again}
 use Rattle.am_silence.specs.Spelled.{version_in, version_spelled}
 use Rattle.am_silence.specs.Canonical.{version_of, IsCanonical}
 use Rattle.am_silence.specs.declared.canonical.CanonicalSilence.{CanonicalSilence}
@@ -32,11 +32,12 @@ invariant_of-result c =
     }
 
 pub returns-clause-spelled : goal.returns-clause-spelled
-returns-clause-spelled c at =
+returns-clause-spelled c unknown at =
     let ok = c.in_ok-fields.ensures in
     let is = value _ _ ok in
+    let plain = ap without_unknown (spelled _ _ ok) ∙ sym (spelled _ _ ok) in
     let size = is.size in
-    ap (reads_mesh_silence at) (written _ _ ok) ∙ mesh_again (version_in c.args.text.now) at is (omega (arith, size))
+    ap (reads_mesh_silence unknown at) (written _ _ ok) ∙ plain_again unknown (version_in c.args.text.now) at is (omega (arith, size)) plain
 
 pub returns-clause-canonical : goal.returns-clause-canonical
 returns-clause-canonical c = sym (written _ _ c.in_ok-fields.ensures)

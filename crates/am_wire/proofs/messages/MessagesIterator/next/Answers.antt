@@ -7,11 +7,11 @@ use Rattle.am_wire.proofs.messages.MessagesIterator.next.Goals as goal
 
 pub returns-then-is_empty-clause-steps : goal.returns-then-is_empty-clause-steps
 returns-then-is_empty-clause-steps g c =
-    let e = sym c.self.view_is ∙ pieces-nil (message_at g.V.Message.reads) c.self.inside.at c.self.inside.rest.now c.if-is_empty.ensures in (e, e)
+    let e = sym c.self.view_is ∙ pieces-nil (message_at (g.V.Message.reads c.self.inside.unknown)) c.self.inside.at c.self.inside.rest.now c.if-is_empty.ensures in (e, e)
 
 pub returns-in-Ok-clause-steps : goal.returns-in-Ok-clause-steps
 returns-in-Ok-clause-steps g c =
-    rw (rest_is c.in-Ok.len c.self.inside.rest.now) (sym c.self.view_is ∙ pieces-first (message_at g.V.Message.reads) c.self.inside.at c.self.inside.rest.now (c.in-Ok.message, c.in-Ok.len) c.in-Ok.ensures.value c.in-Ok.ensures.within.0 c.in-Ok.ensures.within.1)
+    rw (rest_is c.in-Ok.len c.self.inside.rest.now) (sym c.self.view_is ∙ pieces-first (message_at (g.V.Message.reads c.self.inside.unknown)) c.self.inside.at c.self.inside.rest.now (c.in-Ok.message, c.in-Ok.len) c.in-Ok.ensures.value c.in-Ok.ensures.within.0 c.in-Ok.ensures.within.1)
 
 pub returns-in-Ok-clause-goes : goal.returns-in-Ok-clause-goes
 returns-in-Ok-clause-goes g c =
@@ -21,8 +21,8 @@ returns-in-Ok-clause-goes g c =
 pub returns-in-Err-clause-steps : goal.returns-in-Err-clause-steps
 unfolding pieces
 returns-in-Err-clause-steps g c =
-    let some = pieces-filled (message_at g.V.Message.reads) c.self.inside.at c.self.inside.rest.now c.if-is_empty.ensures in
-    (rw c.self.view_is at some, refl, λ fault. sym c.self.view_is ∙ pieces-fault (message_at g.V.Message.reads) c.self.inside.at c.self.inside.rest.now c.in-Err.fault (c.in-Err.ensures.value fault) c.if-is_empty.ensures)
+    let some = pieces-filled (message_at (g.V.Message.reads c.self.inside.unknown)) c.self.inside.at c.self.inside.rest.now c.if-is_empty.ensures in
+    (rw c.self.view_is at some, refl, λ fault. sym c.self.view_is ∙ pieces-fault (message_at (g.V.Message.reads c.self.inside.unknown)) c.self.inside.at c.self.inside.rest.now c.in-Err.fault (c.in-Err.ensures.value fault) c.if-is_empty.ensures)
 
 pub returns-in-Err-clause-goes : goal.returns-in-Err-clause-goes
 unfolding pieces

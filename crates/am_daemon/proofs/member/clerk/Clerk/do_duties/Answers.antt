@@ -1,11 +1,10 @@
 use Rattle.std.proofs.Common.{refl}
-use Rattle.am_dialogue.proofs.Steps.{nothing_made, one_made}
-use Rattle.am_instance.specs.declared.event.Event.TheVariants.{Tick}
+use Rattle.am_dialogue.proofs.Steps.{nothing_made}
 use Rattle.am_daemon.proofs.member.clerk.Clerk.do_duties.Goals as goal
 use Rattle.am_daemon.proofs.member.clerk.Clerk.do_duties.Goals.{then-is_tick_due, else-is_tick_due}
 
 pub returns : goal.returns
 returns g c = elim c.if-is_tick_due.branch [
-  | then-is_tick_due w ↦ rw w.instance-is (one_made _ _ Tick w.tick.ensures.0 w.tick.ensures.1 tt w.tick.ensures.2)
+  | then-is_tick_due w ↦ rw w.instance-is w.tick.ensures
   | else-is_tick_due w ↦ rw w.instance-is (nothing_made _ _ refl)
 ]
