@@ -35,6 +35,9 @@ OPTIONS = [
 KEYS = {"Tab": (9, ""), "Enter": (13, "\r"), "Escape": (27, ""), "ArrowDown": (40, ""), " ": (32, " ")}
 SHIFT, CONTROL = 8, 2
 
+# What Chromium says of an element that a page has taken away since it was found.
+GONE = ("detached", "layout object", "No node", "Could not find node", "Could not compute content quads")
+
 # Roles whose nodes take the keyboard, or stand for a place of the page, so that they want a name.
 NAMED = {"button", "link", "textbox", "searchbox", "combobox", "option", "Date", "DateTime", "dialog", "navigation", "region", "group"}
 
@@ -180,11 +183,21 @@ class Page:
         found = self.call("Accessibility.queryAXTree", nodeId=root, role=role, accessibleName=name)["nodes"]
         return next((it["backendDOMNodeId"] for it in found if not it["ignored"]), None)
 
+    def corners(self, element):
+        """The corners of an element that is shown, once it is scrolled into view; None if a page that draws anew has taken it away."""
+        try:
+            self.call("DOM.scrollIntoViewIfNeeded", backendNodeId=element)
+            return next(iter(self.call("DOM.getContentQuads", backendNodeId=element)["quads"]), None)
+        except RuntimeError as error:
+            if any(it in str(error) for it in GONE):
+                return None
+            raise
+
     def click(self, role, name):
-        """Clicks what a screen reader calls so, with the mouse."""
-        element = self.find(role, name)
-        self.call("DOM.scrollIntoViewIfNeeded", backendNodeId=element)
-        corners = self.call("DOM.getContentQuads", backendNodeId=element)["quads"][0]
+        """Clicks what a screen reader calls so, with the mouse. (A list that is drawn anew between two calls has new elements.)"""
+        corners = eventually(lambda: self.corners(self.find(role, name)))
+        if not corners:
+            raise RuntimeError(f"{role} {name!r} isn't shown")
         where = {"x": sum(corners[0::2]) / 4, "y": sum(corners[1::2]) / 4, "button": "left", "clickCount": 1}
         for kind in ("mousePressed", "mouseReleased"):
             self.call("Input.dispatchMouseEvent", type=kind, **where)

@@ -23,5 +23,5 @@ pub use hash_iter::HashIter;
 pub use hashes::Hashes;
 pub use key::LogKey;
 pub use make::make_entry;
-pub use mesh::MeshEntry;
+pub use mesh::{KNOWN_FIELDS, MeshEntry};
 pub use receiver::{Receiver, ReceiverDraft, ReceiverRef};

@@ -27,8 +27,8 @@ use am_wire::{MOST_MESSAGE_BYTES, Message, Unknown, UnknownFields, WireError};
 use std::alloc::{AllocError, Global};
 use std::marker::Model;
 
-// The numbers of an entry's known fields.
-const KNOWN: [u32; 7] = [1, 2, 3, 4, 5, 6, 7];
+/// The numbers of an entry's known fields.
+pub const KNOWN_FIELDS: [u32; 7] = [1, 2, 3, 4, 5, 6, 7];
 
 /// A version of an entry: the entry, the moment from which it may be forgotten, and the fields that a reader kept without
 /// knowing them.
@@ -181,7 +181,7 @@ impl MeshEntry {
         } = read_message::<ExpiringDraft<EntryDraft>>(alloc, text, at, at)?;
         let fields = entry.fields();
         let size = fields.size();
-        let unknown = UnknownFields::of(alloc, unknown, &KNOWN, text, at)?;
+        let unknown = UnknownFields::of(alloc, unknown, &KNOWN_FIELDS, text, at)?;
         let version = MeshEntry::of_sized(alloc, &fields, size, expires_at, &unknown)?;
         Ok(version)
     }

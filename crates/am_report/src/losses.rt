@@ -14,12 +14,6 @@ const MOST_KEPT: usize = 256;
 /// The numbers of a version's fields: a silence or an entry, and the moment up to which it is kept.
 const VERSION: [u32; 2] = [1, 2];
 
-/// The numbers of a silence's known fields.
-pub const SILENCE: [u32; 8] = [1, 2, 3, 4, 5, 7, 8, 9];
-
-/// The numbers of the known fields of an entry of the log.
-pub const ENTRY: [u32; 7] = [1, 2, 3, 4, 5, 6, 7];
-
 /// A kind of message that stands in a version.
 #[derive(Clone, Copy)]
 pub enum MessageKind {
@@ -35,8 +29,8 @@ impl MessageKind {
     /// Returns the numbers of its fields.
     pub fn numbers(self) -> &'static [u32] {
         match self {
-            MessageKind::Silence => &SILENCE,
-            MessageKind::Entry => &ENTRY,
+            MessageKind::Silence => &am_silence::KNOWN_FIELDS,
+            MessageKind::Entry => &am_nflog::KNOWN_FIELDS,
             MessageKind::Matcher | MessageKind::Comment | MessageKind::Receiver => &[1, 2, 3],
             MessageKind::Moment => &[1, 2],
         }

@@ -4,7 +4,6 @@ ghost use Rattle.std.specs.Prelude.{◌≡◌, Ok, IfOk};
 ghost use Rattle.am_wire.specs.declared.unknown.UnknownFields.{UnknownFields};
 ghost use Rattle.am_wire.specs.declared.unknown.Unknown.TheVariants.{Drop};
 
-use crate::losses::{ENTRY, SILENCE};
 use am_nflog::MeshEntry;
 use am_silence::MeshSilence;
 use am_version_order::Version;
@@ -54,7 +53,13 @@ impl WithUnknown for MeshSilence {
     ghost known_of = { without_unknown };
 
     fn unknown(&self, alloc: Global) -> Result<UnknownFields, AllocError> {
-        UnknownFields::of(alloc, Unknown::Keep, &SILENCE, self.canonical(), 0)
+        UnknownFields::of(
+            alloc,
+            Unknown::Keep,
+            &am_silence::KNOWN_FIELDS,
+            self.canonical(),
+            0,
+        )
     }
 
     fn known(&self, alloc: Global) -> Result<MeshSilence, AllocError> {
@@ -70,7 +75,13 @@ impl WithUnknown for MeshEntry {
     ghost known_of = { without_unknown };
 
     fn unknown(&self, alloc: Global) -> Result<UnknownFields, AllocError> {
-        UnknownFields::of(alloc, Unknown::Keep, &ENTRY, self.canonical(), 0)
+        UnknownFields::of(
+            alloc,
+            Unknown::Keep,
+            &am_nflog::KNOWN_FIELDS,
+            self.canonical(),
+            0,
+        )
     }
 
     fn known(&self, alloc: Global) -> Result<MeshEntry, AllocError> {

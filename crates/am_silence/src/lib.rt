@@ -27,7 +27,7 @@ pub use ids::{IdText, fresh_id};
 pub use iter::MatcherIter;
 pub use matcher::{Matcher, MatcherDraft, MatcherKind, MatcherRef};
 pub use matchers::Matchers;
-pub use mesh::MeshSilence;
+pub use mesh::{KNOWN_FIELDS, MeshSilence};
 pub use plan::{Plan, Posted, Verdict, plan_expire, plan_post};
 pub use silence::Silence;
 pub use silence_text::SilenceText;

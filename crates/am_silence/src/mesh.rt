@@ -25,8 +25,8 @@ use am_wire::{MOST_MESSAGE_BYTES, Message, Text, Unknown, UnknownFields, WireErr
 use std::alloc::{AllocError, Global};
 use std::marker::Model;
 
-// The numbers of a silence's known fields.
-const KNOWN: [u32; 8] = [1, 2, 3, 4, 5, 7, 8, 9];
+/// The numbers of a silence's known fields.
+pub const KNOWN_FIELDS: [u32; 8] = [1, 2, 3, 4, 5, 7, 8, 9];
 
 /// A version of a silence: the silence, the moment from which it may be forgotten, and the fields that a reader kept without
 /// knowing them.
@@ -197,7 +197,7 @@ impl MeshSilence {
             message: fields,
             expires_at,
         } = read_message::<ExpiringDraft<SilenceDraft>>(alloc, bytes, at, at)?;
-        let unknown = UnknownFields::of(alloc, unknown, &KNOWN, bytes, at)?;
+        let unknown = UnknownFields::of(alloc, unknown, &KNOWN_FIELDS, bytes, at)?;
         let size = fields.size();
         let unknown = UnknownParts::of(&unknown);
         let version = MeshSilence::of_sized(alloc, &fields, size, expires_at, &unknown)?;
