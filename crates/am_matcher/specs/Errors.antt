@@ -1,4 +1,4 @@
--- How errors are passed on: memory that runs out stays that, and every other refusal is a bad pattern.
+-- Errors of other crates as errors of this one: running out of memory stays that, and every other refusal is a bad pattern.
 use Rattle.regex_syntax.specs.declared.error.ErrorKind.{ErrorKind}
 use Rattle.regex_syntax.specs.declared.error.ErrorKind.TheVariants as parser
 use Rattle.regex_compile.specs.declared.error.Error.{Error}

@@ -64,8 +64,7 @@ IsVerdict matchers Bad = Any IsBrokenMatcher matchers
 IsVerdict matchers AllEmpty = All IsSoundMatcher matchers × (list_all (λ m. matches_value m []) matchers ≡ true)
 IsVerdict matchers Fine = All IsSoundMatcher matchers × (list_all (λ m. matches_value m []) matchers ≡ false)
 
--- Matchers as labels, with their names and their patterns as values, whatever their kinds are. If several have one name,
--- the last one counts. An absent name has the empty text.
+-- The pattern of the last matcher with the name, whatever its kind is, or the empty text if there is none.
 abbrev pub pattern_in : List Matcher → List ℕ → List ℕ
 pattern_in matchers name = option_map_or (λ m. m.pattern) (last_named (λ m. m.name) name matchers) []
 

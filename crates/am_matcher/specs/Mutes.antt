@@ -51,8 +51,7 @@ pub record Judged : Type 0 where
   pub broken : Bool
   pub meant : List Matcher
 
--- A broken silence can't be judged. Any other silence matches what its matchers say, and the patterns that they stand for
--- can all be read.
+-- A broken silence can't be judged. The matchers of any other one say what it matches, and their patterns can be read.
 pub record IsJudged (dialect : Dialect) (j : Judged) : Type 0 where
   pub refused : j.broken ≡ true → IsRefused dialect j.silence
   pub told : j.broken ≡ false → ¬ IsUnread j.silence

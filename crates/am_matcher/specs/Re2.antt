@@ -40,8 +40,7 @@ pub data IsRead : Place → List ℕ → Contents → Type 0 where
   piece : {place : Place} {text : List ℕ} {more : Contents} (front : Read) →
       first_piece place text ≡ Some front → IsRead front.place front.rest more → IsRead place text (join (of_piece front) more)
 
--- A part that would be repeated `times` by itself is repeated this often in all, with the repetition behind it if there is
--- one, and then at most 1,000 times.
+-- A part is repeated this often in all: `times`, or with a repetition behind it the product of both, up to 1,000.
 pub data IsRepeated (times : ℕ) : ℕ → List Part → Type 0 where
   once : IsRepeated times times []
   often : {most : ℕ} → times * most ≤ 1000 → IsRepeated times (times * most) (Repeat most ∷ [])

@@ -97,7 +97,7 @@ script_names =
 abbrev pub is_one_of : List (List ℕ) → List ℕ → Bool
 is_one_of words text = list_any (λ word. pointwise nat_eq text word) words
 
--- a general category is named by this letter behind that of its group
+-- two letters name a general category: that of a group, and one behind it
 unfoldable pub is_subcategory : ℕ → ℕ → Bool
 is_subcategory category letter =
     if category ∈ "L" then letter ∈ "ultmo"
@@ -149,7 +149,7 @@ is_number (c ∷ d ∷ rest) = not (c ∈ "0")
 unfoldable pub number_at : List ℕ → Option (ℕ × List ℕ)
 number_at text = is_number (run is_ascii_digit text) >> Some (number (run is_ascii_digit text), behind is_ascii_digit text)
 
--- how often a part is repeated, and the text behind the count
+-- the bounds on the number of repetitions of a part, and the text behind the count
 pub record Count : Type 0 where
   pub least : ℕ
   pub most : ℕ

@@ -30,8 +30,7 @@ pub record CompiledPattern : Type 0 where
   pub transitions : ℕ
   pub tables : ℕ
 
--- the size of a compiled form: 4,096, the length of its text, 160 for each state, 24 for each transition and 16,384 for
--- each table
+-- the size of a compiled form: 4,096, the length of its text, 160 a state, 24 a transition and 16,384 a table
 abbrev pub bytes_of : Compilation → ℕ
 bytes_of c = 4_096 + length c.text + 160 * c.states + 24 * c.transitions + 16_384 * c.tables
 

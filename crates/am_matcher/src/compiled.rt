@@ -126,7 +126,7 @@ impl Compiled {
     /// # Errors
     ///
     /// [`BuildError::BadPattern`] if `regex` refuses the pattern `p`, by itself or as `^(?:p)$`, for a reason other than
-    /// memory. Only a matcher with a regular expression can be refused so.
+    /// memory, and [`BuildError::Memory`] if memory runs out. Only a regular expression can be a bad pattern.
     pub fn build(alloc: Global, matcher: &Matcher) -> Result<Compiled, BuildError>
         ensures matcher { IfOk result (λ compiled. compiled ≡ matcher.now) }
         ensures sound { OnOk result (IsSoundMatcher matcher.now) }
@@ -140,7 +140,7 @@ impl Compiled {
     ///
     /// # Errors
     ///
-    /// [`BuildError::BadPattern`] if the pattern is broken in the dialect.
+    /// [`BuildError::BadPattern`] if the pattern is broken in the dialect, and [`BuildError::Memory`] if memory runs out.
     pub(crate) fn build_in(
         dialect: Dialect,
         patterns: &PatternCache,

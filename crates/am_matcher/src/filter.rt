@@ -161,7 +161,7 @@ impl Filter {
     ///
     /// # Errors
     ///
-    /// Those of [`Filter::parse`].
+    /// The errors of [`Filter::parse`].
     pub fn parse_by(patterns: &PatternCache, text: &str) -> Result<Filter, FilterError>
         ensures read { IfOk result (IsFilter text.now) }
         ensures sound { IfOk result IsSoundMatcher }

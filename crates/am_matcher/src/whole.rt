@@ -83,7 +83,7 @@ fn nfa_of(alloc: Global, parsed: &Parsed) -> Result<Nfa, BuildError>
     let Ok(groups) = u32::try_from(parsed.names.len()) else {
         return Err(BuildError::BadPattern);
     };
-    // (never the case: the compiled text begins with `^`)
+    // This is never the case, since the compiled text begins with `^`.
     if !is_anchored_start(&parsed.hir) {
         return Err(BuildError::BadPattern);
     }
@@ -145,7 +145,7 @@ impl Whole {
         })
     }
 
-    /// Returns another one of the same pattern, whose searches build their own tables. Nothing is compiled.
+    /// Returns the same compiled pattern again, for searches that build their own tables. Nothing is compiled.
     pub fn share(&self) -> Result<Whole, AllocError>
         ensures { IfOk result (λ whole. whole ≡ self.now) }
     {

@@ -30,7 +30,7 @@ pub enum OutputLine<'a> {
         name: &'a str,
         changed: bool,
     },
-    /// It was decided whether a group is notified.
+    /// A decision about notifying a group was made.
     Decided {
         name: &'a str,
         decision: Decision,

@@ -35,7 +35,7 @@ pub fn run<R: Read, W: Write>(
 ///
 /// # Errors
 ///
-/// Those of [`run`].
+/// The errors of [`run`].
 pub fn run_shown<R: Read, W: Write, O: Onlooker>(
     alloc: Global,
     reader: &mut R,

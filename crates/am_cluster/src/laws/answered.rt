@@ -35,7 +35,7 @@ pub fn steps_go_on()
         IsStepped old action line result new → Extends old new (moment_of action) line }
 {}
 
-/// States that any settle extends both runs by its record, with its moment and its line, or leaves them as they are.
+/// States that any settle extends both runs by its records, with its moment and its line, or leaves them as they are.
 pub fn settles_go_on()
     ensures { (old new : World) (now line : ℕ) (result : Result Unit SettleError) →
         IsSettle old now line result new → Extends old new (Some now) line }

@@ -76,7 +76,7 @@ fn number_at(text: &[char]) -> Option<(u32, &[char])>
     }
 }
 
-/// Returns the count up to the brace, with its greatest number at the front.
+/// Reads the greatest number of a count, up to the brace.
 #[tactic(auto, unfolding(crate::specs::Re2Pieces::bounded))]
 fn bounded(least: u32, text: &[char]) -> Option<Bounds<'_>>
     ensures value { result ≡ bounded least text.now }
@@ -88,7 +88,7 @@ fn bounded(least: u32, text: &[char]) -> Option<Bounds<'_>>
     }
 }
 
-/// Returns the count, whose least number was read.
+/// Reads the rest of a count, behind its least number.
 #[tactic(auto, unfolding(crate::specs::Re2Pieces::count_behind))]
 fn count_behind(least: u32, text: &[char]) -> Option<Bounds<'_>>
     ensures value { result ≡ count_behind least text.now }
@@ -105,7 +105,7 @@ fn count_behind(least: u32, text: &[char]) -> Option<Bounds<'_>>
     }
 }
 
-/// Returns the count at the front, such as `2}`, `2,}` or `2,5}`.
+/// Reads the count at the front, such as `2}`, `2,}` or `2,5}`.
 #[tactic(auto, unfolding(crate::specs::Re2Pieces::count_at))]
 fn count_at(text: &[char]) -> Option<Bounds<'_>>
     ensures value { result ≡ count_at text.now }

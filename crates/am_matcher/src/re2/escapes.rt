@@ -44,7 +44,7 @@ fn code(digits: &[char]) -> u32
         .fold(0, |code, digit| with_digit(code, *digit))
 }
 
-/// Returns the character whose code the digits write.
+/// Returns the character whose code the digits write, or `None` if there is none.
 #[tactic(auto, unfolding(crate::specs::Re2Pieces::coded))]
 fn coded(digits: &[char]) -> Option<char>
     ensures { result ≡ coded digits.now }

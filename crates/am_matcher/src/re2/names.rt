@@ -63,7 +63,7 @@ fn is_script(text: &[char]) -> bool
     is_one_of(&SCRIPTS, text)
 }
 
-/// Returns whether a general category is named by this letter behind that of its group.
+/// Returns whether two letters name a general category: that of a group, and one behind it.
 #[tactic(auto, unfolding(crate::specs::Re2Pieces::is_subcategory))]
 fn is_subcategory(category: char, letter: char) -> bool
     ensures { result ≡ is_subcategory category letter }
