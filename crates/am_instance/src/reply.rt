@@ -21,7 +21,7 @@ pub enum Reply {
     /// The identifier of the silence that was created or updated.
     Posted(Text),
     Deleted,
-    /// The error for a request that is refused, which isn't lack of memory.
+    /// The reason why a request is refused, which is never a lack of memory.
     Refused(SilenceError),
     /// True if the entry of a notification changed the log.
     Logged(bool),
