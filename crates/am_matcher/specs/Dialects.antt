@@ -83,8 +83,7 @@ abbrev pub takes_names : Dialect → List Matcher → Bool
 takes_names Regex matchers = true
 takes_names Re2 matchers = are_labels matchers
 
--- The verdict is Bad if a pattern is broken in the dialect, or a name isn't taken. Otherwise it is the verdict on the
--- matchers as they are meant.
+-- The verdict is Bad if a pattern is broken or a name isn't taken, and otherwise that on the matchers as they are meant.
 abbrev pub IsVerdictIn : Dialect → List Matcher → Verdict → Type 0
 IsVerdictIn dialect matchers Bad = Any (IsRefusedMatcher dialect) matchers ⊎ (takes_names dialect matchers ≡ false)
 IsVerdictIn dialect matchers AllEmpty =

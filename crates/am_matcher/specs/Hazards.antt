@@ -9,8 +9,7 @@ use Rattle.am_matcher.specs.Matching.{IsVerdict}
 use Rattle.am_matcher.specs.Dialects.{AreMeant, IsRefusedMatcher, are_labels}
 
 -- The hazard is Pattern if a pattern is refused. Otherwise it is Matcher if a name isn't that of a label, or if all
--- matchers match the empty text, also if there are none. There is no hazard if all names are those of labels, and a matcher
--- doesn't match the empty text.
+-- matchers, perhaps none, match the empty text. Otherwise there is no hazard.
 abbrev pub IsHazard : List Matcher → Option Hazard → Type 0
 IsHazard matchers (Some hazards.Pattern) = Any (IsRefusedMatcher Re2) matchers
 IsHazard matchers (Some hazards.Matcher) =

@@ -32,6 +32,7 @@ behind test text = drop (length (run test text)) text
 abbrev pub is_word : ℕ → Bool
 is_word c = is_ascii_alphanumeric c || (c == 0x5F)
 
+-- a letter of a flag, or a hyphen
 abbrev pub is_flag : ℕ → Bool
 is_flag c = c ∈ "imsU-"
 

@@ -3,8 +3,7 @@ use Rattle.std.specs.Prelude.{ℕ, ◌+◌, ◌*◌, List, length, sum_by, vec_l
 use Rattle.regex_dfa.specs.declared.dfa.Dfa.{Dfa}
 use Rattle.am_matcher.specs.declared.dialect.Dialect.{Dialect}
 
--- The compiled form of a pattern of `regex`: its text, the numbers of its states and of its transitions, and the number of
--- tables that its searches may fill.
+-- The compiled form of a pattern of `regex`: its text, and the numbers of its states, transitions and searches' tables.
 pub record Compilation : Type 0 where
   pub text : List ℕ
   pub states : ℕ
