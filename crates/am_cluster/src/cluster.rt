@@ -21,8 +21,8 @@ use std::marker::Model;
 
 /// A cluster: its members, all that happened to them, and the frames in flight between them.
 ///
-/// Contracts see how each member stands, what each step so far was to the silences and to the log, the frames, and the number of
-/// further steps for which there is room.
+/// Contracts see the state of each member, the record of each step so far for the silences and for the log, the frames, and
+/// the number of further steps for which there is room.
 pub struct Cluster {
     pub(crate) alloc: Global,
     pub(crate) members: Vec<Member>,
@@ -30,7 +30,7 @@ pub struct Cluster {
     pub(crate) flights: Vec<Flight>,
 }
 
-// (so that crates above cite one drop, and don't prove those of all that is inside)
+// With this the crates above cite one drop, and don't prove those of everything inside.
 impl Drop for Cluster {
     fn drop(self) {
         let Cluster {
@@ -71,7 +71,7 @@ impl Model for Cluster {
     } };
 }
 
-/// Returns a member for each place of a configuration, each with nothing in it.
+/// Returns a member for each place of a configuration, each of them empty.
 fn newborn_members(alloc: Global, config: &Config) -> Result<Vec<Member>, AllocError>
     ensures { IfOk result (λ members. members.items ≡ newborns config.now) }
 {
@@ -85,8 +85,9 @@ fn newborn_members(alloc: Global, config: &Config) -> Result<Vec<Member>, AllocE
 }
 
 impl Cluster {
-    /// Returns a cluster of members with these names. They wait `peer_timeout` for one another and keep versions for `retention`
-    /// after their end. Each runs, is empty, and stands at the first moment. Without names there are no members.
+    /// Returns a cluster of members with these names, which wait `peer_timeout` for one another and keep versions for
+    /// `retention` after their end. Each of them runs, is empty, and has the first moment as its last one. Without names
+    /// there are no members.
     ///
     /// # Errors
     ///
@@ -131,22 +132,22 @@ impl Cluster {
         }
     }
 
-    /// States how the cluster hangs together: each member stands as its past in both runs tells, and each frame in flight
-    /// is one that a step of its sender sent; both are runs, which tell of the same steps, each of which has a line; and
-    /// what was delivered in them are values. It does nothing.
+    /// States that the cluster is consistent. Each member is in the state that its past in both runs tells, and each frame
+    /// in flight is one that a step of its sender sent. Both are runs and tell of the same steps, each of which has a line.
+    /// Everything that was delivered in them is a value of its type. Nothing is done.
     pub fn consistency(&self)
         ensures { IsCluster self.now }
     {
         self.journal.consistency();
     }
 
-    /// Makes room for `steps` more steps, of which each that is recorded takes one. While there is room, no step that is to be
-    /// refused is reported as [`ClusterError::Memory`]: this is for a program that has to tell the two apart. A replay, which stops
-    /// at either, doesn't call it.
+    /// Makes room for `steps` more steps, each of which takes one place when it is recorded. While there is room, no step
+    /// that is to be refused is reported as [`ClusterError::Memory`]. This is for programs that have to tell the two apart.
+    /// A replay stops at either of them, and doesn't call it.
     ///
     /// # Errors
     ///
-    /// [`AllocError`] if memory runs out; nothing has changed then.
+    /// [`AllocError`] if memory runs out. Nothing has changed then.
     pub fn make_room(&mut self, steps: usize) -> Result<(), AllocError>
         ensures room { OnOk result (self.new ≡ with_room self.old steps) }
         ensures unchanged { OnErr result (self.new ≡ self.old) }
@@ -155,14 +156,14 @@ impl Cluster {
         self.journal.make_room(steps)
     }
 
-    /// Returns the frames in flight, by their numbers. It takes no memory.
+    /// Returns the frames in flight, in the order of their numbers. Nothing is allocated.
     pub fn in_flight(&self) -> &[Flight]
         ensures { result.now ≡ self.now.flights }
     {
         self.flights.as_slice()
     }
 
-    /// Returns the instance of the member at a place, if there is one. It takes no memory.
+    /// Returns the instance of the member at a place, or `None` if there is none. Nothing is allocated.
     pub fn instance(&self, place: Place) -> Option<&Instance>
         ensures { option_copied result ≡ option_map (λ replica. replica.stand) (replica_at self.now place) }
     {
@@ -172,9 +173,9 @@ impl Cluster {
         }
     }
 
-    /// Returns whether the member at a place was calm at each of its events so far, including those before a restart, and no start
-    /// or settle was refused to it because its moment was before its last one; or else the line of the first step at which
-    /// that fails. It takes no memory.
+    /// Returns the report on the member at a place. It was calm if it was so at each of its events so far, including those
+    /// before a restart, and no start or settle was refused because its moment was before the member's last one. Otherwise
+    /// the report has the line of the first step at which that fails. Nothing is allocated.
     pub fn calm(&self, place: Place) -> CalmReport
         // PROMISE: Whether a member was calm is answered exactly.
         ensures calm { IsTrue result.calm ↔ IsCalmInBoth (length self.now.replicas) place self.now.silences self.now.log }
@@ -185,8 +186,8 @@ impl Cluster {
         self.journal.report(place as usize)
     }
 
-    /// Returns whether the run so far keeps a spread and a flight time, by one clock; then every member is calm. It takes no
-    /// memory.
+    /// Returns whether the run so far keeps a spread and a flight time, by one clock. If it does, every member is calm.
+    /// Nothing is allocated.
     pub fn timely(&self, spread: Interval, flight: Interval) -> bool
         ensures some_time { 0 < spread }
         ensures exactly { IsTrue result
@@ -198,8 +199,8 @@ impl Cluster {
         self.journal.timely(spread, flight)
     }
 
-    /// Returns whether the member at a place is durable: whether it was started only after it had been saved behind each step that
-    /// had brought it something live, like a member that has each such step in a log on its disk. It takes no memory.
+    /// Returns whether the member at a place is durable: at each of its starts, it had been saved after every step that had
+    /// brought it something live. A member that has each such step in a log on its disk is durable. Nothing is allocated.
     pub fn durable(&self, place: Place) -> bool
         ensures { IsTrue result ↔ IsDurableInBoth place self.now.silences self.now.log }
     {

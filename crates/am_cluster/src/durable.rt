@@ -1,4 +1,4 @@
-//! Durable members: those that had been saved, whenever they were started, behind each step that had brought them something
+//! Durable members. At each of its starts, a durable member had been saved after every step that had brought it something
 //! live.
 
 ghost use Rattle.std.specs.Prelude.{◌≡◌, ◌↔◌, IsTrue, map, true};
@@ -57,14 +57,15 @@ fn starts<V>(member: usize, step: &RunStep<V>) -> bool
     }
 }
 
-/// Returns whether, after one more step, a save stands behind each step that brought the member something live.
+/// Returns whether, after one more step, the member has been saved since the last step that brought it something live.
 fn saved_after<V: Version>(member: usize, saved: bool, step: &RunStep<V>) -> bool
     ensures { result ≡ saved_after V.seen member saved (step_of step.now) }
 {
     saves(member, step) || (saved && !brings_live(member, step))
 }
 
-/// Returns whether such a save stands behind each of them at every start in these steps.
+/// Returns whether, at each of its starts in these steps, the member had been saved since the last step that brought it
+/// something live.
 fn starts_saved<V: Version>(member: usize, steps: &[RunStep<V>]) -> bool
     ensures { result ≡ durable_from V.seen member true (map step_of steps.now) }
 {

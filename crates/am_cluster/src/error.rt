@@ -6,8 +6,8 @@ use am_version_order::Moment;
 use std::alloc::AllocError;
 use thiserror::Error;
 
-/// The reason why a step is refused: the first of these that applies, in their order, except [`ClusterError::Memory`], which is
-/// also returned if there was no room to record another reason; nothing has changed then.
+/// The reason why a step is refused: the first of these that applies, in their order. [`ClusterError::Memory`] is also
+/// returned if there was no room to record another reason, and nothing has changed then.
 #[derive(Clone, Copy, Debug, Error)]
 pub enum ClusterError {
     #[error("no frame of this number is in flight")]
@@ -20,8 +20,8 @@ pub enum ClusterError {
     MomentBack { last: Moment },
     #[error("no such peer")]
     UnknownPeer,
-    /// The step wasn't made, and nothing changed; or what was delivered stands, and none of the frames that the step was to send
-    /// flies.
+    /// Memory ran out. Either the step wasn't made, and nothing changed; or what was delivered stands, and none of the
+    /// frames that the step was to send is in flight.
     #[error("out of memory")]
     Memory,
 }
@@ -41,11 +41,11 @@ impl From<AllocError> for ClusterError {
 pub enum SettleError {
     #[error("a member is stopped")]
     Stopped,
-    /// The moment is before the last one of a member. Each such member is uncalm from then on.
+    /// The moment is before the last one of a member. Each such member isn't calm from then on.
     #[error("the moment is before the last one of a member")]
     MomentBack,
-    /// Memory ran out. Collections and takings that were made stand, and count. It is also the reason if the row of a map that is
-    /// to be taken has more than 67,108,864 bytes.
+    /// Memory ran out. Collections that were made stand, and so do the maps that were taken, and both count. This is also
+    /// the reason if the row of a map that is to be taken has more than 67,108,864 bytes.
     #[error("out of memory")]
     Memory,
 }

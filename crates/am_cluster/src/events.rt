@@ -43,7 +43,7 @@ fn brought_by(alloc: Global, event: &Event) -> Result<Vec<AnyVersion>, AllocErro
     }
 }
 
-/// Returns what comes with an event, with all the room that recording it takes.
+/// Returns the versions that come with an event, and all the room that is needed to record it.
 fn coming_with(alloc: Global, event: &Event) -> Result<PendingDelivery, AllocError>
     ensures coming { IfOk result (λ coming. ComesWith coming event.now) }
     ensures values { IfOk result (λ coming. All IsValue (brought Drop event.now)) }
@@ -58,7 +58,7 @@ fn coming_with(alloc: Global, event: &Event) -> Result<PendingDelivery, AllocErr
     })
 }
 
-/// States that what a step made are values. It changes nothing.
+/// States that the versions that a step made are values of their types. Nothing is changed.
 fn made_are_values(answer: &Result<Outcome, StepError>)
     ensures silences { IfOk answer.now (λ outcome. All IsMesh outcome.made.silences.items) }
     ensures log { IfOk answer.now (λ outcome. IfSome outcome.made.log IsLogMesh) }
@@ -71,7 +71,8 @@ fn made_are_values(answer: &Result<Outcome, StepError>)
     }
 }
 
-/// Makes the step of a member's instance, and states what is known of what it made and holds then.
+/// Makes the step of a member's instance, and states that the versions that it made and holds then are values of their
+/// types.
 fn step_of(instance: &mut Instance, event: Event, now: Moment) -> Result<Outcome, StepError>
     requires { IsAccepted instance.old event now }
     ensures step { IsStep instance.old event now result instance.new }

@@ -1,4 +1,4 @@
-//! Frames in flight: how one is found by its number, how it is delivered, and how it is lost.
+//! Frames in flight, which are found by their numbers, delivered and lost.
 
 ghost use Rattle.std.specs.Prelude.{◌≡◌, ◌<◌, IfOk, MatchOption, Some, length, slice_get};
 ghost use Rattle.am_instance.specs.declared.event.Event.TheVariants as events;
@@ -20,20 +20,20 @@ use am_runs::Source;
 use am_version_order::Moment;
 use std::alloc::AllocError;
 
-/// A frame that was sent and not lost. It stays in flight after it was delivered, and may be delivered again.
+/// A frame that was sent and not lost. It stays in flight after it is delivered, and may be delivered again.
 #[derive(Drop)]
 pub struct Flight {
-    /// The frame's place, from 1, among all frames that were ever sent.
+    /// The number of the frame, from 1, among all frames that were ever sent.
     pub number: u64,
     pub sender: Place,
     pub addressee: Place,
-    /// The moment at which the frame was sent.
+    /// The moment when the frame was sent.
     pub sent: Moment,
     pub frame: Frame,
 }
 
-/// Returns the position of the frame of a number among those in flight, which are sorted by their numbers, if it flies. It takes no
-/// memory.
+/// Returns the position of the frame with a number among those in flight, which are sorted by their numbers, or `None` if
+/// it isn't in flight. Nothing is allocated.
 fn flight_numbered(flights: &[Flight], number: u64) -> Option<usize>
     requires { AreAscending flights.now }
     ensures { MatchOption result (IsNoNumber flights.now number) (IsNumberedAt flights.now number) }
@@ -44,7 +44,7 @@ fn flight_numbered(flights: &[Flight], number: u64) -> Option<usize>
 }
 
 impl Cluster {
-    /// Loses the frame of a number. It takes no memory.
+    /// Removes the frame with a number from those in flight. Nothing is allocated.
     pub(crate) fn lose(&mut self, number: u64) -> Result<Reply, ClusterError>
         ensures { IsLoss self.old number result self.new }
     {
@@ -56,19 +56,19 @@ impl Cluster {
     }
 }
 
-/// A frame in flight, as it is about to come to its addressee.
+/// A frame in flight that is about to be delivered.
 #[derive(Clone, Copy)]
 struct Arrival {
     place: usize,
     sender: Place,
-    /// The place of the frame, from 0, among all that were ever sent.
+    /// The index of the frame, from 0, among all frames that were ever sent.
     index: usize,
     /// The position of the frame among those in flight.
     position: usize,
 }
 
 impl Cluster {
-    /// Returns the arrival of the frame of a number, if it flies. It takes no memory.
+    /// Returns the arrival of the frame with a number, or `None` if it isn't in flight. Nothing is allocated.
     fn arrival(&self, number: u64) -> Option<Arrival>
         ensures { MatchOption result (IsNoNumber self.now.flights number) (IsArrival self.now number) }
     {
@@ -84,7 +84,7 @@ impl Cluster {
         })
     }
 
-    /// Returns why a frame is refused to the member at a place, if it is. It takes no memory.
+    /// Returns the reason why the member at a place refuses a frame, or `None`. Nothing is allocated.
     fn arrival_refusal(&self, place: usize, sender: Place, now: Moment) -> Option<ClusterError>
         requires { place < length self.now.replicas }
         ensures { OfMember self.now place (λ replica. result ≡ event_refusal (is_peer replica.stand.config sender) replica now) }
@@ -94,7 +94,7 @@ impl Cluster {
         event_refusal(member, known, now)
     }
 
-    /// Returns the event that arrives with a copy of the frame.
+    /// Returns the event that delivers a copy of the frame.
     fn event_of(&self, arrival: &Arrival) -> Result<Event, AllocError>
         requires { arrival.now.position < length self.now.flights }
         ensures { IfOk result (λ event. (flight : Flown) → slice_get self.now.flights arrival.now.position ≡ Some flight →
@@ -107,7 +107,7 @@ impl Cluster {
         })
     }
 
-    /// Delivers the frame of a number to its addressee. It stays in flight.
+    /// Delivers the frame with a number to its addressee. The frame stays in flight.
     pub(crate) fn deliver(
         &mut self,
         number: u64,

@@ -1,4 +1,4 @@
-//! The journal of what happened in a cluster so far, to the silences and to the log, with the line that each step was given.
+//! The journal of a cluster: the record of each step so far for the silences and for the log, and its line.
 
 ghost use Rattle.std.specs.Prelude.{◌≡◌, ◌++◌, ℕ, [], ◌∷◌, ◌+◌, ◌-◌, ◌<◌, ◌≤◌, length, max, IsTrue, ◌↔◌, MatchOption, OnOk, OnErr, All};
 ghost use Rattle.am_runs.specs.Members.{last_of, member_of};
@@ -27,10 +27,10 @@ use report::earlier;
 use std::alloc::{AllocError, Global};
 use std::marker::Model;
 
-/// The journal of what happened in a cluster so far: what each step was to the silences and to the log, and the line that it was
+/// The journal of a cluster: the record of each step so far for the silences and for the log, and the line that it was
 /// given.
 ///
-/// Contracts see it as the number of the members, both lists of steps, the lines, and the room for more.
+/// Contracts see the number of members, both lists of steps, the lines, and the room for more.
 pub struct Journal {
     silences: Run<MeshSilence>,
     log: Run<MeshEntry>,
@@ -41,7 +41,7 @@ pub struct Journal {
     room: usize,
 }
 
-// (so that crates above cite one drop, and don't prove those of all that is inside)
+// With this the crates above cite one drop, and don't prove those of everything inside.
 impl Drop for Journal {
     fn drop(self) {
         let Journal {
@@ -82,8 +82,7 @@ impl Model for Journal {
 }
 
 impl Journal {
-    /// Returns a journal of `members` members in which nothing has happened yet: all of them run, and are empty. It takes no
-    /// memory.
+    /// Returns a journal of `members` members, all of which run and are empty, before the first step. Nothing is allocated.
     pub fn new(alloc: Global, members: usize) -> Journal
         ensures members { result.members ≡ members }
         ensures silences { result.silences ≡ [] }
@@ -99,8 +98,8 @@ impl Journal {
         }
     }
 
-    /// States how the journal hangs together: both lists of steps are runs, which tell of the same steps, each of which has a
-    /// line, and what was delivered in them are values of their types. It does nothing.
+    /// States that the journal is consistent. Both lists of steps are runs and tell of the same steps, each of which has a
+    /// line. Everything that was delivered in them is a value of its type. Nothing is done.
     pub fn consistency(&self)
         ensures runs { AreRuns self.now.members self.now.silences self.now.log }
         ensures silences { All IsMesh (delivered_in self.now.silences) }
@@ -112,11 +111,11 @@ impl Journal {
         self.log.consistency();
     }
 
-    /// Makes room for `steps` steps. Room that is already there takes no memory.
+    /// Makes room for `steps` steps. If there is enough room already, nothing is allocated.
     ///
     /// # Errors
     ///
-    /// [`AllocError`] if memory runs out. There is as much room then as before.
+    /// [`AllocError`] if memory runs out. The room is the same then as before.
     pub fn make_room(&mut self, steps: usize) -> Result<(), AllocError>
         ensures members { self.new.members ≡ self.old.members }
         ensures silences { self.new.silences ≡ self.old.silences }
@@ -136,12 +135,12 @@ impl Journal {
         Ok(())
     }
 
-    /// Checks that `frames` more frames can be numbered, each by its place among all that were ever sent. It takes no memory.
+    /// Checks that `frames` more frames can be numbered, each by its place among all frames that were ever sent. Nothing is
+    /// allocated.
     ///
     /// # Errors
     ///
-    /// [`AllocError`] if their numbers would exceed the last one of a `usize`. No memory holds so many frames, so this never
-    /// happens.
+    /// [`AllocError`] if their numbers would exceed [`usize::MAX`]. No memory holds so many frames, so this never happens.
     pub fn room_for_frames(&self, frames: usize) -> Result<(), AllocError>
         ensures ok { OnOk result (length (flights_of self.now.silences) + frames ≤ usize.MAX) }
         ensures err { OnErr result (usize.MAX < length (flights_of self.now.silences) + frames) }
@@ -152,7 +151,7 @@ impl Journal {
         }
     }
 
-    /// Records what a step was to the silences and to the log, and its line.
+    /// Appends the record of a step for the silences and for the log, and its line.
     pub fn append(&mut self, silences: RunStep<MeshSilence>, log: RunStep<MeshEntry>, line: u64)
         requires room { 0 < self.old.room }
         requires frames { length (flights_of self.old.silences) + length (flights_by (step_of silences)) ≤ usize.MAX }
@@ -172,7 +171,7 @@ impl Journal {
         self.lines.push_reserved(line);
     }
 
-    /// Records a step without versions, and its line.
+    /// Appends the record of a step without versions, and its line.
     pub fn mark(&mut self, mark: Mark, line: u64)
         requires room { 0 < self.old.room }
         requires possible { IsPossibleForSilences self.old.members self.old.silences (step_of_mark mark) }
@@ -187,7 +186,7 @@ impl Journal {
         self.append(mark.step(), mark.step(), line);
     }
 
-    /// States that both runs tell of the same steps, and that each step has its line. It does nothing.
+    /// States that both runs tell of the same steps, and that each step has its line. Nothing is done.
     pub fn is_told_of_both(&self)
         ensures twins { AreTwins self.now.silences self.now.log }
         ensures lines { length self.now.lines ≡ length self.now.silences }
@@ -196,7 +195,7 @@ impl Journal {
         let _sendings = self.sendings;
     }
 
-    /// Returns the number of frames that were ever sent. It takes no memory.
+    /// Returns the number of frames that were ever sent. Nothing is allocated.
     pub fn sendings(&self) -> usize
         ensures silences { result ≡ length (flights_of self.now.silences) }
         ensures log { result ≡ length (flights_of self.now.log) }
@@ -205,7 +204,7 @@ impl Journal {
         self.sendings
     }
 
-    /// Returns whether a member runs. It takes no memory.
+    /// Returns whether a member runs. Nothing is allocated.
     pub fn runs(&self, place: usize) -> bool
         ensures silences { result ≡ (member_of self.now.members place self.now.silences).runs }
         ensures log { result ≡ (member_of self.now.members place self.now.log).runs }
@@ -214,7 +213,7 @@ impl Journal {
         self.silences.runs(place)
     }
 
-    /// Returns the moment of a member's last event or start, or the first moment if it had none. It takes no memory.
+    /// Returns the moment of a member's last event or start, or the first moment if it had none. Nothing is allocated.
     pub fn last(&self, place: usize) -> Moment
         ensures silences { result ≡ last_of (member_of self.now.members place self.now.silences) }
         ensures log { result ≡ last_of (member_of self.now.members place self.now.log) }
@@ -223,7 +222,8 @@ impl Journal {
         self.silences.last(place)
     }
 
-    /// Returns whether a member was calm, or else the line of the first step at which it wasn't. It takes no memory.
+    /// Returns the report on a member: that it was calm, or the line of the first step at which it wasn't. Nothing is
+    /// allocated.
     pub fn report(&self, place: usize) -> CalmReport
         ensures calm { IsTrue result.calm
             ↔ IsCalmInBoth self.now.members place self.now.silences self.now.log }
@@ -246,7 +246,7 @@ impl Journal {
         }
     }
 
-    /// Returns whether both runs keep a spread and a flight time. It takes no memory.
+    /// Returns whether both runs keep a spread and a flight time. Nothing is allocated.
     pub fn timely(&self, spread: Interval, flight: Interval) -> bool
         ensures exactly { IsTrue result
             ↔ AreTimely spread flight self.now.members self.now.silences self.now.log }
@@ -256,8 +256,8 @@ impl Journal {
         self.silences.timely(spread, flight) && self.log.timely(spread, flight)
     }
 
-    /// Returns whether a member is durable in both runs: whether, at each start of it, a save stood behind each step that had
-    /// brought it something live. It takes no memory.
+    /// Returns whether a member is durable in both runs: at each of its starts, it had been saved after every step that had
+    /// brought it something live. Nothing is allocated.
     pub fn durable(&self, place: usize) -> bool
         ensures { IsTrue result ↔ IsDurableInBoth place self.now.silences self.now.log }
     {

@@ -1,4 +1,4 @@
-//! Laws of all members of a cluster, as it stands after any steps. They do nothing.
+//! Laws of all members of a cluster, as it is after any steps. They do nothing.
 
 mod answered;
 mod durable;

@@ -1,4 +1,5 @@
-//! A cluster of instances: their steps, the frames between them, the journal of the run so far, and the questions that it answers.
+//! A cluster of instances: their steps, the frames between them, the journal of the run so far, and the questions that the
+//! cluster answers.
 #![tactic(auto)]
 
 mod cluster;

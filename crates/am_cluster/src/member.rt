@@ -11,14 +11,14 @@ use am_version_order::Moment;
 use std::alloc::{AllocError, Global};
 use std::marker::Model;
 
-/// The saved maps of a member.
+/// The saved copy of a member's maps.
 #[derive(Drop)]
 pub(crate) struct Copy {
     silences: Held<MeshSilence>,
     log: Held<MeshEntry>,
 }
 
-/// A member: its instance, whether it runs, and what was last saved of it.
+/// A member: its instance, which runs or is stopped, and its last saved copy.
 #[derive(Drop)]
 pub(crate) struct Member {
     pub(crate) instance: Instance,
@@ -40,7 +40,7 @@ impl Model for Member {
 }
 
 impl Member {
-    /// Returns a member that runs, is empty, and of which nothing is saved. It takes no memory.
+    /// Returns a member that runs and is empty, and of which nothing is saved. Nothing is allocated.
     pub fn new(alloc: Global, config: Config) -> Member
         ensures stand { result.stand ≡ record { config = config; silences = []; log = []; last = 0 } }
         ensures runs { result.runs ≡ true }
@@ -74,7 +74,7 @@ impl Member {
         })
     }
 
-    /// Keeps a copy of both maps in place of the last one.
+    /// Replaces the saved copy of both maps.
     pub fn keep(&mut self, copy: Copy)
         requires silences { copy.silences ≡ self.old.stand.silences }
         requires log { copy.log ≡ self.old.stand.log }
@@ -90,7 +90,7 @@ impl Member {
         self.runs = false;
     }
 
-    /// Returns an instance with a copy of what was saved.
+    /// Returns an instance with the maps of the saved copy.
     ///
     /// # Errors
     ///

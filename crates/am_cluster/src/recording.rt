@@ -1,4 +1,4 @@
-//! The record of an instance's answer.
+//! Records of the answers of instances.
 
 ghost use Rattle.std.specs.Prelude.{◌≡◌, ◌⊎◌, ◌<◌, ◌++◌, ℕ, List, [], false, length, map, take, Ok, Err, OnErr, OnOk};
 ghost use Rattle.am_steps.specs.Contents.{delivery_of, entries_in, silences_in};
@@ -24,14 +24,14 @@ use am_runs::Source;
 use am_steps::carried::{AnyVersion, SplitVersions};
 use std::alloc::{AllocError, Global};
 
-/// The kind of an event, by what it has to do with versions.
+/// The kind of an event, depending on the versions that it removes, brings or makes.
 #[derive(Clone, Copy)]
 pub(crate) enum Kind {
-    /// The event removes the versions that are not live.
+    /// The event removes the versions that aren't live.
     Collects,
     /// The event is a frame that brings versions.
     Brings,
-    /// The event may make versions here.
+    /// The event may make versions at this member.
     Makes,
 }
 
@@ -61,7 +61,7 @@ fn first_brought(parted: SplitVersions, versions: Vec<AnyVersion>, count: usize)
     Delivered { silences, log }
 }
 
-/// Returns the entry that was made, if one was.
+/// Returns the entry that was made, if there is one.
 fn entry_made(parted: SplitVersions, log: Option<MeshEntry>) -> Vec<MeshEntry>
     requires { (count : ℕ) × IsRoomFor parted count }
     ensures { result.items ≡ listed log }
@@ -87,7 +87,7 @@ fn all_made(parted: SplitVersions, made: Made) -> Delivered
     Delivered { silences, log }
 }
 
-/// Records an event that delivered these versions, and has its frames fly, unless one of them found no memory.
+/// Records an event that delivered these versions, and sends its frames, unless there was no memory for one of them.
 fn write_sent(
     alloc: Global,
     journal: &mut Journal,
@@ -114,7 +114,7 @@ fn write_sent(
     write_event(alloc, journal, flights, entry, versions, frames)
 }
 
-/// The versions that came with an event, and room to split them.
+/// The versions that came with an event, and the room to split them by state.
 #[derive(Drop)]
 pub(crate) struct PendingDelivery {
     pub kind: Kind,
@@ -142,7 +142,7 @@ fn all_delivered(coming: PendingDelivery, made: Made) -> Delivered
     }
 }
 
-/// Returns whether the frames that come out of a step are dropped: those of a member that takes the maps of another are.
+/// Returns whether the frames of a step are dropped, as they are if a member takes the maps of another one.
 fn drops(source: Source) -> bool
     ensures { result ≡ drops source }
 {
@@ -212,7 +212,7 @@ fn write_refusal(
     }
 }
 
-/// Records what an instance answered to an event, has the frames fly, and returns the answer of the cluster.
+/// Records the answer of an instance to an event, sends the frames, and returns the answer of the cluster.
 pub(crate) fn write_answer(
     alloc: Global,
     journal: &mut Journal,

@@ -1,4 +1,4 @@
-//! The reasons why something is refused to a member, and how a refusal is recorded.
+//! The reasons why members refuse events, and the records of refusals.
 
 ghost use Rattle.std.specs.Prelude.{◌≡◌, ◌<◌, ℕ, OnErr, OnOk, Err, length};
 ghost use Rattle.am_instance.specs.declared.reply.Reply.{Reply};
@@ -19,7 +19,8 @@ use am_schedule::LineEvent;
 use am_version_order::Moment;
 use std::alloc::AllocError;
 
-/// Returns why an event is refused to a member, if it is; `known` says whether the member knows the peer. It takes no memory.
+/// Returns the reason why a member refuses an event, or `None`. `known` says whether the member knows the peer. Nothing is
+/// allocated.
 pub(crate) fn event_refusal(member: &Member, known: bool, now: Moment) -> Option<ClusterError>
     ensures { result ≡ event_refusal known member.now now }
 {
@@ -35,7 +36,7 @@ pub(crate) fn event_refusal(member: &Member, known: bool, now: Moment) -> Option
     }
 }
 
-/// Returns why a start is refused to a member, if it is. It takes no memory.
+/// Returns the reason why a member refuses a start, or `None`. Nothing is allocated.
 fn start_refusal(member: &Member, now: Moment) -> Option<ClusterError>
     ensures { result ≡ start_refusal member.now now }
 {
@@ -49,7 +50,7 @@ fn start_refusal(member: &Member, now: Moment) -> Option<ClusterError>
     }
 }
 
-/// Returns whether a line names no peer, or one that is another member. It takes no memory.
+/// Returns whether a line names no peer, or one that is another member. Nothing is allocated.
 fn names_peer(config: &Config, event: &LineEvent) -> bool
     ensures { result ≡ names_peer config.now (asked_by config.now event.now) }
 {
@@ -63,7 +64,7 @@ fn names_peer(config: &Config, event: &LineEvent) -> bool
     }
 }
 
-/// Returns why what a line asks is refused to a member, if it is. It takes no memory.
+/// Returns the reason why a member refuses what a line asks for, or `None`. Nothing is allocated.
 fn refusal(member: &Member, event: &LineEvent, now: Moment) -> Option<ClusterError>
     ensures { result ≡ refused_anyway member.now (asked_by member.now.stand.config event.now) now }
 {
@@ -84,7 +85,7 @@ fn mark_of(cause: &ClusterError, place: usize, now: Moment) -> Mark
 }
 
 impl Cluster {
-    /// Returns why what a line asks of the member at a place is refused, if it is. It takes no memory.
+    /// Returns the reason why the member at a place refuses what a line asks for, or `None`. Nothing is allocated.
     pub(crate) fn line_refusal(
         &self,
         place: usize,
@@ -101,7 +102,7 @@ impl Cluster {
     ///
     /// # Errors
     ///
-    /// [`AllocError`] if there was no room for it, and memory runs out; nothing has changed then.
+    /// [`AllocError`] if there was no room for the record and memory runs out. Nothing has changed then.
     pub(crate) fn write_mark(&mut self, mark: Mark, line: u64) -> Result<(), AllocError>
         requires idle { IsIdle mark }
         requires possible { IsPossibleForSilences (length self.old.replicas) self.old.silences (step_of_mark mark) }
@@ -114,7 +115,7 @@ impl Cluster {
         Ok(())
     }
 
-    /// Refuses a step for a cause.
+    /// Refuses a step for a reason.
     pub(crate) fn refuse(&mut self, cause: ClusterError, mark: Mark, line: u64) -> ClusterError
         requires idle { IsIdle mark }
         requires possible { IsPossibleForSilences (length self.old.replicas) self.old.silences (step_of_mark mark) }
@@ -126,7 +127,7 @@ impl Cluster {
         }
     }
 
-    /// Refuses a step to the member at a place for a cause.
+    /// Refuses a step of the member at a place for a reason.
     pub(crate) fn refuse_at(
         &mut self,
         place: usize,

@@ -1,4 +1,4 @@
-//! The frames that a step sends, as they are recorded and as they fly.
+//! The frames of a step, as they are recorded and as they are in flight.
 
 ghost use Rattle.std.specs.Prelude.{◌≡◌, ◌+◌, ◌-◌, ◌++◌, ◌≤◌, map, length, vec_capacity, vec_len, IfOk};
 ghost use Rattle.am_wire.specs.declared.unknown.Unknown.TheVariants.{Drop};
@@ -60,7 +60,7 @@ pub(crate) fn sent_in(alloc: Global, frames: &[(Place, Frame)]) -> Result<Sent, 
     Ok(sent)
 }
 
-/// Launches frames that a member sent, numbered on from a count of frames. It takes no memory.
+/// Puts frames that a member sent in flight, with numbers that follow a count of frames. Nothing is allocated.
 pub(crate) fn send_off(
     flights: &mut Vec<Flight>,
     count: usize,

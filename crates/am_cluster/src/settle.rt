@@ -1,4 +1,4 @@
-//! The settle of the members of a cluster.
+//! Settles of the members of a cluster.
 
 ghost use Rattle.std.specs.Prelude.{◌≡◌, ◌≢◌, [], ◌∷◌, ◌<◌, ◌≤◌, ◌↔◌, ℕ, None, Some, All, IsTrue, IfOk, OnErr, OnOk, length, map, slice_get, true};
 ghost use Rattle.am_wire.specs.declared.unknown.Unknown.{Unknown};
@@ -38,7 +38,8 @@ use am_steps::laws::lent_maps_come_from_their_lender;
 use am_version_order::Moment;
 use std::alloc::{AllocError, Global};
 
-/// Returns both maps of an instance in a frame, or [`AllocError`], also if the row of one has more than 67,108,864 bytes.
+/// Returns a frame with both maps of an instance. The result is [`AllocError`] also if the row of one of them has more than
+/// 67,108,864 bytes.
 fn frame_of(alloc: Global, instance: &Instance) -> Result<Frame, AllocError>
     requires drops { instance.now.config.unknown ≡ Drop }
     requires whole { HoldsWhole instance.now }
@@ -57,7 +58,7 @@ fn frame_of(alloc: Global, instance: &Instance) -> Result<Frame, AllocError>
 }
 
 impl Cluster {
-    /// Returns the event that comes to a member that takes the maps of the one at a place, which runs.
+    /// Returns the event by which a member takes the maps of the one at a place, which runs.
     fn lent_by(&self, lender: usize) -> Result<Event, AllocError>
         requires within { lender < length self.now.replicas }
         requires runs { OfMember self.now lender (λ lent. lent.runs ≡ true) }
@@ -171,14 +172,14 @@ fn has_stopped(members: &[Member]) -> bool
     members.iter().any(|member| !member.runs)
 }
 
-/// Returns whether a member's last moment is after this one.
+/// Returns whether the last moment of any member is after this one.
 fn has_late(members: &[Member], now: Moment) -> bool
     ensures { IsTrue result ↔ HasLate now members.now }
 {
     members.iter().any(|member| now < member.instance.last())
 }
 
-/// Records that a step of this moment is refused to each member whose last moment is after it. It takes no memory.
+/// Records the refusal of a step with this moment by each member whose last moment is after it. Nothing is allocated.
 fn mark_late(journal: &mut Journal, members: &[Member], now: Moment, line: u64)
     requires room { length members.now ≤ journal.old.room }
     requires told { (place : ℕ) (replica : Replica) → slice_get members.now place ≡ Some replica →
@@ -194,7 +195,7 @@ fn mark_late(journal: &mut Journal, members: &[Member], now: Moment, line: u64)
 }
 
 impl Cluster {
-    /// Records that a settle is refused to each member whose last moment is after it.
+    /// Records the refusal of a settle by each member whose last moment is after it.
     fn refuse_late(&mut self, now: Moment, line: u64) -> Result<(), AllocError>
         ensures backs { OnOk result
             (self.new ≡ with_backs (with_room self.old (length self.old.replicas)) (late_places self.old.replicas now) now line) }
@@ -206,7 +207,7 @@ impl Cluster {
         Ok(())
     }
 
-    /// Checks whether all members can settle, and records it if they can't, or if there are none.
+    /// Checks that all members can settle, and makes a record if they can't or there are none.
     fn admit(&mut self, now: Moment, line: u64) -> Result<(), SettleError>
         ensures { IsAdmitted self.old now line result self.new }
     {
@@ -224,15 +225,16 @@ impl Cluster {
         Ok(())
     }
 
-    /// Lets every member collect, the first by name take the maps of all others in their order, and each other one take the
-    /// first one's. Then all hold the join of what they held that was live. Each taking counts as a delivery, and no
-    /// frame of it flies. If there is no member, only the moment is recorded.
+    /// Lets every member collect, the first member by name take the maps of all others in their order, and then each other
+    /// member take the maps of the first. Afterwards all of them hold the join of everything live that any of them held.
+    /// Each taking counts as a delivery, and none of its frames is sent. If there is no member, only the moment is
+    /// recorded.
     ///
     /// # Errors
     ///
-    /// The first [`SettleError`] that applies, in their order. If there was no room to record a refusal, it may be
-    /// [`SettleError::Memory`], and nothing has changed then. That is also the error if the row of a map that is to be taken has
-    /// more than 67,108,864 bytes.
+    /// The first [`SettleError`] that applies, in their order. [`SettleError::Memory`] is also returned if there was no
+    /// room to record a refusal, and nothing has changed then, or if the row of a map that is to be taken has more than
+    /// 67,108,864 bytes.
     pub fn settle(&mut self, now: Moment, line: u64) -> Result<(), SettleError>
         ensures settled { IsSettle self.old now line result self.new }
         // PROMISE: After a settle all members hold the greatest live version of each key that any of them held.

@@ -16,7 +16,7 @@ use am_version_order::Moment;
 use std::alloc::AllocError;
 
 impl Cluster {
-    /// Returns the place of the member of a name.
+    /// Returns the place of the member with this name.
     fn place_of(&self, name: &str) -> Option<usize>
         ensures named { result ≡ place_in self.now name.now }
         ensures within { IfSome result (λ place. place < length self.now.replicas) }
@@ -26,7 +26,7 @@ impl Cluster {
         Some(place as usize)
     }
 
-    /// Returns what a line asks of the member at a place.
+    /// Returns what a line asks the member at a place to do.
     fn asked(&self, place: usize, event: &LineEvent) -> Result<Asked, AllocError>
         requires { place < length self.now.replicas }
         ensures asked { IfOk result (λ asked. OfMember self.now place (λ replica. asked ≡ asked_by replica.stand.config event.now)) }
@@ -62,12 +62,12 @@ impl Cluster {
         }
     }
 
-    /// Makes a step, which stands in this line of a schedule, and returns the reply to its event.
+    /// Makes the step in a line of a schedule, and returns the reply to its event.
     ///
     /// # Errors
     ///
-    /// The first [`ClusterError`] that applies, in their order. [`ClusterError::Memory`] comes last, unless there was no room to
-    /// record a refusal.
+    /// The first [`ClusterError`] that applies, in their order. [`ClusterError::Memory`] comes last, unless there was no
+    /// room to record a refusal.
     pub fn step(&mut self, step: &Step, line: u64) -> Result<Reply, ClusterError>
         // PROMISE: A line of a schedule changes one member, the record and the frames in flight exactly as it says.
         ensures { IsStepped self.old step.now line result self.new }

@@ -1,4 +1,4 @@
-//! The record of an event.
+//! Records of events.
 
 ghost use Rattle.std.specs.Prelude.{◌≡◌, ◌+◌, ◌-◌, ◌++◌, ◌<◌, ◌≤◌, ℕ, List, [], length, map, vec_capacity, vec_len, IfOk, OnOk, OnErr};
 ghost use Rattle.am_gossip.specs.declared.frame.Frame.{Frame as SentFrame};
@@ -35,7 +35,7 @@ pub(crate) struct Delivered {
     pub log: Vec<MeshEntry>,
 }
 
-/// Returns what an event was to the versions of one state.
+/// Returns the record of an event for the versions of one state.
 fn took<V>(entry: &Entry, versions: Vec<V>, frames: Vec<Vec<V>>) -> RunStep<V>
     ensures { step_of result
         ≡ Took entry.now.place entry.now.moment entry.now.source versions.items (map (λ frame. frame.items) frames.items) }
@@ -64,7 +64,7 @@ fn write_with(journal: &mut Journal, entry: &Entry, versions: Delivered, sent: S
     journal.append(silences, log, entry.line);
 }
 
-/// Returns the versions of no frames. It takes no memory.
+/// Returns the versions of no frames. Nothing is allocated.
 fn nothing_sent(alloc: Global) -> Sent
     ensures { AreSent result [] }
 {
@@ -83,11 +83,11 @@ pub(crate) fn write_silent(alloc: Global, journal: &mut Journal, entry: &Entry, 
     write_with(journal, entry, versions, nothing_sent(alloc));
 }
 
-/// Makes all the room that frames take when they are sent, and copies their versions.
+/// Makes all the room that the frames take when they are sent, and copies their versions.
 ///
 /// # Errors
 ///
-/// [`AllocError`] if memory runs out; without frames none is taken.
+/// [`AllocError`] if memory runs out. Without frames, nothing is allocated.
 fn make_ready(
     alloc: Global,
     journal: &Journal,
@@ -109,11 +109,11 @@ fn make_ready(
     sent_in(alloc, frames)
 }
 
-/// Records an event, and has its frames fly.
+/// Records an event, and sends its frames.
 ///
 /// # Errors
 ///
-/// [`AllocError`] if a frame finds no memory: then none of them flies.
+/// [`AllocError`] if there is no memory for a frame. None of the frames is in flight then.
 pub(crate) fn write_event(
     alloc: Global,
     journal: &mut Journal,

@@ -1,4 +1,4 @@
-//! The members of a cluster, and how long things are kept and waited for.
+//! The configuration of a member: the members of its cluster, and how long versions are kept and members wait.
 
 ghost use Rattle.std.specs.Prelude.{◌≡◌, ◌≢◌, ℕ, ◌+◌, ◌*◌, ◌<◌, ◌≤◌, ◌↔◌, ◌⊎◌, ◌∷◌, Any, Contains, Some, None, length};
 ghost use Rattle.std.specs.Prelude.{insert, position, slice_get, false, IsTrue, IfOk, OnOk, OnErr, IfSome, IsPermutation};
@@ -47,14 +47,14 @@ fn any_long(names: &[Text]) -> bool
     names.iter().any(is_long)
 }
 
-/// Returns whether any of all names has no bytes.
+/// Returns whether any name, this member's own or a peer's, has no bytes.
 fn has_empty(name: &Text, peers: &[Text]) -> bool
     ensures { IsTrue result ↔ Any IsEmptyName (name.now ∷ peers.now) }
 {
     is_empty(name) || any_empty(peers)
 }
 
-/// Returns whether any of all names has more than 255 bytes.
+/// Returns whether any name, this member's own or a peer's, has more than 255 bytes.
 fn has_long(name: &Text, peers: &[Text]) -> bool
     ensures { IsTrue result ↔ Any IsLongName (name.now ∷ peers.now) }
 {
@@ -79,7 +79,7 @@ fn check_names(name: &Text, peers: &[Text]) -> Result<(), ConfigError>
     Ok(())
 }
 
-/// Sorts names, and returns whether no two are the same. It takes no memory.
+/// Sorts names, and returns whether all of them differ. Nothing is allocated.
 fn sort_names(names: &mut Vec<Text>) -> bool
     ensures same { IsPermutation names.old.items names.new.items }
     ensures order { IsTrue result → AreInOrder names.new.items }
@@ -99,7 +99,7 @@ fn place_for(names: &[Text], name: &Text) -> Option<usize>
     names.binary_search(name).err()
 }
 
-/// Returns all names in order, and the place of this member's own.
+/// Returns all names in order, and the place of this member's own name.
 fn in_order(name: Text, peers: Vec<Text>) -> Result<(Vec<Text>, usize), ConfigError>
     ensures order { IfOk result (λ all. AreInOrder all.0.items) }
     ensures members { IfOk result (λ all. IsPermutation (name ∷ peers.items) all.0.items) }
@@ -140,7 +140,7 @@ pub struct Config {
     unknown: Unknown,
 }
 
-// (so that crates above cite one drop, and don't prove those of all that is inside)
+// With this the crates above cite one drop, and don't prove those of everything inside.
 impl Drop for Config {
     fn drop(self) {
         let Config {
@@ -229,7 +229,7 @@ impl Config {
         })
     }
 
-    /// Returns the same configuration with patterns of this dialect. It takes no memory.
+    /// Returns the same configuration with patterns of this dialect. Nothing is allocated.
     pub fn with_dialect(self, dialect: Dialect) -> Config
         ensures { result ≡ record self { dialect = dialect } }
     {
@@ -238,7 +238,8 @@ impl Config {
         config
     }
 
-    /// Returns the same configuration with this policy for fields of versions that their readers don't know. It takes no memory.
+    /// Returns the same configuration with this policy for fields of versions that their readers don't know. Nothing is
+    /// allocated.
     pub fn with_unknown(self, unknown: Unknown) -> Config
         ensures { result ≡ record self { unknown = unknown } }
     {
@@ -277,7 +278,7 @@ impl Config {
         self.place
     }
 
-    /// Returns how long versions are kept after their end, in nanoseconds.
+    /// Returns the time for which versions are kept after their end, in nanoseconds.
     pub fn retention(&self) -> Interval
         ensures { result ≡ self.now.retention }
     {
@@ -305,8 +306,8 @@ impl Config {
         place < self.members.len() as u64 && place != self.place
     }
 
-    /// Returns the place of the member with that name, which may be this one, or `None` if there is no such member. It takes no
-    /// memory.
+    /// Returns the place of the member with this name, which may be this one, or `None` if there is no such member. Nothing
+    /// is allocated.
     pub fn place_named(&self, name: &str) -> Option<Place>
         ensures named { result ≡ place_named self.now name.now }
         ensures there { IfSome result (λ place. slice_get self.now.members place ≡ Some name.now) }
@@ -317,7 +318,8 @@ impl Config {
         Some(index as u64)
     }
 
-    /// Returns when this member is due if it began to wait at `start`, or `None` past [`Moment::GREATEST`]. It takes no memory.
+    /// Returns the moment when this member is due if it began to wait at `start`, or `None` if that is past
+    /// [`Moment::GREATEST`]. Nothing is allocated.
     pub fn due_from(&self, start: Moment) -> Option<Moment>
         ensures { let due = start + self.now.place * self.now.peer_timeout in SomeIff result (due ≤ greatest) due }
     {

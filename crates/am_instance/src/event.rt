@@ -15,13 +15,13 @@ pub enum Request {
     List { filters: Vec<Filter> },
     /// The silence with an identifier.
     Get { id: Text },
-    /// A silence to create or update; a new one gets its identifier from the random bits.
+    /// A silence to create or update. A new one gets its identifier from the random bits.
     Post { posted: Posted, bits: u128 },
     /// A silence to end.
     Delete { id: Text },
 }
 
-/// An event, which one step answers as a whole.
+/// An event, which is answered by one step.
 #[derive(Drop)]
 pub enum Event {
     Request(Request),
@@ -30,8 +30,8 @@ pub enum Event {
         sender: Place,
         frame: Frame,
     },
-    /// A group was notified: its key, the receiver, the hashes of its alerts, and the number of nanoseconds after which the
-    /// notification is to be repeated.
+    /// A notification of a group: its key, the receiver, the hashes of its alerts, and the time after which it is to be
+    /// repeated, in nanoseconds.
     Notified {
         group_key: Bytes,
         receiver: Receiver,
@@ -39,7 +39,7 @@ pub enum Event {
         resolved: Hashes,
         repeat: Interval,
     },
-    /// A question whether a group is to be notified.
+    /// A question about whether a group is to be notified.
     Decide {
         group_key: Bytes,
         receiver: Receiver,
@@ -48,14 +48,14 @@ pub enum Event {
         repeat: Interval,
         send_resolved: bool,
     },
-    /// A question which silences mute an alert with these labels.
+    /// A question about which silences mute an alert with these labels.
     Mutes {
         labels: Labels,
     },
     /// A request for both views.
     Show,
-    /// A collection of both states.
+    /// A collection of what isn't live in both states.
     Tick,
-    /// Both states are to be sent to a peer, which answers with its own.
+    /// A request to send both states to a peer, which answers with its own.
     PullFrom(Place),
 }

@@ -1,4 +1,4 @@
-//! Frames to be sent, and how a step makes them.
+//! Frames to be sent, and the steps that make them.
 
 ghost use Rattle.std.specs.Prelude.{◌≡◌, ◌≤◌, [], ◌∷◌, filter, length, Some, true, IfSome, IfOk, OnOk};
 ghost use Rattle.std.specs.Option.{option_copied};
@@ -26,7 +26,7 @@ use am_wire::writing::{delimited_bytes, delimited_length};
 use std::alloc::{AllocError, Global};
 use std::marker::Model;
 
-/// The members that the Deltas of a step go to: all but this one and the one that the versions came from.
+/// The members to which the Deltas of a step go: all but this one and the one that sent the versions.
 #[derive(Clone, Copy)]
 pub struct Route {
     pub members: u64,
@@ -39,11 +39,12 @@ pub struct Route {
 pub enum Exchange {
     /// The peer is asked for its own states.
     Ask,
-    /// The peer's states are answered.
+    /// The peer asked for the states of this member.
     Answer,
 }
 
-/// Frames to be sent, each with the place of its peer, and the numbers of those left out. Contracts see the list and the numbers.
+/// Frames to be sent, each with the place of its peer, and the numbers of frames left out. Contracts see the list and the
+/// numbers.
 #[derive(Drop)]
 pub struct FrameSender {
     pub frames: Vec<(Place, Frame)>,
@@ -59,7 +60,7 @@ impl Model for FrameSender {
 }
 
 impl FrameSender {
-    /// Returns a sender without frames. It takes no memory.
+    /// Returns a sender without frames. Nothing is allocated.
     pub fn new(alloc: Global) -> FrameSender
         ensures { result ≡ nothing_sent }
     {
@@ -72,7 +73,7 @@ impl FrameSender {
         }
     }
 
-    /// Appends what another sender holds. Frames for which there is no memory are counted.
+    /// Appends the frames of another sender, and adds its numbers. Frames for which there is no memory are counted.
     pub fn add(&mut self, more: FrameSender)
         ensures { Gathers more self.old self.new }
     {
@@ -96,7 +97,7 @@ impl FrameSender {
         self.unsent.limit = self.unsent.limit.saturating_add(1);
     }
 
-    /// Appends a frame that keeps its limit.
+    /// Appends a frame that keeps the limit of its kind.
     fn hand_out(&mut self, place: Place, frame: Frame)
         requires { fits frame ≡ true }
         ensures { IsSent (place, frame) self.old self.new }
@@ -116,7 +117,7 @@ impl FrameSender {
         }
     }
 
-    /// Sends a version to one place, if the route has it.
+    /// Sends a version to one place if it is on the route.
     fn send_along(
         &mut self,
         route: Route,
@@ -133,7 +134,7 @@ impl FrameSender {
         }
     }
 
-    /// Sends a version to one place. `row` is the written version, if there was memory for it.
+    /// Sends a version to one place. `row` is the version as it is written, or `None` if there was no memory for it.
     fn send_delta(&mut self, place: Place, key: StateKey, content: &[u8], row: Option<&Bytes>)
         requires { IfSome (option_copied row) (λ bytes. bytes ≡ delimited content.now) }
         ensures { IsSent (place, delta key content.now) self.old self.new }
@@ -179,14 +180,14 @@ fn states_frame(exchange: Exchange, state: FullState) -> Frame
     }
 }
 
-/// Returns a copy of what is written, if there is anything and there is memory for the copy.
+/// Returns a copy of a row, or `None` if there is no row or no memory for the copy.
 fn copy_of(alloc: Global, written: Option<&Bytes>) -> Option<Bytes>
     ensures { IfSome result (λ copy. option_copied written.entry ≡ Some copy) }
 {
     written?.try_clone(alloc).ok()
 }
 
-/// Returns the row of a version, if it keeps the limit of a Delta and there is memory for it.
+/// Returns the row of a version, or `None` if it is over the limit of a Delta or there is no memory for it.
 fn delta_row(alloc: Global, key: StateKey, content: &[u8]) -> Option<Bytes>
     ensures { IfSome result (λ bytes. bytes ≡ delimited content.now) }
 {
@@ -196,7 +197,7 @@ fn delta_row(alloc: Global, key: StateKey, content: &[u8]) -> Option<Bytes>
     delimited_bytes(alloc, content).ok()
 }
 
-/// Returns whether both states keep the limit of a frame. It takes no memory.
+/// Returns whether both states keep the limit of a frame. Nothing is allocated.
 fn keep_limit(silences: &Held<MeshSilence>, log: &Held<MeshEntry>) -> bool
     ensures { result ≡ fits (frames.Push (whole_state silences.now log.now)) }
 {
@@ -209,7 +210,7 @@ fn keep_limit(silences: &Held<MeshSilence>, log: &Held<MeshEntry>) -> bool
     states_fit(of_silences, of_log)
 }
 
-/// Returns the row of a map, or [`AllocError`] also if it has more than 67,108,864 bytes.
+/// Returns the row of a map. The result is [`AllocError`] also if it has more than 67,108,864 bytes.
 fn row_of<V: Version>(alloc: Global, held: &Held<V>) -> Result<Bytes, AllocError>
     ensures row { IfOk result (λ bytes. bytes ≡ row_text V.seen held.now) }
     ensures short { OnOk result (length (row_text V.seen held.now) ≤ most) }
@@ -220,8 +221,8 @@ fn row_of<V: Version>(alloc: Global, held: &Held<V>) -> Result<Bytes, AllocError
     row_bytes(alloc, held, length)
 }
 
-/// Returns both whole maps, including versions that aren't live; or [`AllocError`] also if the row of one has more than
-/// 67,108,864 bytes.
+/// Returns both whole maps, including versions that aren't live. The result is [`AllocError`] also if the row of one of
+/// them has more than 67,108,864 bytes.
 pub fn whole_state(
     alloc: Global,
     silences: &Held<MeshSilence>,

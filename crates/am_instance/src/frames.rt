@@ -31,7 +31,7 @@ use am_wire::Unknown;
 use std::alloc::{AllocError, Global};
 
 impl Instance {
-    /// Takes the versions of a frame, sends on those that change a map, and answers a Push with both own states.
+    /// Takes the versions of a frame, and sends on those that change a map. Answers a Push with both states of this member.
     pub(crate) fn receive(
         &mut self,
         sender: Place,
@@ -99,7 +99,7 @@ impl Instance {
     ///
     /// # Errors
     ///
-    /// [`AllocError`] if memory runs out; the versions counted were taken.
+    /// [`AllocError`] if memory runs out. The versions that were counted were taken.
     fn take_parts(
         &mut self,
         sender: Place,
@@ -168,7 +168,8 @@ impl Instance {
         }
     }
 
-    /// Returns the route to the peers other than the one at a place; at the own place, to all peers.
+    /// Returns the route to all peers but the one at this place. If it is this member's own place, the route goes to all
+    /// peers.
     pub(crate) fn route(&self, origin: Place) -> Route
         ensures places { places_but result.members result.own result.origin ≡ peers_but self.now.config origin }
         ensures own { result.own ≡ self.now.config.place }
@@ -181,7 +182,7 @@ impl Instance {
     }
 }
 
-/// Drops what isn't live from both states, and the patterns that no remaining silence has. It takes no memory.
+/// Drops what isn't live from both states, and the patterns that no remaining silence has. Nothing is allocated.
 fn sweep(
     silences: &mut Held<MeshSilence>,
     log: &mut Held<MeshEntry>,
@@ -204,7 +205,7 @@ fn sweep(
 ///
 /// # Errors
 ///
-/// [`StepError::Frame`] for the first fault in the rows, or [`StepError::Memory`].
+/// [`StepError::Frame`] for the first fault in the rows, or [`StepError::Memory`] if memory runs out.
 fn judge_parts(alloc: Global, unknown: Unknown, parts: &[Part]) -> Result<(), StepError>
     ensures sound { OnOk result (first_fault (rows_in unknown parts.now) ≡ None) }
     ensures fault { IfErr result (IsJudgement (first_fault (rows_in unknown parts.now))) }

@@ -21,17 +21,17 @@ use am_version_order::Version;
 use am_wire::{Bytes, Text};
 use std::alloc::{AllocError, Global};
 
-/// The progress in handing out both states: the rest of one goes on from a key, or from its start if there is none.
+/// The progress in handing out both states. The rest of a state goes on from a key, or from its start if there is none.
 #[derive(Drop)]
 pub enum Handout {
-    /// Silences are left, and the whole log.
+    /// Silences are left, from the identifier on, and the whole log.
     Silences(Option<Text>),
-    /// All silences have gone out.
+    /// All silences are handed out, and the log is left from the key on.
     Log(Option<LogKey>),
 }
 
 impl Handout {
-    /// Returns the progress before the first part. It takes no memory.
+    /// Returns the progress before the first part. Nothing is allocated.
     pub fn new() -> Handout
         ensures { result ≡ Handout.Silences None }
     {
@@ -48,10 +48,12 @@ pub struct HandedPart {
 }
 
 impl Instance {
-    /// Returns the next part of all that is held, live or not, as the maps are at this call, and the progress after it. Pieces of
-    /// one state each come first. The last part has the rest of both states, and it alone names both. The rows of a part have at
-    /// most `most` bytes together, unless a version has more by itself: then it is the only one. Whoever writes the frame refuses
-    /// it if it is over the limit of its kind.
+    /// Returns the next part of everything that is held, live or not, and the progress after it. The maps are read as they
+    /// are at this call.
+    ///
+    /// Pieces of one state each come first. The last part has the rest of both states, and is the only one that names both.
+    /// The rows of a part have at most `most` bytes together, unless a single version has more: then the part has nothing
+    /// else. Such a part may be over the limit of its frame's kind, in which case the writer of the frame refuses it.
     ///
     /// # Errors
     ///
@@ -83,7 +85,7 @@ fn left_of<'a, V: Version>(held: &'a Held<V>, from: Option<&V::Key>) -> Iter<'a,
     }
 }
 
-/// Returns the next part if silences are left, by their first piece, and the whole log.
+/// Returns the next part if silences are left, starting with their first piece, and the whole log.
 fn hand_silences(
     alloc: Global,
     silences: RowPiece<Text>,
@@ -104,7 +106,7 @@ fn hand_silences(
     }
 }
 
-/// Returns the next part if only entries of the log are left, by their first piece.
+/// Returns the next part if only entries of the log are left, starting with their first piece.
 fn hand_log(alloc: Global, log: RowPiece<LogKey>) -> Result<HandedPart, AllocError>
     ensures part { IfOk result (λ handed. (most : ℕ) (left : List LogMesh) → IsPiece entry_version most left log →
         HandsLog most left handed.state handed.next) }
@@ -117,7 +119,7 @@ fn hand_log(alloc: Global, log: RowPiece<LogKey>) -> Result<HandedPart, AllocErr
     }
 }
 
-/// Returns the row of the log, if it fits beside `used` bytes.
+/// Returns the row of the log if it fits beside `used` bytes.
 fn log_beside(
     alloc: Global,
     used: usize,
@@ -137,7 +139,7 @@ fn log_beside(
     Ok(Some(row))
 }
 
-/// Returns a part that is one row alone, and the progress after it.
+/// Returns a part with this row alone, and the progress after it.
 fn hand_alone(
     alloc: Global,
     key: StateKey,
@@ -164,7 +166,7 @@ fn hand_last(alloc: Global, silences: Bytes, log: Bytes) -> Result<HandedPart, A
     })
 }
 
-/// Returns whether there are parts of both states, as in the last one handed out. It takes no memory.
+/// Returns whether there are parts of both states, as in the last one that is handed out. Nothing is allocated.
 pub fn names_both(state: &FullState) -> bool
     ensures { result ≡ names_both state.now }
 {

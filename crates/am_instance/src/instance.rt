@@ -29,7 +29,7 @@ pub struct Instance {
     last: Moment,
 }
 
-// (so that crates above cite one drop, and don't prove those of all that is inside)
+// With this the crates above cite one drop, and don't prove those of everything inside.
 impl Drop for Instance {
     fn drop(self) {
         let Instance {
@@ -52,7 +52,7 @@ impl Model for Instance {
 }
 
 impl Instance {
-    /// Returns an instance that holds these maps, with `now` as the moment of its last event. It takes no memory.
+    /// Returns an instance that holds these maps, with `now` as the moment of its last event. Nothing is allocated.
     pub fn start(
         config: Config,
         silences: Held<MeshSilence>,
@@ -75,48 +75,48 @@ impl Instance {
         }
     }
 
-    /// Returns the silences held, live or not. It takes no memory.
+    /// Returns the silences that are held, live or not. Nothing is allocated.
     pub fn silences(&self) -> &Held<MeshSilence>
         ensures { result.now ≡ self.now.silences }
     {
         &self.silences
     }
 
-    /// Returns the entries of the log held, live or not. It takes no memory.
+    /// Returns the entries of the log that are held, live or not. Nothing is allocated.
     pub fn log(&self) -> &Held<MeshEntry>
         ensures { result.now ≡ self.now.log }
     {
         &self.log
     }
 
-    /// Returns the moment of the last event. It takes no memory.
+    /// Returns the moment of the last event. Nothing is allocated.
     pub fn last(&self) -> Moment
         ensures { result ≡ self.now.last }
     {
         self.last
     }
 
-    /// Returns the configuration. It takes no memory.
+    /// Returns the configuration. Nothing is allocated.
     pub fn config(&self) -> &Config
         ensures { result.now ≡ self.now.config }
     {
         &self.config
     }
 
-    /// Returns the compiled patterns, of any dialect. They make no difference to what the instance answers. It takes no memory.
+    /// Returns the compiled patterns, of any dialect. Answers don't depend on them. Nothing is allocated.
     pub fn patterns(&self) -> &PatternCache {
         &self.patterns
     }
 
-    /// Replaces the compiled patterns, and returns those it had. They make no difference to what the instance answers. It takes
-    /// no memory.
+    /// Replaces the compiled patterns, and returns the previous ones. Answers don't depend on them. Nothing is allocated.
     pub fn swap_patterns(&mut self, patterns: PatternCache) -> PatternCache
         ensures same { self.new ≡ self.old }
     {
         std::mem::replace(&mut self.patterns, patterns)
     }
 
-    /// Returns when this instance is due if it began to wait at `start`, or `None` past [`Moment::GREATEST`]. It takes no memory.
+    /// Returns the moment when this instance is due if it began to wait at `start`, or `None` if that is past
+    /// [`Moment::GREATEST`]. Nothing is allocated.
     pub fn due_from(&self, start: Moment) -> Option<Moment>
         ensures { SomeIff result (start + self.now.config.place * self.now.config.peer_timeout ≤ greatest)
             (start + self.now.config.place * self.now.config.peer_timeout) }
@@ -124,12 +124,12 @@ impl Instance {
         self.config.due_from(start)
     }
 
-    /// Answers one event as a whole.
+    /// Answers one event in one step.
     ///
     /// # Errors
     ///
-    /// The first [`StepError`] that applies, in their order; memory may run out before the fault of a frame is found. A refused
-    /// event changes nothing, unless memory ran out: then its moment counts, and what was taken stays.
+    /// The first [`StepError`] that applies, in their order. Memory may run out before the fault of a frame is found. A
+    /// refused event changes nothing, unless memory ran out: then its moment counts, and the versions that were taken stay.
     pub fn step(&mut self, event: Event, now: Moment) -> Result<Outcome, StepError>
         // PROMISE: An event is refused for its first fault, or it is one step with exactly these changes, frames and reply.
         ensures { IsStep self.old event now result self.new }
@@ -144,7 +144,7 @@ impl Instance {
         answer
     }
 
-    /// Refuses a moment before the last one, and a place that isn't a peer's.
+    /// Checks that the moment isn't before the last one, and that a place is that of a peer.
     fn admit(&self, event: &Event, now: Moment) -> Result<(), StepError>
         ensures admitted { OnOk result (IsAdmitted self.now event.now now) }
         ensures refused { IfErr result (IsUnadmitted self.now event.now now) }
@@ -158,7 +158,7 @@ impl Instance {
         }
     }
 
-    /// Does what an event asks for. The caller sets its moment.
+    /// Does what an event asks for. The caller sets the moment.
     fn work(&mut self, event: Event, now: Moment) -> Result<Outcome, StepError>
         ensures { IsWork self.old event now result self.new }
     {
@@ -196,7 +196,7 @@ impl Instance {
     }
 }
 
-/// Returns the place of a peer that an event names.
+/// Returns the place of the peer that an event names, or `None` if it names none.
 fn peer_of(event: &Event) -> Option<Place>
     ensures { result ≡ peer_of event.now }
 {
@@ -207,7 +207,7 @@ fn peer_of(event: &Event) -> Option<Place>
     }
 }
 
-/// Returns whether the moment of an event counts: it was answered, or memory ran out.
+/// Returns whether the moment of an event counts, which is so if it was answered or memory ran out.
 fn counts(answer: &Result<Outcome, StepError>) -> bool
     ensures { result ≡ counts answer.now }
 {

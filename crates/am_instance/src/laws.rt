@@ -38,8 +38,9 @@ use am_nflog::MeshEntry;
 use am_silence::MeshSilence;
 use am_version_order::Version;
 
-/// States that, after any steps from any maps and moment, each map for which they were calm shows, at every key and at every
-/// moment from the last step on, what the bare set of all versions shows that the instance began with or that were delivered.
+/// States what an instance shows after any steps from any maps and moment. Each map for which the steps were calm shows the
+/// same as the bare set of all versions that the instance began with or that were delivered, at every key and at every
+/// moment from the last step on.
 pub fn steps_show_the_bare_sets()
     // PROMISE: After calm steps a replica shows what everything that it ever took would show.
     ensures silences { (start new : InstanceState) (steps : List Happened) (now : ℕ) (id : List ℕ) →
@@ -55,8 +56,8 @@ pub fn steps_show_the_bare_sets()
     calm_events_show_the_bare_set::<MeshEntry>();
 }
 
-/// States that two instances that began with or were delivered the same versions in calm steps, in any order and however often,
-/// show the same from the later of their last moments on.
+/// States that two instances that began with or were delivered the same versions in calm steps, in any order and however
+/// often, show the same from the later of their last moments on.
 pub fn equal_sets_show_alike()
     ensures { (start begin one other : InstanceState) (steps others : List Happened) (now : ℕ) →
         AreCalmSteps start steps one → AreCalmSteps begin others other →
@@ -75,7 +76,7 @@ fn equal_views_are_one<V: Version>()
         swept V.seen now map ≡ swept V.seen now other }
 {}
 
-/// States that two instances that show the same give the same replies to what is answered from the views alone.
+/// States that two instances that show the same give the same replies to events that are answered from the views alone.
 pub fn equal_views_reply_alike()
     // PROMISE: Replicas that show the same answer alike.
     ensures { (one other : InstanceState) (event : Event) (now : ℕ) (reply : Reply) (made : Made) → HasMaps one → HasMaps other →
@@ -86,8 +87,8 @@ pub fn equal_views_reply_alike()
     equal_views_are_one::<MeshEntry>();
 }
 
-/// States that, of two instances that show the same, with patterns of the same dialect, a silence that mutes an alert at one
-/// mutes it at the other, unless its patterns are reported as broken there.
+/// States that a silence that mutes an alert at one of two instances mutes it at the other, if both show the same and have
+/// patterns of the same dialect, and unless the other reports its patterns as broken.
 pub fn equal_views_mute_alike()
     ensures { (dialect : Dialect) (one other : InstanceState) (now : ℕ) (labels : List Label) (ids broken others broken_too : List (List ℕ)) →
         HasMaps one → HasMaps other → ShowSame now one other →
@@ -104,8 +105,8 @@ fn live_versions_are_the_view<V: Version>()
         IsView V.seen V.Key.cmp set now (swept V.seen now map) }
 {}
 
-/// States that an instance that shows at each identifier and at each key of the log what bare sets show replies as those sets say
-/// to what is answered from what is shown.
+/// States that an instance that shows at each identifier and at each key of the log what bare sets show gives the replies
+/// of those sets to events that are answered from what is shown.
 pub fn what_is_shown_replies()
     ensures { (stand : InstanceState) (silences : List Mesh) (log : List LogMesh) (event : Event) (now : ℕ) (reply : Reply) (made : Made) →
         HasMaps stand → ((id : List ℕ) → IsViewAt mesh_version silences now id (silence_in_view now stand.silences id)) →
@@ -117,9 +118,9 @@ pub fn what_is_shown_replies()
     live_versions_are_the_view::<MeshEntry>();
 }
 
-/// States that, after calm steps from any maps and moment, the reply to a list, a single silence, a decision, both views or the
-/// mutes of an alert is, at every moment from the last step on, the one that the bare sets give of all versions that the instance
-/// began with or that were delivered.
+/// States that, after calm steps from any maps and moment, replies are those of the bare sets of all versions that the
+/// instance began with or that were delivered. This holds of a list, a single silence, a decision, both views and the mutes
+/// of an alert, at every moment from the last step on.
 pub fn calm_steps_reply_as_the_bare_sets()
     // PROMISE: After calm steps its lists, silences, decisions and mutes are those of everything that it ever took.
     ensures { (start new : InstanceState) (steps : List Happened) (event : Event) (now : ℕ) (reply : Reply) (made : Made) →
@@ -130,7 +131,7 @@ pub fn calm_steps_reply_as_the_bare_sets()
     what_is_shown_replies();
 }
 
-/// States that the frames of a peer's stream are the same events wherever it was cut.
+/// States that the frames of a peer's stream are the same events wherever the stream was cut.
 pub fn cuts_change_no_event()
     ensures { (sender : ℕ) (pieces : List (List ℕ)) →
         events_of_stream sender (fed_in (stream_of []) pieces) ≡ events_of_stream sender (stream_of (flat_map (λ piece. piece) pieces)) }
@@ -138,7 +139,8 @@ pub fn cuts_change_no_event()
     cuts_change_nothing();
 }
 
-/// States that all parts handed out of maps that stay as they are have, one after the other, each state's row.
+/// States that all parts that are handed out of maps that stay as they are have, one after the other, the row of each
+/// state.
 pub fn parts_have_all_that_is_held()
     // PROMISE: A full state that is sent part by part is complete.
     ensures silences { (most : ℕ) (silences : List Mesh) (log : List LogMesh) (parts : List HandedPart) →
@@ -154,7 +156,7 @@ pub fn parts_have_all_that_is_held()
     a_map_goes_on_from_a_key::<MeshEntry>();
 }
 
-/// States that if both states fit one part, it has both of them whole.
+/// States that a single part has both states whole if they fit it.
 pub fn small_states_are_one_part()
     ensures { (most : ℕ) (silences : List Mesh) (log : List LogMesh) (handed : HandedPart) →
         length (row_text mesh_version silences) + length (row_text entry_version log) ≤ most →

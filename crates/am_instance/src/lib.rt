@@ -1,4 +1,4 @@
-//! One instance: silences and the notification log, and one step for each event.
+//! An instance: silences and the notification log, and one step for each event.
 #![tactic(auto)]
 
 mod config;

@@ -1,4 +1,4 @@
-//! Notifications of groups, and the questions before one.
+//! Notifications of groups, and the questions that come before them.
 
 ghost use Rattle.std.specs.Prelude.{◌≡◌, [], Some, OnErr, IfOk, IfErr};
 ghost use Rattle.am_instance.specs.declared.event.Event.TheVariants as events;
@@ -48,7 +48,7 @@ impl Instance {
         }
     }
 
-    /// Takes an entry that was made here, and sends it on if that changes the log.
+    /// Takes an entry that was made here, and sends it on if it changes the log.
     fn put_entry(&mut self, entry: MeshEntry, now: Moment) -> Result<Outcome, StepError>
         ensures put { IfOk result (λ outcome. IsLoggedHere self.old entry now outcome self.new) }
         ensures err { IfErr result (λ e. e ≡ errors.Memory 0) }
@@ -101,7 +101,7 @@ impl Instance {
         Ok(quiet(self.alloc, Reply::Decided(decision)))
     }
 
-    /// Answers which silences mute an alert.
+    /// Answers with the silences that mute an alert.
     pub(crate) fn mute(&mut self, labels: &Labels, now: Moment) -> Result<Outcome, StepError>
         ensures { IsWork self.old (events.Mutes labels.now) now result self.new }
     {
@@ -122,7 +122,7 @@ impl Instance {
     }
 }
 
-/// Returns an outcome in which an entry was made here.
+/// Returns an outcome in which this entry was made here.
 fn logged_outcome(alloc: Global, is_changed: bool, outbox: FrameSender, entry: MeshEntry) -> Outcome
     ensures reply { result.reply ≡ replies.Logged is_changed }
     ensures sent { sent_by result ≡ outbox }

@@ -15,19 +15,19 @@ use am_wire::Text;
 /// The answer to an event. States are those at the event's moment.
 #[derive(Drop)]
 pub enum Reply {
-    /// Silences, by identifier.
+    /// Silences and their states, in the order of their identifiers.
     Silences(Vec<(MeshSilence, State)>),
     Silence(MeshSilence, State),
     /// The identifier of the silence that was created or updated.
     Posted(Text),
     Deleted,
-    /// A refused request; never for lack of memory.
+    /// The reason why a request is refused, which is never a lack of memory.
     Refused(SilenceError),
-    /// Whether the entry of a notification changed the log.
+    /// True if the entry of a notification changed the log.
     Logged(bool),
     Decided(Decision),
     Muted(Mutes),
-    /// The silences in view by identifier, and the entries in view in the order of their keys.
+    /// The silences in view in the order of their identifiers, and the entries in view in the order of their keys.
     Shown {
         silences: Vec<(MeshSilence, State)>,
         log: Vec<MeshEntry>,
@@ -62,7 +62,7 @@ pub struct Outcome {
 }
 
 impl Outcome {
-    /// Returns the reply, and what the step sends.
+    /// Returns the reply and the frames that the step sends.
     pub fn into_parts(self) -> (Reply, FrameSender)
         ensures reply { result.0 ≡ self.reply }
         ensures sent { result.1 ≡ sent_by self }

@@ -59,7 +59,7 @@ impl Instance {
         Ok(quiet(self.alloc, Reply::Silences(rows)))
     }
 
-    /// Answers with the silence with an identifier.
+    /// Answers with the silence with this identifier.
     fn get(&self, id: &Text, now: Moment) -> Result<Outcome, StepError>
         ensures { IsWork self.now (events.Request (requests.Get id.now)) now result self.now }
     {
@@ -85,7 +85,7 @@ impl Instance {
         }
     }
 
-    /// Returns why a post is refused before its patterns are looked at.
+    /// Returns the reason why a post is refused before its patterns are read, or `None`.
     fn refused_unread(&self, posted: &Posted, now: Moment) -> Option<SilenceError>
         ensures { result ≡ unread_refusal (posted_over now self.now.silences posted.now.id) posted.now }
     {
@@ -93,7 +93,7 @@ impl Instance {
         refused_unread(held, posted)
     }
 
-    /// Answers that a request is refused, with this error.
+    /// Answers that a request is refused with this error.
     fn refuse(&self, error: SilenceError) -> Result<Outcome, StepError>
         ensures refused { IfOk result (IsTurnedAway error) }
         ensures memory { IfErr result (λ e. (e ≡ errors.Memory 0) × (error ≡ silence_errors.Memory)) }
@@ -114,7 +114,7 @@ impl Instance {
         self.patterns.verdict_in(dialect, matchers)
     }
 
-    /// Returns the plan of a post whose matchers were judged, or why it is refused.
+    /// Returns the plan of a post whose matchers were judged, or the reason why it is refused.
     fn plan(
         &self,
         posted: Posted,
@@ -134,8 +134,8 @@ impl Instance {
         )
     }
 
-    /// Returns whether the identifier made of random bits is held, live or not. If there is no memory for a copy of it, all held
-    /// identifiers are looked at.
+    /// Returns whether the identifier made of random bits is held, live or not. If there is no memory for a copy of the
+    /// identifier, all held ones are compared.
     fn is_fresh_held(&self, bits: u128) -> bool
         ensures { result ≡ is_some (silence_at self.now.silences (id_text bits)) }
     {
@@ -172,7 +172,7 @@ impl Instance {
         }
     }
 
-    /// Takes a version of a silence that was made here, and sends it on if that changes the map.
+    /// Takes a version of a silence that was made here, and sends it on if it changes the map.
     fn put_one(
         &mut self,
         version: MeshSilence,
@@ -190,7 +190,7 @@ impl Instance {
         Ok(made_outcome(reply, outbox, made))
     }
 
-    /// Takes a new silence and the end of another, or neither, and sends on what changes the map.
+    /// Takes a new silence and the end of another, or neither, and sends on the versions that change the map.
     fn put_pair(
         &mut self,
         new: MeshSilence,
@@ -233,7 +233,7 @@ fn is_held(silences: &Held<MeshSilence>, id: &Text) -> bool
     silences.get(id).is_some()
 }
 
-/// Returns the same as [`is_held`], looking at one silence after the other. It takes no memory.
+/// Returns the same as [`is_held`], by comparing one silence after the other. Nothing is allocated.
 fn is_among(silences: &Held<MeshSilence>, id: &str) -> bool
     ensures { result ≡ is_some (silence_at silences.now id.now) }
 {
@@ -245,7 +245,7 @@ fn is_among(silences: &Held<MeshSilence>, id: &str) -> bool
     false
 }
 
-/// Returns the silence in view with the posted identifier, if one is posted.
+/// Returns the silence in view with the posted identifier, if there is one.
 fn posted_over<'a>(
     silences: &'a Held<MeshSilence>,
     id: Option<&Text>,
@@ -259,7 +259,7 @@ fn posted_over<'a>(
     }
 }
 
-/// Returns whether the answer to a taking is Changed.
+/// Returns whether a version that was taken changed the map.
 pub(crate) fn is_changed(taken: Taken) -> bool
     ensures { result ≡ is_changed taken }
 {

@@ -1,4 +1,4 @@
-//! The rows of a frame: all are read before any is taken.
+//! The rows of a frame, all of which are read before any version is taken.
 
 ghost use Rattle.std.specs.Prelude.{◌≡◌, ◌≢◌, ◌+◌, ◌<◌, ℕ, List, map, length, take, Some, None, OnOk, OnErr, IfOk, IfErr};
 ghost use Rattle.std.specs.Option.{option_copied};
@@ -23,7 +23,7 @@ use std::alloc::{AllocError, Global};
 ///
 /// # Errors
 ///
-/// The row's first fault, or [`WireError::Memory`].
+/// The first fault of the row, or [`WireError::Memory`] if memory runs out.
 pub fn validate_row<V: Message>(
     alloc: Global,
     unknown: Unknown,
@@ -38,8 +38,8 @@ pub fn validate_row<V: Message>(
     Ok(())
 }
 
-/// The context in which a row's versions are taken: the moment, their state, and the members to which those that change a map are
-/// sent.
+/// The context in which the versions of a row are taken: the moment, their state, and the members to which versions that
+/// change a map are sent.
 #[derive(Clone, Copy)]
 pub struct Taking {
     pub moment: Moment,
@@ -58,14 +58,15 @@ fn is_greater<V: Version>(old: Option<&V>, version: &V) -> bool
     }
 }
 
-/// Returns whether the answer to taking a version is Changed: it is live, and greater than the held one or the first of its key.
+/// Returns whether taking a version changes the map: the version is live, and greater than the held one or the first of its
+/// key.
 fn is_change<V: Version>(held: &Held<V>, version: &V, now: Moment) -> bool
     ensures { result ≡ changes V.seen now (at V.seen V.Key.cmp held.now) version.now }
 {
     now < version.expires() && is_greater(held.get(version.key()), version)
 }
 
-/// Takes a version, counts it, and sends it on if that changes the map. If memory runs out, nothing is taken.
+/// Takes a version, counts it, and sends it on if it changes the map. If memory runs out, nothing is taken.
 fn take_one<V: Version>(
     held: &mut Held<V>,
     version: V,
@@ -94,12 +95,12 @@ fn take_one<V: Version>(
     Ok(())
 }
 
-/// Takes the versions of a row in order, read by the policy for unknown fields, and counts them. Those that change the map are
-/// sent on.
+/// Takes the versions of a row in order, read by the policy for unknown fields, and counts them. Versions that change the
+/// map are sent on.
 ///
 /// # Errors
 ///
-/// [`AllocError`] if memory runs out; the versions counted so far were taken.
+/// [`AllocError`] if memory runs out. The versions that were counted were taken.
 pub fn merge_row<V: Record>(
     alloc: Global,
     unknown: Unknown,

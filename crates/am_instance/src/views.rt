@@ -1,4 +1,4 @@
-//! The views of the two maps.
+//! The views of both maps.
 
 ghost use Rattle.std.specs.Prelude.{◌≡◌, ◌++◌, [], ◌∷◌, IfOk, OnOk};
 ghost use Rattle.std.specs.List.{list_all};
@@ -29,7 +29,7 @@ fn passes_all(version: &MeshSilence, filters: &mut Vec<Filter>) -> Result<bool, 
     Ok(true)
 }
 
-/// Appends a silence to those shown, if it is in view and passes all filters.
+/// Appends a silence to those shown if it is in view and passes all filters.
 fn show_silence(
     alloc: Global,
     version: &MeshSilence,
@@ -47,7 +47,7 @@ fn show_silence(
     Ok(())
 }
 
-/// Returns the silences in view that pass all filters, by identifier, with their states.
+/// Returns the silences in view that pass all filters, in the order of their identifiers, with their states.
 ///
 /// # Errors
 ///
@@ -67,7 +67,7 @@ pub fn silences_shown(
     Ok(shown)
 }
 
-/// Appends an entry of the log to those shown, if it is in view.
+/// Appends an entry of the log to those shown if it is in view.
 fn show_entry(
     alloc: Global,
     version: &MeshEntry,
@@ -101,7 +101,7 @@ pub fn log_shown(
     Ok(shown)
 }
 
-/// Returns the version found, if it is live.
+/// Returns the version that was found if it is live.
 fn live_one<'a, V: Version>(found: Option<&'a V>, now: Moment) -> Option<&'a V>
     ensures { option_copied result ≡ if_live V.seen now (option_copied found.entry) }
 {
@@ -113,7 +113,7 @@ fn live_one<'a, V: Version>(found: Option<&'a V>, now: Moment) -> Option<&'a V>
     }
 }
 
-/// Returns the silence with an identifier, if it is in view. It takes no memory.
+/// Returns the silence with an identifier if it is in view. Nothing is allocated.
 pub fn silence_in_view<'a>(
     silences: &'a Held<MeshSilence>,
     id: &Text,
@@ -124,7 +124,7 @@ pub fn silence_in_view<'a>(
     live_one(silences.get(id), now)
 }
 
-/// Returns the log's entry at a key, if it is in view. It takes no memory.
+/// Returns the log's entry at a key if it is in view. Nothing is allocated.
 pub fn entry_in_view<'a>(
     log: &'a Held<MeshEntry>,
     key: &LogKey,

@@ -7,10 +7,10 @@ use Rattle.am_matcher.specs.declared.entries.Entry.{Entry}
 abbrev pub patterns_in : List Entry → List CompiledPattern
 patterns_in entries = map (λ e. e.kept) entries
 
--- the bytes of an entry's pattern
+-- the size of an entry's pattern
 abbrev pub entry_size : Entry → ℕ
 entry_size e = size_of e.kept
 
--- the texts of all patterns that are marked pass the test
+-- the texts of all marked patterns pass the test
 abbrev pub MarkedPass : (List ℕ → Bool) → List Entry → Type 0
 MarkedPass test entries = All (λ e. e.is_used ≡ true → test e.kept.text ≡ true) entries

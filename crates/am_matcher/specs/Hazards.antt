@@ -8,8 +8,8 @@ use Rattle.am_matcher.specs.declared.hazard.Hazard.TheVariants as hazards
 use Rattle.am_matcher.specs.Matching.{IsVerdict}
 use Rattle.am_matcher.specs.Dialects.{AreMeant, IsRefusedMatcher, are_labels}
 
--- Pattern is for a pattern that is refused. Else Matcher is for a name of no label, or where all matchers, perhaps none, match
--- the empty text; and there is no hazard where all names are those of labels, and some matcher doesn't match it.
+-- The hazard is Pattern if a pattern is refused. Otherwise it is Matcher if a name isn't that of a label, or if all
+-- matchers, perhaps none, match the empty text. Otherwise there is no hazard.
 abbrev pub IsHazard : List Matcher → Option Hazard → Type 0
 IsHazard matchers (Some hazards.Pattern) = Any (IsRefusedMatcher Re2) matchers
 IsHazard matchers (Some hazards.Matcher) =

@@ -1,4 +1,4 @@
--- What is kept of a pattern.
+-- The results of building patterns.
 use Rattle.std.specs.Prelude.{[], string_bytes}
 use Rattle.am_matcher.specs.declared.dialect.Dialect.TheVariants.{Regex, Re2}
 use Rattle.am_matcher.specs.Patterns.{IsSound}
@@ -35,7 +35,7 @@ pattern_of (Broken dialect text) = record {
   tables = 0;
 }
 
--- it is told as what it is, sound or broken
+-- the result is true of its pattern, which is sound or broken
 abbrev pub IsBuilt : Built → Type 0
 IsBuilt (Sound whole) = IsSound whole.value.text
 IsBuilt (Translated text whole) = IsTranslation (string_bytes text) whole.value.text × IsSound whole.value.text

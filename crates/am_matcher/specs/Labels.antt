@@ -8,11 +8,11 @@ use Rattle.std.specs.Ordering.{nat_cmp}
 use Rattle.am_matcher.specs.Texts.{is_text}
 use Rattle.am_matcher.specs.declared.labels.Label.{Label}
 
--- The last of the items that has the name.
+-- The last one of the items with the name.
 abbrev pub last_named : {X : Type 0} → (X → List ℕ) → List ℕ → List X → Option X
 last_named name_of name items = find (λ x. is_text (name_of x) name) (reverse items)
 
--- The value of the label with the name, or the empty text; of labels with one name the last one counts.
+-- The value of the last label with the name, or the empty text if there is none.
 abbrev pub value_in : List Label → List ℕ → List ℕ
 value_in labels name = option_map_or (λ label. label.value) (last_named (λ label. label.name) name labels) []
 

@@ -1,5 +1,5 @@
--- The pieces of a pattern of RE2, which is read from the left, one at a time: those that RE2 and `regex` both have, or that
--- `regex` has in other words. `None` means that no piece is at the front.
+-- The pieces of a pattern of RE2, which is read from the left, one piece at a time: pieces that RE2 and `regex` have in
+-- common, or that `regex` has in other words. `None` means that no such piece is at the front.
 use Rattle.std.specs.Prelude.{ℕ, ◌+◌, ◌*◌, max, ◌==◌, Bool, true, false, not, ◌&&◌, ◌||◌, nat_eq, nat_le, nat_lt, List, [], ◌∷◌, ◌++◌, length, drop, reverse, fold, Option, Some, None, codes, if◌then◌else◌}
 use lib.Pointwise.{pointwise}
 use Rattle.std.specs.List.{list_any, take_while}
@@ -12,19 +12,19 @@ use Rattle.am_matcher.specs.declared.re2.pieces.Place.{Place}
 use Rattle.am_matcher.specs.declared.re2.pieces.Place.TheVariants.{Outside, ClassStart, Class, Quotation}
 use Rattle.am_matcher.specs.Re2Spelling.{Read, before, literal, perl, property}
 
--- a part of a pattern, outside of classes
+-- a piece outside of classes
 abbrev pub outside : Part → List ℕ → List ℕ → Read
 outside part written rest = record { part = Some part; written = written; name = None; place = Outside; rest = rest }
 
--- a part of a class
+-- a piece of a class
 abbrev pub of_class : List ℕ → List ℕ → Read
 of_class written rest = record { part = None; written = written; name = None; place = Class; rest = rest }
 
--- the characters at the front that pass the test, all of them
+-- the characters at the front that pass the test, as many as possible
 abbrev pub run : (ℕ → Bool) → List ℕ → List ℕ
 run = take_while
 
--- what follows these
+-- the text behind these characters
 abbrev pub behind : (ℕ → Bool) → List ℕ → List ℕ
 behind test text = drop (length (run test text)) text
 
@@ -32,10 +32,11 @@ behind test text = drop (length (run test text)) text
 abbrev pub is_word : ℕ → Bool
 is_word c = is_ascii_alphanumeric c || (c == 0x5F)
 
+-- a letter of a flag, or a hyphen
 abbrev pub is_flag : ℕ → Bool
 is_flag c = c ∈ "imsU-"
 
--- The code that the digits of base 16 write, or a greater one where it is none of a character.
+-- The code that the hexadecimal digits write, or a code above those of all characters if it is too great.
 unfoldable pub code : List ℕ → ℕ
 code digits = fold (λ n d. if nat_lt 0x10FFFF n then n else n * 16 + digit_value d) 0 digits
 
@@ -43,24 +44,24 @@ code digits = fold (λ n d. if nat_lt 0x10FFFF n then n else n * 16 + digit_valu
 unfoldable pub coded : List ℕ → Option ℕ
 coded digits = is_scalar (code digits) >> Some (code digits)
 
--- behind `\x{`: digits of base 16, and a brace
+-- behind `\x{`: hexadecimal digits, and a brace
 unfoldable pub braced_code : List ℕ → Option (ℕ × List ℕ)
 braced_code text = do
   begins "}" (behind is_ascii_hexdigit text) && not (length (run is_ascii_hexdigit text) == 0)
   c ← coded (run is_ascii_hexdigit text)
   Some (c, drop 1 (behind is_ascii_hexdigit text))
 
--- behind `\x`: two digits of base 16
+-- behind `\x`: two hexadecimal digits
 unfoldable pub short_code : List ℕ → Option (ℕ × List ℕ)
 short_code (a ∷ b ∷ rest) =
     if is_ascii_hexdigit a && is_ascii_hexdigit b then (coded (a ∷ b ∷ []) >>= λ c. Some (c, rest)) else None
 short_code _ = None
 
--- behind `\x`: two digits of base 16, or any number of them in braces
+-- behind `\x`: two hexadecimal digits, or any number of them in braces
 unfoldable pub coded_character : List ℕ → Option (ℕ × List ℕ)
 coded_character text = if begins "{" text then braced_code (drop 1 text) else short_code text
 
--- what a letter or a sign behind a backslash stands for
+-- the character that a letter or a sign behind a backslash stands for
 unfoldable pub escaped_letter : ℕ → Option ℕ
 escaped_letter c =
     if c ∈ "a" then Some 0x07
@@ -71,23 +72,23 @@ escaped_letter c =
     else if c ∈ "v" then Some 0x0B
     else is_ascii_punctuation c >> Some c
 
--- behind a backslash: what stands for one character
+-- behind a backslash: the spelling of one character
 unfoldable pub escaped_character : List ℕ → Option (ℕ × List ℕ)
 escaped_character [] = None
 escaped_character (c ∷ rest) =
     if c ∈ "x" then coded_character rest else (escaped_letter c >>= λ one. Some (one, rest))
 
--- the letter of a class of Perl
+-- the letter of a Perl class
 abbrev pub is_perl : ℕ → Bool
 is_perl c = c ∈ "dDsSwW"
 
--- the names of the classes of POSIX
+-- the names of the POSIX classes
 abbrev pub class_names : List (List ℕ)
 class_names =
     codes "alnum" ∷ codes "alpha" ∷ codes "ascii" ∷ codes "blank" ∷ codes "cntrl" ∷ codes "digit" ∷ codes "graph" ∷ codes "lower"
     ∷ codes "print" ∷ codes "punct" ∷ codes "space" ∷ codes "upper" ∷ codes "word" ∷ codes "xdigit" ∷ []
 
--- the scripts that are known
+-- the known scripts
 abbrev pub script_names : List (List ℕ)
 script_names =
     codes "Arabic" ∷ codes "Armenian" ∷ codes "Bengali" ∷ codes "Cyrillic" ∷ codes "Devanagari" ∷ codes "Georgian" ∷ codes "Greek"
@@ -97,7 +98,7 @@ script_names =
 abbrev pub is_one_of : List (List ℕ) → List ℕ → Bool
 is_one_of words text = list_any (λ word. pointwise nat_eq text word) words
 
--- the letter behind another one names a general category
+-- two letters name a general category: that of a group, and one behind it
 unfoldable pub is_subcategory : ℕ → ℕ → Bool
 is_subcategory category letter =
     if category ∈ "L" then letter ∈ "ultmo"
@@ -118,7 +119,7 @@ is_category _ = false
 unfoldable pub is_property : List ℕ → Bool
 is_property name = is_category name || is_one_of script_names name
 
--- The property of this name: what is written for it, and what follows.
+-- The property with this name: the text that is written for it, and the text behind it.
 unfoldable pub named_property : Bool → List ℕ → List ℕ → Option (List ℕ × List ℕ)
 named_property negated name rest = is_property name >> Some (property negated name, rest)
 
@@ -135,7 +136,7 @@ property_at negated (c ∷ rest) =
     else if begins "{" (c ∷ rest) then braced_property negated rest
     else named_property negated (before (c ∷ rest) rest) rest
 
--- the number that the digits write, or a greater one than 1,000
+-- the number that the digits write, or a number above 1,000 if it is too great
 unfoldable pub number : List ℕ → ℕ
 number digits = fold (λ n d. if nat_lt 1000 n then n else n * 10 + digit_value d) 0 digits
 
@@ -149,19 +150,19 @@ is_number (c ∷ d ∷ rest) = not (c ∈ "0")
 unfoldable pub number_at : List ℕ → Option (ℕ × List ℕ)
 number_at text = is_number (run is_ascii_digit text) >> Some (number (run is_ascii_digit text), behind is_ascii_digit text)
 
--- how often a part is repeated, and what follows
+-- the bounds on the number of repetitions of a part, and the text behind the count
 pub record Count : Type 0 where
   pub least : ℕ
   pub most : ℕ
   pub rest : List ℕ
 
--- a number and a brace behind `{n,`
+-- behind `{n,`: a number and a brace
 unfoldable pub bounded : ℕ → List ℕ → Option Count
 bounded least text = do
   (most, rest) ← number_at text
   begins "}" rest >> Some (record { least = least; most = most; rest = drop 1 rest })
 
--- behind `{n`: `}`, `,}` or `,m}`; where no greatest number is said, n counts as one
+-- behind `{n`: `}`, `,}` or `,m}`; without a greatest number, n takes its place
 unfoldable pub count_behind : ℕ → List ℕ → Option Count
 count_behind least text =
     if begins "}" text then Some (record { least = least; most = least; rest = drop 1 text })
@@ -174,36 +175,36 @@ count_at text = do
   (least, rest) ← number_at text
   count_behind least rest
 
--- what follows a `?`, if one is there
+-- the text without the `?` at the front, if one is there
 unfoldable pub skip_lazy : List ℕ → List ℕ
 skip_lazy text = if begins "?" text then drop 1 text else text
 
--- a repetition of at most so many times, with the `?` behind it
+-- a repetition up to this number of times, with the `?` behind it if one is there
 unfoldable pub repetition : List ℕ → ℕ → List ℕ → Read
 repetition text most rest = outside (Repeat (max most 1)) (before text (skip_lazy rest)) (skip_lazy rest)
 
--- a count that is in order, of at most 1,000
+-- the repetition of a count whose numbers are in order and at most 1,000
 unfoldable pub counted : List ℕ → Count → Option Read
 counted text count = (nat_le count.least count.most && nat_le count.most 1000) >> Some (repetition text count.most count.rest)
 
--- `{` at the front of the text: a count, or a character where none follows
+-- `{` at the front of the text: a count, or a character if no count follows
 unfoldable pub brace : List ℕ → List ℕ → Option Read
 brace text rest = elim (count_at rest) [
   | None ↦ Some (outside Atom (literal 0x7B) rest)
   | Some count ↦ counted text count
 ]
 
--- one of them comes twice
+-- a character comes twice
 unfoldable pub has_twice : List ℕ → Bool
 has_twice [] = false
 has_twice (c ∷ rest) = list_any (λ d. d == c) rest || has_twice rest
 
--- at least one flag, none of them twice, and something behind the hyphen
+-- at least one flag, none of them twice, and something behind a hyphen
 unfoldable pub are_flags : List ℕ → Bool
 are_flags letters =
     not (length letters == 0) && nat_le (length letters) 5 && not (has_twice letters) && not (begins "-" (reverse letters))
 
--- at least one character, and no digit first
+-- at least one character, the first of which isn't a digit
 unfoldable pub is_name : List ℕ → Bool
 is_name [] = false
 is_name (c ∷ rest) = not (is_ascii_digit c)
@@ -214,7 +215,7 @@ named_group text = do
   begins ">" (behind is_word text) && is_name (run is_word text)
   Some (record { part = Some Open; written = codes "("; name = Some (run is_word text); place = Outside; rest = drop 1 (behind is_word text) })
 
--- behind `(?`: flags, perhaps none, and `:` for a group, or flags and `)` for what follows
+-- behind `(?`: flags or none, and `:`, for a group; or flags and `)`, for the text behind them
 unfoldable pub flagged_group : List ℕ → List ℕ → Option Read
 flagged_group text rest =
     let flags = run is_flag rest in
@@ -230,11 +231,11 @@ group text rest =
     else if begins "?" rest then flagged_group text (drop 1 rest)
     else Some (outside Open (codes "(") rest)
 
--- `-` at the front, and not before the end of the class
+-- `-` at the front, unless it ends the class
 unfoldable pub is_range : List ℕ → Bool
 is_range text = begins "-" text && not (begins "-]" text)
 
--- what follows a `^`, if one is there
+-- the text without the `^` at the front, if one is there
 abbrev pub skip_negation : List ℕ → List ℕ
 skip_negation text = if begins "^" text then drop 1 text else text
 
@@ -244,7 +245,7 @@ named_class text rest =
     let after = behind is_word (skip_negation rest) in
     (begins ":]" after && is_one_of class_names (run is_word (skip_negation rest))) >> Some (of_class (before text (drop 2 after)) (drop 2 after))
 
--- a character of a class, for itself or behind a backslash
+-- a character of a class, by itself or behind a backslash
 unfoldable pub member : List ℕ → Option (ℕ × List ℕ)
 member [] = None
 member (c ∷ rest) = if c ∈ "\\" then escaped_character rest else Some (c, rest)
@@ -253,21 +254,21 @@ member (c ∷ rest) = if c ∈ "\\" then escaped_character rest else Some (c, re
 unfoldable pub range_end : List ℕ → Option (ℕ × List ℕ)
 range_end text = if begins "[" text || begins "-" text then None else member text
 
--- a range in order
+-- a range whose characters are in order
 unfoldable pub range_of : ℕ → ℕ → List ℕ → Option Read
 range_of low high rest = nat_le low high >> Some (of_class (literal low ++ 0x2D ∷ literal high) rest)
 
--- the last character of a range behind the hyphen
+-- behind the hyphen: the last character of a range
 unfoldable pub range_from : ℕ → List ℕ → Option Read
 range_from low text = do
   (high, rest) ← range_end text
   range_of low high rest
 
--- behind the first character: the hyphen and the last one of a range, or else it stands alone
+-- behind the first character: the hyphen and the last character of a range, or else the first one alone
 unfoldable pub range : ℕ → List ℕ → Option Read
 range low text = if is_range text then range_from low (drop 1 text) else Some (of_class (literal low) text)
 
--- a set in a class; no range begins with it
+-- a set in a class, with which no range begins
 unfoldable pub set_in_class : List ℕ → List ℕ → Option Read
 set_in_class written rest = not (is_range rest) >> Some (of_class written rest)
 
@@ -283,7 +284,7 @@ range_at text = do
   (low, rest) ← member text
   range low rest
 
--- behind a backslash in a class
+-- an escape in a class
 unfoldable pub escape_in_class : List ℕ → List ℕ → Option Read
 escape_in_class text [] = None
 escape_in_class text (c ∷ rest) =
@@ -310,7 +311,7 @@ unfoldable pub class_start : List ℕ → List ℕ → Read
 class_start text rest =
     record { part = None; written = before text (skip_negation rest); name = None; place = ClassStart; rest = skip_negation rest }
 
--- a character that begins nothing longer
+-- a character outside of classes that begins nothing longer
 unfoldable pub sign : List ℕ → ℕ → List ℕ → Read
 sign text c rest =
     if c ∈ "*+?" then repetition text 1 rest
@@ -336,7 +337,7 @@ character_outside text = do
 abbrev pub quotation : List ℕ → Read
 quotation rest = record { part = Some Fixed; written = []; name = None; place = Quotation; rest = rest }
 
--- what the backslash at the front of the text stands for with what is behind it
+-- an escape outside of classes, whose backslash is at the front of the text
 unfoldable pub escape : List ℕ → List ℕ → Option Read
 escape text [] = None
 escape text (c ∷ rest) =
@@ -347,7 +348,7 @@ escape text (c ∷ rest) =
     else if is_perl c then Some (outside Atom (perl c) rest)
     else character_outside (c ∷ rest)
 
--- outside of classes
+-- the first piece outside of classes
 unfoldable pub outside_piece : List ℕ → Option Read
 outside_piece [] = None
 outside_piece (c ∷ rest) =
@@ -370,7 +371,7 @@ unfoldable pub quoted : List ℕ → Option Read
 quoted [] = None
 quoted (c ∷ rest) = Some (if begins "\\E" (c ∷ rest) then quotation_end (drop 1 rest) else quoted_character c rest)
 
--- what stands at the front of a text, by the place where it stands
+-- the first piece of a text, depending on the place where it stands
 unfoldable pub first_piece : Place → List ℕ → Option Read
 first_piece Outside text = outside_piece text
 first_piece ClassStart text = class_item text

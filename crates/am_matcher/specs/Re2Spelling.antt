@@ -1,4 +1,4 @@
--- How the pieces of a pattern of RE2 are written for `regex`. All texts here are lists of characters.
+-- The spelling of RE2's pieces for `regex`. All texts here are lists of characters.
 use Rattle.std.specs.Prelude.{ℕ, ◌-◌, Bool, List, [], ◌∷◌, ◌++◌, length, take, codes, Option, if◌then◌else◌}
 use Rattle.regex_syntax.specs.Reading.{◌∈◌}
 use Rattle.am_matcher.specs.declared.re2.pieces.Part.{Part}
@@ -6,30 +6,30 @@ use Rattle.am_matcher.specs.declared.re2.pieces.Place.{Place}
 use Rattle.am_matcher.specs.declared.re2.pieces.Spelling.{Spelling}
 use Rattle.am_matcher.specs.declared.re2.pieces.Spelling.TheVariants.{Source, Character, Range, Perl, Property, Boundary, Group, Nothing}
 
--- what stands at the front of a text
+-- the piece at the front of a text, as it was read
 pub record Read : Type 0 where
-  -- what it is to those beside it, where it is not a part of a class or of a quotation
+  -- the role of the piece, if it isn't inside of a class or of a quotation
   pub part : Option Part
   pub written : List ℕ
-  -- the name of the group that it opens
+  -- the name of the group that the piece opens
   pub name : Option (List ℕ)
-  -- where the next one stands
+  -- the place of the next piece
   pub place : Place
   pub rest : List ℕ
 
--- what stands before the rest of a text
+-- the text in front of its rest
 unfoldable pub before : List ℕ → List ℕ → List ℕ
 before text rest = take (length text - length rest) text
 
--- a character that means more than itself, somewhere in a pattern of `regex`
+-- the character has a meaning of its own somewhere in a pattern of `regex`
 unfoldable pub is_meta : ℕ → Bool
 is_meta c = c ∈ "\\.+*?()|[]{}^$#&-~"
 
--- a character for itself
+-- a character that stands for itself
 unfoldable pub literal : ℕ → List ℕ
 literal c = if is_meta c then 0x5C ∷ c ∷ [] else c ∷ []
 
--- the characters of ASCII that `\d`, `\s` and `\w` stand for in RE2, or by an upper case all others
+-- the ASCII characters that `\d`, `\s` and `\w` stand for in RE2, or all other characters if the letter is in upper case
 unfoldable pub perl : ℕ → List ℕ
 perl letter =
     if letter ∈ "d" then codes "[0-9]"
@@ -43,7 +43,7 @@ perl letter =
 unfoldable pub property : Bool → List ℕ → List ℕ
 property negated name = (if negated then codes "\\P{" else codes "\\p{") ++ (name ++ codes "}")
 
--- what a piece is written as
+-- the text that is written for a piece
 unfoldable pub spelled : Spelling → List ℕ
 spelled (Source source) = source.now
 spelled (Character c) = literal c

@@ -1,4 +1,4 @@
--- What the engines of `regex` find in a text.
+-- Matches that the engines of `regex` find in a text.
 use Rattle.std.specs.Prelude.{◌≡◌, ℕ, ◌<◌, ◌≤◌, List, length, get_or, Option, None, is_some, if◌then◌else◌, vec_len}
 use Rattle.regex_hir.specs.Re.{Trace}
 use Rattle.regex_hir.specs.Find.{Match, first_between}
@@ -16,7 +16,7 @@ match_from nfa text place = run nfa text (length text) nfa.start place
 abbrev pub found_by : Nfa → List ℕ → Option Match
 found_by nfa text = first_between (λ i. if is_boundary text i then match_from nfa text i else None) 0 (length text)
 
--- in each text it finds something exactly where the text that is compiled does
+-- in each text, the engine finds a match if and only if the expression that was compiled has one
 abbrev pub Finds : Nfa → List ℕ → Type 0
 Finds nfa source = (text : List ℕ) → ((k : ℕ) → get_or text k 0 < 256) → is_some (found_by nfa text) ≡ is_found source text
 
@@ -24,6 +24,6 @@ Finds nfa source = (text : List ℕ) → ((k : ℕ) → get_or text k 0 < 256) �
 abbrev pub BeginsFirst : Nfa → Type 0
 BeginsFirst nfa = (text : List ℕ) (i : ℕ) → 0 < i → i ≤ length text → match_from nfa text i ≡ None
 
--- the engine has room for just the states that were compiled
+-- the engine has room for exactly the states that were compiled
 abbrev pub IsRunnerFor : Nfa → Room → Type 0
 IsRunnerFor nfa room = room.states ≡ vec_len nfa.states

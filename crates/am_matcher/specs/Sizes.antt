@@ -3,15 +3,14 @@ use Rattle.std.specs.Prelude.{ℕ, ◌+◌, ◌*◌, List, length, sum_by, vec_l
 use Rattle.regex_dfa.specs.declared.dfa.Dfa.{Dfa}
 use Rattle.am_matcher.specs.declared.dialect.Dialect.{Dialect}
 
--- What was compiled of a pattern of `regex`: its text, how many states and transitions came of it, and how many tables its
--- searches may fill.
+-- The compiled form of a pattern of `regex`: its text, and the numbers of its states, transitions and searches' tables.
 pub record Compilation : Type 0 where
   pub text : List ℕ
   pub states : ℕ
   pub transitions : ℕ
   pub tables : ℕ
 
--- what a text was compiled to
+-- the compiled form of a text
 abbrev pub compilation : List ℕ → Dfa → Compilation
 compilation text dfa = record {
   text = text;
@@ -20,8 +19,8 @@ compilation text dfa = record {
   tables = if dfa.needs.unicode then 2 else 1;
 }
 
--- A pattern that was compiled: its dialect, its text, the text that was written for it where it doesn't stand for itself, and
--- what came of that. Of a broken one nothing did.
+-- A pattern that was built: its dialect, its text, the text that was written for it if it doesn't stand for itself, and the
+-- numbers of its compiled form. They are 0 if the pattern is broken.
 pub record CompiledPattern : Type 0 where
   pub dialect : Dialect
   pub text : List ℕ
@@ -30,14 +29,14 @@ pub record CompiledPattern : Type 0 where
   pub transitions : ℕ
   pub tables : ℕ
 
--- the bytes of what was compiled: 4,096, those of the text, 160 for a state, 24 for a transition and 16,384 for a table
+-- the size of a compiled form: 4,096, the length of its text, 160 a state, 24 a transition and 16,384 a table
 abbrev pub bytes_of : Compilation → ℕ
 bytes_of c = 4_096 + length c.text + 160 * c.states + 24 * c.transitions + 16_384 * c.tables
 
--- the bytes of a pattern: the same, with those of the text that was written for it
+-- the size of a pattern: the same, with the length of the text that was written for it
 abbrev pub size_of : CompiledPattern → ℕ
 size_of p = 4_096 + length p.text + length p.written + 160 * p.states + 24 * p.transitions + 16_384 * p.tables
 
--- the bytes of all of them
+-- the size of all patterns
 abbrev pub size_of_all : List CompiledPattern → ℕ
 size_of_all patterns = sum_by size_of patterns

@@ -2,6 +2,6 @@
 use Rattle.std.specs.Prelude.{ℕ, Bool, List, nat_eq}
 use Rattle.std.specs.Cmp.Lexicographic.{pointwise}
 
--- one text is the other
+-- the texts are the same
 abbrev pub is_text : List ℕ → List ℕ → Bool
 is_text = pointwise nat_eq

@@ -1,4 +1,4 @@
--- Which patterns silences have.
+-- The patterns that silences have.
 use Rattle.std.specs.Prelude.{◌≡◌, ℕ, Bool, true, ◌&&◌, List, All}
 use Rattle.std.specs.List.{list_any}
 use Rattle.am_silence.specs.declared.matcher.Matcher.{Matcher}
@@ -7,11 +7,11 @@ use Rattle.am_silence.specs.Mesh.{Mesh}
 use Rattle.am_matcher.specs.Texts.{is_text}
 use Rattle.am_matcher.specs.Sizes.{CompiledPattern}
 
--- the matcher is a regular expression of this text
+-- the matcher has a regular expression with this text
 abbrev pub has_pattern : List ℕ → Matcher → Bool
 has_pattern text m = is_regexp m.kind && is_text m.pattern text
 
--- one of the silences has a regular expression of this text
+-- one of the silences has a regular expression with this text
 abbrev pub is_used_by : List Mesh → List ℕ → Bool
 is_used_by silences text = list_any (λ m. list_any (has_pattern text) m.silence.matchers) silences
 
@@ -23,10 +23,10 @@ is_among patterns text = list_any (λ p. is_text p.text text) patterns
 abbrev pub TextsPass : (List ℕ → Bool) → List CompiledPattern → Type 0
 TextsPass test patterns = All (λ p. test p.text ≡ true) patterns
 
--- the texts of all matchers that are regular expressions pass the test
+-- the texts of the regular expressions of all matchers pass the test
 abbrev pub PatternsPass : (List ℕ → Bool) → List Matcher → Type 0
 PatternsPass test matchers = All (λ m. is_regexp m.kind ≡ true → test m.pattern ≡ true) matchers
 
--- and so do those of all silences
+-- the texts of the regular expressions of all silences pass the test
 abbrev pub SilencesPass : (List ℕ → Bool) → List Mesh → Type 0
 SilencesPass test silences = All (λ m. PatternsPass test m.silence.matchers) silences

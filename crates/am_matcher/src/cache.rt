@@ -16,32 +16,32 @@ use am_silence::MeshSilence;
 use std::alloc::{AllocError, Global};
 use std::marker::Model;
 
-/// What is kept takes at most so many bytes.
+/// The maximum number of bytes that are counted for all patterns.
 const MOST_BYTES: usize = 128 << 20;
 
-/// What came of a pattern that is to be kept.
+/// The result of preparing a pattern.
 #[derive(Clone, Copy, PartialEq, Eq)]
 pub struct Prepared {
-    /// The bytes that are counted for what was compiled: of a broken pattern those of its text alone, and none where it was
-    /// kept before.
+    /// The number of bytes that are counted for what was compiled: those of its text alone if the pattern is broken, and 0
+    /// if it was kept before.
     pub bytes: usize,
-    /// The pattern is refused: by `regex`, or as one of RE2.
+    /// True if the pattern is refused, by `regex` or as one of RE2.
     pub is_broken: bool,
 }
 
-/// Compiled patterns of silences, so that each is compiled once and not at each call.
+/// Compiled patterns of silences, each of which is compiled once and not at each call.
 ///
-/// Contracts see the patterns that are kept, in the order of their texts. What is answered is the same whatever these
-/// are. Where there is no room for one more pattern, or no memory, or its text is kept as a pattern of another dialect, it is
-/// built for the call alone.
+/// Contracts see the patterns that are kept, in the order of their texts. Answers don't depend on which these are. A
+/// pattern is built for the call alone if there is no room or no memory for one more, or if its text is kept as a pattern
+/// of another dialect.
 pub struct PatternCache {
     alloc: Global,
     entries: Vec<Entry>,
-    /// The bytes that are counted for all of them.
+    /// The number of bytes that are counted for all patterns.
     bytes: usize,
 }
 
-// (so that crates above cite one drop, and don't prove those of all that is inside)
+// With this the crates above cite one drop, and don't prove those of everything inside.
 impl Drop for PatternCache {
     fn drop(self) {
         let PatternCache {
@@ -66,7 +66,7 @@ impl Model for PatternCache {
 }
 
 impl PatternCache {
-    /// A cache that keeps nothing yet. It takes no memory.
+    /// Returns a cache that keeps nothing yet. Nothing is allocated.
     pub fn new(alloc: Global) -> PatternCache
         ensures { result ≡ [] }
     {
@@ -81,7 +81,7 @@ impl PatternCache {
         self.alloc
     }
 
-    /// The bytes that are counted for what is kept: at most 128 MiB.
+    /// Returns the number of bytes that are counted for the patterns: at most 128 MiB.
     pub fn size(&self) -> usize
         ensures size { result ≡ size_of_all self.now }
         // PROMISE: At most 128 MiB of patterns are kept.
@@ -90,7 +90,7 @@ impl PatternCache {
         self.bytes
     }
 
-    /// Whether the value matches the pattern from end to end. The pattern may be kept if `keeps` says so.
+    /// Returns whether the value matches the pattern from end to end. The pattern may be kept if `keeps` is true.
     pub(crate) fn is_match(
         &mut self,
         dialect: Dialect,
@@ -115,11 +115,11 @@ impl PatternCache {
         found
     }
 
-    /// Compiles a pattern of `regex` and keeps it, where it is not kept yet and there is room.
+    /// Compiles a pattern of `regex`, and keeps it if it isn't kept yet and there is room.
     ///
     /// # Errors
     ///
-    /// [`AllocError`] where memory runs out. What is kept stays as it was.
+    /// [`AllocError`] if memory runs out. The cache is unchanged then.
     pub fn prepare(&mut self, pattern: &str) -> Result<Prepared, AllocError>
         ensures sound { IfOk result (λ prepared. prepared.is_broken ≡ false → IsSound pattern.now) }
         ensures broken { IfOk result (λ prepared. prepared.is_broken ≡ true → IsBroken pattern.now) }
@@ -131,11 +131,11 @@ impl PatternCache {
         self.prepare_in(Dialect::Regex, pattern)
     }
 
-    /// Prepares a pattern of the dialect, as [`PatternCache::prepare`] does one of `regex`.
+    /// Prepares a pattern of the dialect, as [`PatternCache::prepare`] does for one of `regex`.
     ///
     /// # Errors
     ///
-    /// [`AllocError`] where memory runs out. What is kept stays as it was.
+    /// [`AllocError`] if memory runs out. The cache is unchanged then.
     pub fn prepare_in(&mut self, dialect: Dialect, pattern: &str) -> Result<Prepared, AllocError>
         ensures sound { IfOk result (λ prepared. prepared.is_broken ≡ false → IsSoundIn dialect pattern.now) }
         ensures broken { IfOk result (λ prepared. prepared.is_broken ≡ true → IsBrokenIn dialect pattern.now) }
@@ -157,7 +157,8 @@ impl PatternCache {
         Ok(Prepared { bytes, is_broken })
     }
 
-    /// Returns what is compiled of the pattern of `regex` that a pattern stands for: it shares what is kept, or is built.
+    /// Returns the compiled form of the pattern of `regex` that a pattern stands for. It is shared if it is kept, and built
+    /// otherwise.
     pub(crate) fn whole(&self, dialect: Dialect, pattern: &str) -> Result<Whole, BuildError>
         ensures meant { IfOk result (λ whole. IsMeaning dialect pattern.now whole.text) }
         ensures sound { IfOk result (λ whole. IsSound whole.text) }
@@ -169,11 +170,11 @@ impl PatternCache {
         }
     }
 
-    /// Keeps a pattern where there is room.
+    /// Keeps a pattern if there is room.
     ///
     /// # Errors
     ///
-    /// [`AllocError`] where memory runs out. What is kept stays as it was.
+    /// [`AllocError`] if memory runs out. The cache is unchanged then.
     fn keep(&mut self, built: Kept) -> Result<(), AllocError>
         ensures size { size_of_all self.new ≤ size_of_all self.old + min (size_of built) (2 ^ 64 - 1) }
         ensures old { All (Contains self.new) self.old }
@@ -196,7 +197,7 @@ impl PatternCache {
         Ok(())
     }
 
-    /// Drops the patterns that no silence of the map has. It takes no memory.
+    /// Drops the patterns that no silence of the map has. Nothing is allocated.
     pub fn drop_unused(&mut self, held: &Held<MeshSilence>)
         ensures used { TextsPass (is_used_by held.now) self.new }
         ensures kept { All (Contains self.old) self.new }

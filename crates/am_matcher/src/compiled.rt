@@ -1,4 +1,4 @@
-//! A matcher that is ready to be asked.
+//! Matchers with their patterns compiled.
 
 ghost use Rattle.std.specs.Prelude.{◌≡◌, true, List, ℕ, IfOk, OnOk, IsErrOf};
 ghost use Rattle.am_matcher.specs.Matching.{is_found_by, is_met, matches_value, IsSoundMatcher, IsBrokenMatcher};
@@ -15,10 +15,10 @@ use std::alloc::{AllocError, Global};
 use std::marker::Model;
 use thiserror::Error;
 
-/// Why a matcher was not built.
+/// The reason why a matcher isn't built.
 #[derive(Clone, Copy, Debug, PartialEq, Eq, Error)]
 pub enum BuildError {
-    /// A pattern that `regex` refuses, by itself or as it is compiled, or that isn't taken as one of RE2.
+    /// The pattern is refused by `regex`, by itself or as it is compiled, or isn't taken as one of RE2.
     #[error("bad pattern")]
     BadPattern,
     #[error("out of memory")]
@@ -93,13 +93,13 @@ impl From<Re2Error> for BuildError {
 }
 
 /// A matcher with its pattern compiled. Contracts see the matcher as it is meant: with the pattern of `regex` that its own
-/// stands for.
+/// pattern stands for.
 pub struct Compiled {
     matcher: Matcher,
     whole: Option<Whole>,
 }
 
-// (so that crates above cite one drop, and don't prove those of all that is inside)
+// With this the crates above cite one drop, and don't prove those of everything inside.
 impl Drop for Compiled {
     fn drop(self) {
         let Compiled {
@@ -125,8 +125,8 @@ impl Compiled {
     ///
     /// # Errors
     ///
-    /// [`BuildError::BadPattern`] if `regex` refuses the pattern `p`, by itself or as `^(?:p)$`, for another cause than memory.
-    /// Only a matcher that a regular expression decides has one.
+    /// [`BuildError::BadPattern`] if `regex` refuses the pattern `p`, by itself or as `^(?:p)$`, for a reason other than
+    /// memory, and [`BuildError::Memory`] if memory runs out. Only a regular expression can be a bad pattern.
     pub fn build(alloc: Global, matcher: &Matcher) -> Result<Compiled, BuildError>
         ensures matcher { IfOk result (λ compiled. compiled ≡ matcher.now) }
         ensures sound { OnOk result (IsSoundMatcher matcher.now) }
@@ -135,12 +135,12 @@ impl Compiled {
         Compiled::build_in(Dialect::Regex, &PatternCache::new(alloc), matcher)
     }
 
-    /// Compiles a matcher of the dialect, as [`Compiled::build`] does one of `regex`. A pattern that is kept is shared, and
-    /// nothing is compiled for it.
+    /// Compiles a matcher of the dialect, as [`Compiled::build`] does for one of `regex`. A pattern that is kept is shared,
+    /// and isn't compiled again.
     ///
     /// # Errors
     ///
-    /// [`BuildError::BadPattern`] if the pattern is broken in the dialect.
+    /// [`BuildError::BadPattern`] if the pattern is broken in the dialect, and [`BuildError::Memory`] if memory runs out.
     pub(crate) fn build_in(
         dialect: Dialect,
         patterns: &PatternCache,
@@ -187,14 +187,14 @@ impl Compiled {
         })
     }
 
-    /// Returns the matcher. It takes no memory.
+    /// Returns the matcher. Nothing is allocated.
     pub fn matcher(&self) -> &Matcher
         ensures { result.now ≡ self.now }
     {
         &self.matcher
     }
 
-    /// Returns the bytes that are counted for what was compiled, or 0 if nothing was.
+    /// Returns the number of bytes that are counted for what was compiled, or 0 if nothing was.
     pub(crate) fn size(&self) -> usize {
         match &self.whole {
             Some(whole) => whole.size(),
@@ -202,7 +202,7 @@ impl Compiled {
         }
     }
 
-    /// Returns whether the label's value matches; an absent label is the empty text.
+    /// Returns whether the label's value matches. An absent label has the empty text.
     ///
     /// # Errors
     ///
@@ -220,7 +220,7 @@ impl Compiled {
     }
 }
 
-/// Returns whether a value that matches its pattern, or doesn't, is as a matcher of the kind wants it.
+/// Returns whether a value satisfies a matcher of the kind. `found` says whether the value matches its pattern.
 pub fn as_wanted(kind: MatcherKind, found: bool) -> bool
     ensures { (pattern value : List ℕ) → found ≡ is_found_by kind pattern value → result ≡ is_met kind pattern value }
 {

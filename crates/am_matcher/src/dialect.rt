@@ -1,10 +1,11 @@
 //! The dialects of patterns.
 
-/// Which regular expressions patterns are.
+/// The kind of regular expressions that patterns are.
 #[derive(Clone, Copy, Debug, PartialEq, Eq)]
 pub enum Dialect {
-    /// Those of `regex`.
+    /// The regular expressions of `regex`.
     Regex,
-    /// Those of RE2 (Go's `regexp`), as Alertmanagers mean them: of these a part is taken, by [`re2_of`](crate::re2_of).
+    /// The regular expressions of RE2 (Go's `regexp`), which Alertmanager reads. A part of them is taken, by
+    /// [`re2_of`](crate::re2_of).
     Re2,
 }

@@ -20,11 +20,11 @@ use am_silence::{MatcherIter, MatcherRef, MeshSilence};
 #[derive(Drop)]
 pub struct Entry {
     pub kept: Kept,
-    /// It is marked as one that a silence has. The mark counts while those are dropped that none has.
+    /// True if the pattern is marked as one that a silence has. Marks count only while the unused patterns are dropped.
     pub is_used: bool,
 }
 
-/// Where the pattern of a text is, or else where it would go.
+/// Returns the place of the pattern with this text, or the place where it would be inserted.
 pub fn place_of(entries: &[Entry], text: &str) -> Result<usize, usize>
     ensures found { IfOk result (HoldsAt (λ e. e.kept.text ≡ text.now) entries.now) }
     ensures inside { IfOk result (λ place. place < length entries.now) }
@@ -33,7 +33,7 @@ pub fn place_of(entries: &[Entry], text: &str) -> Result<usize, usize>
     entries.binary_search_by(|entry| entry.kept.text().cmp(text))
 }
 
-/// Returns where the pattern of a text is, if it is one of the dialect.
+/// Returns the place of the pattern with this text, if it is one of the dialect.
 fn place_in(entries: &[Entry], dialect: Dialect, text: &str) -> Option<usize>
     ensures found { IfSome result (HoldsAt (λ e. e.kept.text ≡ text.now) entries.now) }
     ensures dialect { IfSome result (HoldsAt (λ e. e.kept.dialect ≡ dialect) entries.now) }
@@ -49,7 +49,7 @@ fn place_in(entries: &[Entry], dialect: Dialect, text: &str) -> Option<usize>
     }
 }
 
-/// Tells whether the value matches the pattern of a text, where that is kept as one of the dialect.
+/// Returns whether the value matches the pattern with this text, if that is kept as one of the dialect.
 pub fn ask(
     entries: &mut Vec<Entry>,
     dialect: Dialect,
@@ -65,7 +65,7 @@ pub fn ask(
     Some(entry.kept.is_match(value))
 }
 
-/// Tells whether the pattern of a text is broken, where it is kept as one of the dialect.
+/// Returns whether the pattern with this text is broken, if it is kept as one of the dialect.
 pub fn is_broken_in(entries: &[Entry], dialect: Dialect, pattern: &str) -> Option<bool>
     ensures sound { IfSome result (λ broken. broken ≡ false → IsSoundIn dialect pattern.now) }
     ensures broken { IfSome result (λ broken. broken ≡ true → IsBrokenIn dialect pattern.now) }
@@ -74,7 +74,7 @@ pub fn is_broken_in(entries: &[Entry], dialect: Dialect, pattern: &str) -> Optio
     Some(entries[place].kept.is_broken())
 }
 
-/// Returns what was compiled of the pattern of a text, where it is kept as one of the dialect. It shares what is kept.
+/// Returns the compiled form of the pattern with this text, if it is kept as one of the dialect. What is kept is shared.
 pub fn whole_in(
     entries: &[Entry],
     dialect: Dialect,
@@ -88,7 +88,7 @@ pub fn whole_in(
     Some(entries[place].kept.whole())
 }
 
-/// The bytes that are counted for the patterns.
+/// Returns the number of bytes that are counted for the patterns.
 pub fn count(entries: &[Entry]) -> usize
     requires { size_of_all (patterns_in entries.now) < 2 ^ 64 }
     ensures { result ≡ size_of_all (patterns_in entries.now) }
@@ -100,7 +100,7 @@ pub fn count(entries: &[Entry]) -> usize
     bytes
 }
 
-/// Drops the patterns that no silence of the map has. It takes no memory.
+/// Drops the patterns that no silence of the map has. Nothing is allocated.
 pub fn drop_unused(entries: &mut Vec<Entry>, held: &Held<MeshSilence>)
     ensures used { TextsPass (is_used_by held.now) (patterns_in entries.new.items) }
     ensures kept { All (Contains (patterns_in entries.old.items)) (patterns_in entries.new.items) }
@@ -141,7 +141,7 @@ fn mark_all(entries: &mut Vec<Entry>, matchers: MatcherIter<'_>)
     }
 }
 
-/// Marks the pattern of a matcher that is a regular expression, where it is kept.
+/// Marks the pattern of a matcher, if it is a regular expression and is kept.
 fn mark(entries: &mut Vec<Entry>, matcher: &MatcherRef<'_>)
     ensures same { patterns_in entries.new.items ≡ patterns_in entries.old.items }
     ensures used { (test : List ℕ → Bool) → (is_regexp matcher.now.kind ≡ true → test matcher.now.pattern ≡ true) →

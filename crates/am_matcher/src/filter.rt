@@ -18,13 +18,13 @@ use std::alloc::{AllocError, Global};
 use std::marker::Model;
 use thiserror::Error;
 
-/// Why a filter was refused.
+/// The reason why a filter is refused.
 #[derive(Clone, Copy, Debug, PartialEq, Eq, Error)]
 pub enum FilterError {
-    /// A text that is no filter.
+    /// The text isn't a filter.
     #[error("bad filter")]
     Syntax,
-    /// A pattern that `regex` refuses, or that isn't taken as one of RE2.
+    /// The pattern is refused by `regex`, or isn't taken as one of RE2.
     #[error("bad pattern")]
     BadPattern,
     #[error("out of memory")]
@@ -63,7 +63,7 @@ pub fn characters_of(alloc: Global, text: &str) -> Result<Vec<char>, AllocError>
     text.chars().collect(alloc)
 }
 
-/// Returns the text that a written value stands for.
+/// Returns the text that the value of a filter stands for.
 fn value_of(alloc: Global, written: &[char]) -> Result<String, FilterError>
     ensures read { IfOk result (λ text. (value : List ℕ) × IsValue written.now value × (string_bytes text ≡ encode_utf8_all value)) }
     ensures syntax { IsErrOf result FilterError.Syntax → (value : List ℕ) → ¬ IsValue written.now value }
@@ -76,7 +76,7 @@ fn value_of(alloc: Global, written: &[char]) -> Result<String, FilterError>
     Ok(text_of_pieces(alloc, inside)?)
 }
 
-/// Returns the matcher that a filter's text stands for.
+/// Returns the matcher that the text of a filter stands for.
 fn read_filter(alloc: Global, text: &str) -> Result<Matcher, FilterError>
     ensures read { IfOk result (IsFilter text.now) }
     ensures syntax { IsErrOf result FilterError.Syntax → (m : Matcher) → ¬ IsFilter text.now m }
@@ -95,7 +95,7 @@ fn read_filter(alloc: Global, text: &str) -> Result<Matcher, FilterError>
     })
 }
 
-/// Returns the pattern of the matcher if it has this name, else that of one before it.
+/// Returns the pattern of the matcher if it has this name, and `before` otherwise.
 fn later_pattern<'a>(before: &'a str, matcher: &MatcherRef<'a>, name: &str) -> &'a str
     ensures { result.now ≡ (if is_text matcher.now.name name.now then matcher.now.pattern else before.now) }
 {
@@ -117,14 +117,15 @@ fn pattern_of<'a>(matchers: MatcherIter<'a>, name: &str) -> &'a str
     pattern
 }
 
-/// A filter of a query, as `job=~"x|y"`: a matcher that a silence's own matchers are asked about.
+/// A filter of a query, such as `job=~"x|y"`: a matcher that is compared with the matchers of silences.
 ///
-/// Contracts see the matcher that the text stands for, as it is meant: with the pattern of `regex` that its own stands for.
+/// Contracts see the matcher that the text stands for, as it is meant: with the pattern of `regex` that its own pattern
+/// stands for.
 pub struct Filter {
     compiled: Compiled,
 }
 
-// (so that crates above cite one drop, and don't prove those of all that is inside)
+// With this the crates above cite one drop, and don't prove those of everything inside.
 impl Drop for Filter {
     fn drop(self) {
         let Filter { compiled: _ } = self;
@@ -140,12 +141,12 @@ impl Model for Filter {
 }
 
 impl Filter {
-    /// The filter that the text is.
+    /// Parses the text of a filter.
     ///
     /// # Errors
     ///
-    /// [`FilterError::Syntax`] where the text is no filter, and [`FilterError::BadPattern`] where
-    /// A pattern that `regex` refuses, or that isn't taken as one of RE2.
+    /// [`FilterError::Syntax`] if the text isn't a filter, [`FilterError::BadPattern`] if `regex` refuses its pattern, and
+    /// [`FilterError::Memory`] if memory runs out.
     pub fn parse(alloc: Global, text: &str) -> Result<Filter, FilterError>
         ensures read { IfOk result (IsFilter text.now) }
         ensures sound { IfOk result IsSoundMatcher }
@@ -156,11 +157,11 @@ impl Filter {
         Filter::parse_by(&PatternCache::new(alloc), text)
     }
 
-    /// Parses the text of a filter, as [`Filter::parse`] does. A pattern that is kept is shared, and nothing is compiled for it.
+    /// Parses the text of a filter, as [`Filter::parse`] does. A pattern that is kept is shared, and isn't compiled again.
     ///
     /// # Errors
     ///
-    /// Those of [`Filter::parse`].
+    /// The errors of [`Filter::parse`].
     pub fn parse_by(patterns: &PatternCache, text: &str) -> Result<Filter, FilterError>
         ensures read { IfOk result (IsFilter text.now) }
         ensures sound { IfOk result IsSoundMatcher }
@@ -171,11 +172,12 @@ impl Filter {
         Filter::parse_in(Dialect::Regex, patterns, text)
     }
 
-    /// Parses a text whose pattern is one of the dialect, as [`Filter::parse_by`] does.
+    /// Parses the text of a filter whose pattern is one of the dialect, as [`Filter::parse_by`] does.
     ///
     /// # Errors
     ///
-    /// [`FilterError::Syntax`] if the text is no filter, and [`FilterError::BadPattern`] if its pattern is broken in the dialect.
+    /// [`FilterError::Syntax`] if the text isn't a filter, [`FilterError::BadPattern`] if its pattern is broken in the
+    /// dialect, and [`FilterError::Memory`] if memory runs out.
     pub fn parse_in(
         dialect: Dialect,
         patterns: &PatternCache,
@@ -192,11 +194,11 @@ impl Filter {
         Ok(Filter { compiled })
     }
 
-    /// Returns the regular expression of the filter that the text is, if one decides. Nothing is compiled.
+    /// Returns the regular expression of a filter, or `None` if it has none. Nothing is compiled.
     ///
     /// # Errors
     ///
-    /// [`FilterError::Syntax`] if the text is no filter, and [`FilterError::Memory`].
+    /// [`FilterError::Syntax`] if the text isn't a filter, and [`FilterError::Memory`] if memory runs out.
     pub fn regexp_of(alloc: Global, text: &str) -> Result<Option<Text>, FilterError>
         ensures read { IfOk result (λ pattern. (m : Matcher) × IsFilter text.now m × (pattern ≡ regexp_of m)) }
         ensures syntax { IsErrOf result FilterError.Syntax → (m : Matcher) → ¬ IsFilter text.now m }
@@ -215,13 +217,14 @@ impl Filter {
         }
     }
 
-    /// Returns the bytes that are counted for the filter's compiled pattern, or 0 if no regular expression decides.
+    /// Returns the number of bytes that are counted for the filter's compiled pattern, or 0 if it has no regular
+    /// expression.
     pub fn size(&self) -> usize {
         self.compiled.size()
     }
 
-    /// Returns whether the silence passes: whether the filter matches the labels that its matchers make, name to pattern,
-    /// whatever their kinds; of matchers with one name the last one counts.
+    /// Returns whether the silence passes the filter. The filter is applied to labels made of the silence's matchers, with
+    /// their names and their patterns as values, whatever their kinds are. If several have one name, the last one counts.
     ///
     /// # Errors
     ///
@@ -235,7 +238,7 @@ impl Filter {
         self.compiled.matches(pattern)
     }
 
-    /// Returns whether the silence of a version passes, as [`Filter::passes`] says.
+    /// Returns whether the silence of a version passes the filter, as [`Filter::passes`] does.
     ///
     /// # Errors
     ///

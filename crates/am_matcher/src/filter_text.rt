@@ -1,4 +1,4 @@
-//! Filters as they are written.
+//! The parts of a filter's text.
 
 ghost use Rattle.std.specs.Prelude.{◌≡◌, ◌++◌, ℕ, List, true, false, length, reverse, Some, None, MatchOption};
 ghost use Rattle.std.specs.List.{take_while};
@@ -7,7 +7,7 @@ ghost use Rattle.am_silence.specs.declared.matcher.MatcherKind.{MatcherKind};
 
 use am_silence::MatcherKind;
 
-/// A filter's parts as they are written.
+/// The parts of a filter's text.
 #[derive(Clone, Copy)]
 pub struct Parts<'a> {
     pub kind: MatcherKind,
@@ -27,14 +27,14 @@ fn is_name_character(character: char) -> bool
     character.is_ascii_alphanumeric() || character == '_' || character == ':'
 }
 
-/// How many blanks stand at the front.
+/// Returns the number of blanks at the front.
 fn blanks_at_front(characters: &[char]) -> usize
     ensures { result ≡ length (take_while is_blank characters.now) }
 {
     characters.iter().take_while(|c| is_blank(**c)).count()
 }
 
-/// How many blanks stand at the end.
+/// Returns the number of blanks at the end.
 fn blanks_at_end(characters: &[char]) -> usize
     ensures { result ≡ length (take_while is_blank (reverse characters.now)) }
 {
@@ -45,7 +45,7 @@ fn blanks_at_end(characters: &[char]) -> usize
         .count()
 }
 
-/// How many characters of a name stand at the front.
+/// Returns the number of characters of a name at the front.
 fn name_len(characters: &[char]) -> usize
     ensures { result ≡ length (take_while is_name_character characters.now) }
 {
@@ -55,7 +55,7 @@ fn name_len(characters: &[char]) -> usize
         .count()
 }
 
-/// What follows the blanks at the front.
+/// Returns the text without the blanks at the front.
 fn skip_blanks(characters: &[char]) -> &[char]
     ensures { (front : List ℕ) × IsRun is_blank characters.now front result.now }
 {
@@ -63,7 +63,7 @@ fn skip_blanks(characters: &[char]) -> &[char]
     rest
 }
 
-/// What stands before the blanks at the end.
+/// Returns the text without the blanks at the end.
 fn drop_blanks(characters: &[char]) -> &[char]
     ensures { (behind : List ℕ) × IsRun is_blank (reverse characters.now) behind (reverse result.now) }
 {
@@ -71,7 +71,7 @@ fn drop_blanks(characters: &[char]) -> &[char]
     front
 }
 
-/// A name begins here.
+/// Returns whether a name begins at the front.
 fn begins_name(characters: &[char]) -> bool
     ensures { result ≡ begins_with begins_name characters.now }
 {
@@ -81,7 +81,7 @@ fn begins_name(characters: &[char]) -> bool
     }
 }
 
-/// The name at the front, and what follows it.
+/// Returns the name at the front and the text behind it, or `None` if no name is there.
 fn split_name(characters: &[char]) -> Option<(&[char], &[char])>
     ensures { MatchOption result (begins_with begins_name characters.now ≡ false)
         (λ found. (begins_with begins_name characters.now ≡ true)
@@ -94,7 +94,7 @@ fn split_name(characters: &[char]) -> Option<(&[char], &[char])>
     }
 }
 
-/// The sign at the front, and what follows it.
+/// Returns the kind of the sign at the front and the text behind the sign, or `None` if no sign is there.
 fn split_sign(characters: &[char]) -> Option<(MatcherKind, &[char])>
     ensures { MatchOption result (sign_at characters.now ≡ None)
         (λ found. (sign_at characters.now ≡ Some found.0) × (characters.now ≡ sign_of found.0 ++ found.1.now)) }
@@ -108,7 +108,7 @@ fn split_sign(characters: &[char]) -> Option<(MatcherKind, &[char])>
     }
 }
 
-/// The parts of a filter.
+/// Returns the parts of a filter, or `None` if the text isn't one.
 pub fn parts_of(text: &[char]) -> Option<Parts<'_>>
     ensures { MatchOption result ((kind : MatcherKind) (name written : List ℕ) → ¬ IsSplit text.now kind name written)
         (λ parts. IsSplit text.now parts.kind parts.name.now parts.written.now) }

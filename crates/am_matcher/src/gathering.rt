@@ -1,4 +1,4 @@
-//! The silences that may mute an alert, by its labels.
+//! The silences that may mute an alert, found by its labels.
 
 ghost use Rattle.std.specs.Prelude.{◌≡◌, ◌++◌, ℕ, List, map, filter, Contains, Any, IfOk, OnOk};
 ghost use Rattle.std.specs.Ordering.{nat_cmp};
@@ -14,7 +14,7 @@ use am_version_order::Version;
 use am_wire::{Bytes, Message};
 use std::alloc::{AllocError, Global};
 
-/// The bucket of the silences whose first wanted label is this one.
+/// Returns the bucket of the silences whose first wanted label is this one.
 fn bucket_of(alloc: Global, label: &Label) -> Result<Bytes, AllocError>
     ensures { IfOk result (λ bucket. bucket ≡ label_bucket label.now) }
 {
@@ -29,7 +29,7 @@ fn bucket_of(alloc: Global, label: &Label) -> Result<Bytes, AllocError>
     Ok(Bytes::new(bucket))
 }
 
-/// The empty bucket, and those of the labels.
+/// Returns the empty bucket, and the buckets of the labels.
 pub fn buckets_for(alloc: Global, labels: &[Label]) -> Result<Vec<Bytes>, AllocError>
     ensures { IfOk result (λ buckets. buckets.items ≡ buckets_for labels.now) }
 {
@@ -41,7 +41,7 @@ pub fn buckets_for(alloc: Global, labels: &[Label]) -> Result<Vec<Bytes>, AllocE
     Ok(buckets)
 }
 
-/// Puts the silences of a bucket at the end.
+/// Appends the silences of a bucket.
 fn push_bucket<'a>(
     silences: &mut Vec<&'a MeshSilence>,
     held: &'a Held<MeshSilence>,
@@ -56,7 +56,7 @@ fn push_bucket<'a>(
     Ok(())
 }
 
-/// Puts silences in the order of their ids, and leaves one of each id.
+/// Sorts silences by their ids, and leaves one of each id.
 fn order_by_id(silences: &mut Vec<&MeshSilence>)
     ensures rising { IsMap mesh_version (slice_cmp nat_cmp) (map (λ m. m.now) silences.new.items) }
     ensures same { (m : Mesh) → Contains (map (λ m. m.now) silences.new.items) m
@@ -71,7 +71,7 @@ fn order_by_id(silences: &mut Vec<&MeshSilence>)
     });
 }
 
-/// The silences of these buckets, in the order of the ids.
+/// Returns the silences of these buckets, in the order of their ids.
 pub fn gather<'a>(
     alloc: Global,
     held: &'a Held<MeshSilence>,
@@ -84,7 +84,7 @@ pub fn gather<'a>(
         push_bucket(&mut found, held, bucket.as_slice())?;
     }
     order_by_id(&mut found);
-    // A walk tells that the ids of the map are in order.
+    // A walk shows that the ids of the map are in order.
     let _walk = held.iter();
     Ok(found)
 }

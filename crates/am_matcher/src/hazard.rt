@@ -1,4 +1,4 @@
-//! Hazards: why an Alertmanager can't hold a silence.
+//! Reasons why an Alertmanager can't hold a silence.
 
 ghost use Rattle.std.specs.Prelude.{IfOk};
 ghost use Rattle.am_matcher.specs.Hazards.{IsHazard};
@@ -11,17 +11,18 @@ use crate::label_names::are_labels;
 use am_silence::MeshSilence;
 use std::alloc::{AllocError, Global};
 
-/// Why an Alertmanager can't hold a silence.
+/// The reason why an Alertmanager can't hold a silence.
 #[derive(Clone, Copy, Debug, PartialEq, Eq)]
 pub enum Hazard {
-    /// A pattern that the Alertmanager refuses, and with it each query of its silences.
+    /// The Alertmanager refuses a pattern, and then it refuses each query of its silences.
     Pattern,
-    /// No matcher, one with a name that no label has, or only ones that match the empty text.
+    /// There is no matcher, or a matcher has a name that no label can have, or all matchers match the empty text.
     Matcher,
 }
 
-/// Returns why an Alertmanager can't hold the silence, if it can't: [`Hazard::Pattern`] if it refuses a pattern, or if what
-/// `regex` would search for in its place is too big; else [`Hazard::Matcher`] if it doesn't take the matchers.
+/// Returns the reason why an Alertmanager can't hold the silence, or `None` if it can. The reason is [`Hazard::Pattern`] if
+/// it refuses a pattern, or if the pattern of `regex` that stands for it is too big. Otherwise it is [`Hazard::Matcher`] if
+/// it refuses the matchers.
 ///
 /// # Errors
 ///

@@ -1,4 +1,4 @@
-//! Matchers that are asked once.
+//! Matchers that are compared with labels once.
 
 ghost use Rattle.std.specs.Prelude.{◌≡◌, List, ℕ, Bool, [], true, false, All, Any, Ok, Err, IfOk, OnOk, OnErr, IsErrOf, alloc_error};
 ghost use Rattle.am_silence.specs.Kinds.{is_regexp};
@@ -14,7 +14,7 @@ use crate::labels::NamedLabels;
 use am_silence::{Matcher, MatcherIter, MatcherRef, Matchers, Verdict};
 use std::alloc::{AllocError, Global};
 
-/// Returns whether the value of a matcher's label matches. Its pattern may be kept if `keeps` says so.
+/// Returns whether the label's value satisfies a matcher. Its pattern may be kept if `keeps` is true.
 fn judge(
     patterns: &mut PatternCache,
     dialect: Dialect,
@@ -38,8 +38,8 @@ fn judge(
     Ok(as_wanted(matcher.kind(), found))
 }
 
-/// Returns whether each of the matchers matches its label's value. All patterns are judged, whatever the labels are, and may be
-/// kept if `keeps` says so.
+/// Returns whether the labels satisfy all of the matchers. All patterns are judged, whatever the labels are, and may be
+/// kept if `keeps` is true.
 pub fn judge_all(
     patterns: &mut PatternCache,
     dialect: Dialect,
@@ -62,7 +62,7 @@ pub fn judge_all(
     Ok(all)
 }
 
-/// Returns whether each of the matchers matches the empty text. All patterns are judged, and none is kept.
+/// Returns whether the empty text satisfies all of the matchers. All patterns are judged, and none is kept.
 pub fn judge_by_no_labels(
     patterns: &mut PatternCache,
     dialect: Dialect,
@@ -77,7 +77,7 @@ pub fn judge_by_no_labels(
     judge_all(patterns, dialect, matchers, &labels, false)
 }
 
-/// Returns whether each of the matchers matches the empty text. All patterns are judged.
+/// Returns whether the empty text satisfies all of the matchers. All patterns are judged.
 fn judge_each(alloc: Global, matchers: &[Matcher]) -> Result<bool, BuildError>
     ensures answer { IfOk result (λ yes. yes ≡ match_all matchers.now []) }
     ensures sound { OnOk result (All IsSoundMatcher matchers.now) }
@@ -116,12 +116,12 @@ fn verdict_of(judged: Result<bool, BuildError>) -> Result<Verdict, AllocError>
 }
 
 impl PatternCache {
-    /// Returns what posted matchers are judged as, as [`verdict`] does, by the patterns that are kept. It keeps none, since no
-    /// silence has the posted ones yet.
+    /// Returns the verdict on posted matchers, as [`verdict`] does, using the patterns that are kept. No pattern is added,
+    /// since no silence has the posted matchers yet.
     ///
     /// # Errors
     ///
-    /// [`AllocError`] if memory runs out. Without a regular expression no memory is needed.
+    /// [`AllocError`] if memory runs out. Without a regular expression, nothing is allocated.
     pub fn verdict(&mut self, matchers: &Matchers) -> Result<Verdict, AllocError>
         ensures verdict { IfOk result (IsVerdict matchers.now) }
         ensures memory { OnErr result (has_regexp matchers.now ≡ true) }
@@ -130,12 +130,13 @@ impl PatternCache {
         self.verdict_in(Dialect::Regex, matchers)
     }
 
-    /// Returns what posted matchers of the dialect are judged as, by the patterns that are kept: [`Verdict::Bad`] if a pattern is
-    /// broken in it or, in that of RE2, a name isn't one of a label; else as [`verdict`] says of the matchers as they are meant.
+    /// Returns the verdict on posted matchers of the dialect, using the patterns that are kept. The verdict is
+    /// [`Verdict::Bad`] if a pattern is broken in the dialect or, for RE2, if a name can't be that of a label. Otherwise it
+    /// is the one that [`verdict`] returns for the matchers as they are meant.
     ///
     /// # Errors
     ///
-    /// [`AllocError`] if memory runs out. Without a regular expression no memory is needed.
+    /// [`AllocError`] if memory runs out. Without a regular expression, nothing is allocated.
     pub fn verdict_in(
         &mut self,
         dialect: Dialect,
@@ -152,12 +153,13 @@ impl PatternCache {
     }
 }
 
-/// Returns what the matchers of a posted silence are judged as: [`Verdict::Bad`] if `regex` refuses one of their patterns, else
-/// [`Verdict::AllEmpty`] if each matches the empty text, also if there are none, else [`Verdict::Fine`].
+/// Returns the verdict on the matchers of a posted silence. It is [`Verdict::Bad`] if `regex` refuses one of their
+/// patterns. Otherwise it is [`Verdict::AllEmpty`] if the empty text satisfies all of them, or there are none, and
+/// [`Verdict::Fine`] if not.
 ///
 /// # Errors
 ///
-/// [`AllocError`] if memory runs out. Without a regular expression no memory is needed.
+/// [`AllocError`] if memory runs out. Without a regular expression, nothing is allocated.
 pub fn verdict(alloc: Global, matchers: &[Matcher]) -> Result<Verdict, AllocError>
     ensures verdict { IfOk result (IsVerdict matchers.now) }
     ensures memory { OnErr result (has_regexp matchers.now ≡ true) }

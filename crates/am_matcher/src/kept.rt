@@ -14,17 +14,17 @@ use crate::whole::Whole;
 use std::alloc::{AllocError, Global};
 use std::marker::Model;
 
-/// What building a pattern gave. Each has the text of its pattern.
+/// The result of building a pattern, with the pattern's text.
 #[derive(Drop)]
 pub enum Built {
-    /// Of a pattern of `regex`: its own text was compiled.
+    /// A pattern of `regex`, which was compiled.
     Sound(Box<Whole>),
-    /// Of a pattern of RE2: its text, and the one that was written for it and compiled.
+    /// A pattern of RE2, and the pattern that was written for it and compiled.
     Translated { text: String, whole: Box<Whole> },
     Broken { dialect: Dialect, text: String },
 }
 
-/// Compiles the pattern of `regex` that is written for one of RE2.
+/// Compiles the pattern of `regex` that is written for a pattern of RE2.
 fn whole_of_re2(alloc: Global, pattern: &str) -> Result<Whole, BuildError>
     ensures meant { IfOk result (λ whole. IsMeaning Dialect.Re2 pattern.now whole.text) }
     ensures sound { IfOk result (λ whole. IsSound whole.text) }
@@ -46,7 +46,7 @@ pub fn whole_of(alloc: Global, dialect: Dialect, pattern: &str) -> Result<Whole,
     }
 }
 
-/// Returns what is kept of a pattern that was compiled.
+/// Returns the result for a pattern that was compiled.
 fn compiled_of(
     alloc: Global,
     dialect: Dialect,
@@ -69,7 +69,7 @@ fn compiled_of(
     }
 }
 
-/// Builds a pattern.
+/// Builds a pattern. The result for a broken pattern says so.
 fn built_of(alloc: Global, dialect: Dialect, pattern: &str) -> Result<Built, AllocError>
     ensures text { IfOk result (λ built. (pattern_of built).text ≡ pattern.now) }
     ensures dialect { IfOk result (λ built. (pattern_of built).dialect ≡ dialect) }
@@ -85,7 +85,7 @@ fn built_of(alloc: Global, dialect: Dialect, pattern: &str) -> Result<Built, All
     }
 }
 
-/// A pattern, and what building it gave. Contracts see the pattern, and how much was compiled.
+/// A pattern, and the result of building it. Contracts see the pattern, and how much was compiled.
 #[derive(Drop)]
 pub struct Kept {
     built: Built,
@@ -104,7 +104,7 @@ impl Model for Kept {
 }
 
 impl Kept {
-    /// Builds a pattern. One that is broken is kept as such.
+    /// Builds a pattern. A broken one is kept as such.
     pub fn build(alloc: Global, dialect: Dialect, pattern: &str) -> Result<Kept, AllocError>
         ensures text { IfOk result (λ kept. kept.text ≡ pattern.now) }
         ensures dialect { IfOk result (λ kept. kept.dialect ≡ dialect) }
@@ -113,7 +113,7 @@ impl Kept {
         Ok(Kept { built })
     }
 
-    /// The text of the pattern.
+    /// Returns the text of the pattern.
     pub fn text(&self) -> &str
         ensures { result.now ≡ self.now.text }
     {
@@ -135,7 +135,7 @@ impl Kept {
         }
     }
 
-    /// The bytes that are counted for it.
+    /// Returns the number of bytes that are counted for the pattern.
     pub fn size(&self) -> usize
         ensures { result ≡ min (size_of self.now) (2 ^ 64 - 1) }
     {
@@ -146,7 +146,7 @@ impl Kept {
         }
     }
 
-    /// Whether the pattern is broken.
+    /// Returns whether the pattern is broken.
     pub fn is_broken(&self) -> bool
         ensures sound { result ≡ false → IsSoundIn self.now.dialect self.now.text }
         ensures broken { result ≡ true → IsBrokenIn self.now.dialect self.now.text }
@@ -158,7 +158,7 @@ impl Kept {
         }
     }
 
-    /// Returns what was compiled of the pattern that it stands for. It shares what is kept.
+    /// Returns the compiled form of the pattern. What is kept is shared.
     pub fn whole(&self) -> Result<Whole, BuildError>
         ensures meant { IfOk result (λ whole. IsMeaning self.now.dialect self.now.text whole.text) }
         ensures sound { IfOk result (λ whole. IsSound whole.text) }
@@ -171,7 +171,7 @@ impl Kept {
         }
     }
 
-    /// Whether the value matches the pattern from end to end.
+    /// Returns whether the value matches the pattern from end to end.
     pub fn is_match(&mut self, value: &str) -> Result<bool, BuildError>
         ensures answer { IfOk result (IsAnswer self.old.dialect self.old.text value.now) }
         ensures broken { IsErrOf result BuildError.BadPattern → IsBrokenIn self.old.dialect self.old.text }

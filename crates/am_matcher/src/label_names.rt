@@ -8,28 +8,28 @@ ghost use Rattle.am_matcher.specs.Dialects.{is_label, are_labels, takes_names};
 use crate::dialect::Dialect;
 use am_silence::MatcherIter;
 
-/// Tells whether the byte begins the name of a label.
+/// Returns whether the byte may begin the name of a label.
 fn begins_label(byte: u8) -> bool
     ensures { result ≡ (is_ascii_alphabetic byte || (byte == 0x5F)) }
 {
     byte.is_ascii_alphabetic() || byte == b'_'
 }
 
-/// Tells whether the byte may stand in the name of a label.
+/// Returns whether the byte may stand in the name of a label.
 fn is_in_label(byte: u8) -> bool
     ensures { result ≡ (is_ascii_alphanumeric byte || (byte == 0x5F)) }
 {
     byte.is_ascii_alphanumeric() || byte == b'_'
 }
 
-/// Tells whether each byte may stand in the name of a label.
+/// Returns whether all bytes may stand in the name of a label.
 fn are_in_label(bytes: &[u8]) -> bool
     ensures { result ≡ list_all (λ d. is_ascii_alphanumeric d || (d == 0x5F)) bytes.now }
 {
     bytes.iter().all(|byte| is_in_label(*byte))
 }
 
-/// Tells whether the bytes are the name of a label.
+/// Returns whether the bytes are the name of a label.
 fn is_label(name: &[u8]) -> bool
     ensures { result ≡ is_label name.now }
 {
@@ -39,7 +39,7 @@ fn is_label(name: &[u8]) -> bool
     }
 }
 
-/// Tells whether each matcher has the name of a label.
+/// Returns whether all matchers have names of labels.
 pub fn are_labels(matchers: MatcherIter<'_>) -> bool
     ensures { result ≡ are_labels matchers.entry }
 {
@@ -50,7 +50,7 @@ pub fn are_labels(matchers: MatcherIter<'_>) -> bool
     all
 }
 
-/// Tells whether posted matchers may have their names.
+/// Returns whether posted matchers may have their names in the dialect.
 pub fn takes_names(dialect: Dialect, matchers: MatcherIter<'_>) -> bool
     ensures { result ≡ takes_names dialect matchers.entry }
 {

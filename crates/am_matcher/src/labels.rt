@@ -8,7 +8,7 @@ use std::alloc::{AllocError, Global};
 use std::collections::BTreeMap;
 use std::marker::Model;
 
-/// A name, and its value.
+/// A label of an alert: a name and a value.
 #[derive(Drop)]
 pub struct Label {
     pub name: Text,
@@ -17,8 +17,8 @@ pub struct Label {
 
 /// The labels of an alert, as a map from names to values.
 ///
-/// Contracts see the list of the labels. Of labels with one name the last one counts, and a label
-/// that is absent is the empty text.
+/// Contracts see the list of the labels. If several labels have one name, the last one counts. An absent label has the
+/// empty text.
 #[derive(Drop)]
 pub struct Labels {
     labels: Vec<Label>,
@@ -34,7 +34,7 @@ impl Model for Labels {
 }
 
 impl Labels {
-    /// Returns these labels. It takes no memory.
+    /// Returns these labels. Nothing is allocated.
     pub fn new(labels: Vec<Label>) -> Labels
         ensures { result ≡ labels.items }
     {
@@ -48,7 +48,7 @@ impl Labels {
         self.labels.as_slice()
     }
 
-    /// Gives the vector back. It takes no memory.
+    /// Returns the vector of the labels. Nothing is allocated.
     pub fn into_vec(self) -> Vec<Label>
         ensures { result.items ≡ self }
     {
@@ -56,7 +56,8 @@ impl Labels {
     }
 }
 
-/// The values of labels, each found by its name without a walk through all labels. Contracts see the list of the labels.
+/// The values of labels, which are found by their names without a walk through all labels. Contracts see the list of the
+/// labels.
 #[derive(Drop)]
 pub struct NamedLabels<'a> {
     labels: &'a [Label],
@@ -75,7 +76,7 @@ impl<'a> Model for NamedLabels<'a> {
     ghost invariant = { λ n. AreValuesOf n.labels.now n.values };
 }
 
-/// Returns the values of labels by their names. Of labels with one name the last one counts.
+/// Returns the values of labels by their names. If several labels have one name, the last one counts.
 fn values_of<'a>(
     alloc: Global,
     labels: &'a [Label],
@@ -90,7 +91,7 @@ fn values_of<'a>(
 }
 
 impl<'a> NamedLabels<'a> {
-    /// Returns no labels. It takes no memory.
+    /// Returns no labels. Nothing is allocated.
     pub fn none(alloc: Global) -> NamedLabels<'a>
         ensures { result ≡ [] }
     {

@@ -1,10 +1,10 @@
-//! What holds of the texts of filters.
+//! Laws of the texts of filters.
 
 ghost use Rattle.std.specs.Prelude.{◌≡◌, ℕ, List};
 ghost use Rattle.am_silence.specs.declared.matcher.Matcher.{Matcher};
 ghost use Rattle.am_matcher.specs.Filters.{IsFilter};
 
-/// A text is read as a filter in one way at most.
+/// States that the text of a filter can be read in one way only.
 pub fn filter_is_read_in_one_way()
     // PROMISE: A filter has one reading.
     ensures { (bytes : List ℕ) (m other : Matcher) →

@@ -1,4 +1,4 @@
-//! Matchers, verdicts on them, filters and mutes, over the regular expressions of `regex`.
+//! Matchers, verdicts on them, filters and mutes, with the regular expressions of `regex`.
 #![tactic(auto)]
 
 mod cache;

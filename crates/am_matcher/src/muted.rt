@@ -5,7 +5,7 @@ ghost use Rattle.std.specs.Prelude.{◌≡◌};
 use am_wire::Text;
 use std::marker::Model;
 
-/// Ids of silences. Contracts see the list.
+/// Ids of silences. Contracts see their list.
 #[derive(Drop)]
 pub struct Ids {
     ids: Vec<Text>,
@@ -20,7 +20,7 @@ impl Model for Ids {
 }
 
 impl Ids {
-    /// These ids. It takes no memory.
+    /// Returns these ids. Nothing is allocated.
     pub fn new(ids: Vec<Text>) -> Ids
         ensures { result ≡ ids.items }
     {
@@ -33,7 +33,7 @@ impl Ids {
         self.ids.as_slice()
     }
 
-    /// Gives the vector back. It takes no memory.
+    /// Returns the vector of the ids. Nothing is allocated.
     pub fn into_vec(self) -> Vec<Text>
         ensures { result.items ≡ self }
     {
@@ -41,12 +41,12 @@ impl Ids {
     }
 }
 
-/// The silences that mute an alert, and those that may not be asked, each in the order of the ids.
+/// The silences that mute an alert, and those that can't be judged, each in the order of their ids.
 #[derive(Drop)]
 pub struct Mutes {
-    /// The active silences that are not broken and whose matchers all match.
+    /// The active silences that aren't broken and whose matchers all match.
     pub ids: Ids,
-    /// The active silences with a broken pattern, which `regex` refuses or which isn't taken as one of RE2, and those
-    /// without matchers that have unknown fields.
+    /// The active silences with a broken pattern, which `regex` refuses or which isn't taken as one of RE2, and those that
+    /// have unknown fields and no matchers.
     pub broken: Ids,
 }

@@ -21,13 +21,13 @@ use std::alloc::{AllocError, Global};
 /// The effect of a silence on an alert.
 #[derive(Clone, Copy)]
 pub enum Effect {
-    /// None, since the silence isn't active.
+    /// The silence isn't active.
     Idle,
     /// All matchers match.
     Mutes,
     /// One of the matchers doesn't match.
     Passes,
-    /// One of the patterns is refused, or unknown fields say what the silence matches.
+    /// A pattern is refused, or unknown fields say what the silence matches.
     Broken,
 }
 
@@ -38,15 +38,15 @@ fn is_active(version: &MeshSilence, now: Moment) -> bool
     now < version.expires() && version.starts_at() <= now && now < version.ends_at()
 }
 
-/// Returns whether a silence has no matcher, but fields that its reader doesn't know: they say what it matches.
+/// Returns whether a silence has unknown fields and no matcher. The fields say what it matches then.
 fn is_unread(version: &MeshSilence) -> bool
     ensures { IsTrue result ↔ IsUnread version.now }
 {
     version.matchers().is_empty() && !version.is_plain()
 }
 
-/// Returns the effect of a silence on an alert with these labels. Only the patterns of an active one are looked at, and may be
-/// kept if `keeps` says so.
+/// Returns the effect of a silence on an alert with these labels. Patterns are read only if the silence is active, and may
+/// be kept if `keeps` is true.
 fn effect_of(
     patterns: &mut PatternCache,
     dialect: Dialect,
@@ -73,7 +73,7 @@ fn effect_of(
     }
 }
 
-/// Appends the id of a silence to the list that its effect names, if it names one.
+/// Appends the id of a silence to the list for its effect, if there is one.
 fn put_id(
     alloc: Global,
     id: &Text,
@@ -92,7 +92,7 @@ fn put_id(
     Ok(())
 }
 
-/// Returns which of the silences mute an alert, and which are broken. Patterns may be kept if `keeps` says so.
+/// Returns the silences that mute an alert, and the broken ones. Patterns may be kept if `keeps` is true.
 fn mutes_among(
     alloc: Global,
     patterns: &mut PatternCache,
@@ -118,7 +118,7 @@ fn mutes_among(
     })
 }
 
-/// Returns which silences of a map mute an alert. Patterns may be kept if `keeps` says so.
+/// Returns the silences of a map that mute an alert, and the broken ones. Patterns may be kept if `keeps` is true.
 fn mutes_by(
     patterns: &mut PatternCache,
     dialect: Dialect,
@@ -140,8 +140,8 @@ fn mutes_by(
 }
 
 impl PatternCache {
-    /// Returns which silences mute labels, as [`mutes`] does. The patterns of the silences are kept if there is room: each is
-    /// compiled once.
+    /// Returns the silences that mute an alert with these labels, as [`mutes`] does. The patterns of the silences are kept
+    /// if there is room, so that each is compiled once.
     ///
     /// # Errors
     ///
@@ -153,13 +153,14 @@ impl PatternCache {
         now: Moment,
     ) -> Result<Mutes, AllocError>
         ensures muted { IfOk result (λ m. AreMuted labels.now now held.now m.ids m.broken) }
-        // What is kept then was kept before, or a silence has it.
+        // Each pattern that is kept afterwards was kept before, or belongs to a silence.
         ensures kept { TextsPass (λ text. is_among self.old text || is_used_by held.now text) self.new }
     {
         self.mutes_in(Dialect::Regex, held, labels, now)
     }
 
-    /// Returns which silences mute labels, as [`PatternCache::mutes`] does, by patterns of the dialect.
+    /// Returns the silences that mute an alert with these labels, as [`PatternCache::mutes`] does, with patterns of the
+    /// dialect.
     ///
     /// # Errors
     ///
@@ -172,19 +173,20 @@ impl PatternCache {
         now: Moment,
     ) -> Result<Mutes, AllocError>
         ensures muted { IfOk result (λ m. AreMutedIn dialect labels.now now held.now m.ids m.broken) }
-        // What is kept then was kept before, or a silence has it.
+        // Each pattern that is kept afterwards was kept before, or belongs to a silence.
         ensures kept { TextsPass (λ text. is_among self.old text || is_used_by held.now text) self.new }
     {
         mutes_by(self, dialect, held, labels.as_slice(), now, true)
     }
 }
 
-/// Returns the silences that mute an alert with these labels, and the broken ones: those with a pattern that `regex` refuses,
-/// and those without matchers that have unknown fields, which say what they match.
+/// Returns the silences that mute an alert with these labels, and the broken ones: those with a pattern that `regex`
+/// refuses, and those that have no matchers, but unknown fields, which say what they match.
 ///
-/// Only silences in view that have begun and haven't ended are asked. One without matchers mutes every alert if it has no
-/// unknown fields. Patterns are compiled for this call alone, and all those of an active silence, since a broken one is told
-/// whatever the labels are. Silences that have no pattern and want a label to be a text that it isn't are not looked at.
+/// Only silences in view that have begun and haven't ended are considered. One without matchers mutes every alert if it has
+/// no unknown fields. Patterns are compiled for this call alone. All patterns of an active silence are compiled, since a
+/// broken one is reported whatever the labels are. A silence without a pattern is skipped if it wants a label to have
+/// another text.
 ///
 /// # Errors
 ///

@@ -1,4 +1,4 @@
-//! Values of filters as they are written.
+//! The values of filters, piece by piece.
 
 ghost use Rattle.std.specs.Prelude.{◌≡◌, ◌≢◌, ◌++◌, ◌∷◌, [], ℕ, List, length, map, IfOk, MatchOption, string_bytes, encode_utf8_all, ◌<◌};
 ghost use Rattle.std.specs.List.{list_any};
@@ -6,7 +6,7 @@ ghost use Rattle.am_matcher.specs.Filters.{escape_of, pieces, quote, is_quote, I
 
 use std::alloc::{AllocError, Global};
 
-/// What stands for one character of a value: an escape, or the character itself.
+/// A piece of a value, which stands for one character: an escape, or the character itself.
 #[derive(Clone, Copy)]
 pub struct Piece {
     pub escaped: bool,
@@ -14,7 +14,7 @@ pub struct Piece {
 }
 
 impl Piece {
-    /// A quote that is not escaped.
+    /// Returns whether the piece is a quote that isn't escaped.
     fn is_quote(&self) -> bool
         ensures { result ≡ is_quote self.now }
     {
@@ -22,7 +22,7 @@ impl Piece {
     }
 }
 
-/// What a backslash and this character stand for.
+/// Returns the character that a backslash and this character stand for, or `None` if they have no meaning of their own.
 fn escaped(character: char) -> Option<char>
     ensures { result ≡ escape_of character }
 {
@@ -34,7 +34,7 @@ fn escaped(character: char) -> Option<char>
     }
 }
 
-/// The first piece, and what follows it.
+/// Returns the first piece and the characters behind it, or `None` if there are no characters.
 fn first_piece(characters: &[char]) -> Option<(Piece, &[char])>
     ensures none { MatchOption result (characters.now ≡ [])
         (λ found. pieces characters.now ≡ found.0 ∷ pieces found.1.now) }
@@ -60,7 +60,7 @@ fn first_piece(characters: &[char]) -> Option<(Piece, &[char])>
     }
 }
 
-/// The pieces of a value.
+/// Returns the pieces of a value.
 pub fn pieces_of(alloc: Global, written: &[char]) -> Result<Vec<Piece>, AllocError>
     ensures { IfOk result (λ found. found.items ≡ pieces written.now) }
 {
@@ -73,7 +73,7 @@ pub fn pieces_of(alloc: Global, written: &[char]) -> Result<Vec<Piece>, AllocErr
     Ok(found)
 }
 
-/// What is between a quote at the front and another one at the end.
+/// Returns the pieces between a quote at the front and another one at the end, or `None` if these aren't there.
 fn between_quotes(all: &[Piece]) -> Option<&[Piece]>
     ensures { MatchOption result ((inside : List Piece) → all.now ≢ quote ∷ (inside ++ quote ∷ []))
         (λ inside. all.now ≡ quote ∷ (inside.now ++ quote ∷ [])) }
@@ -84,14 +84,14 @@ fn between_quotes(all: &[Piece]) -> Option<&[Piece]>
     }
 }
 
-/// One of the pieces is a quote that is not escaped.
+/// Returns whether one of the pieces is a quote that isn't escaped.
 fn has_quote(all: &[Piece]) -> bool
     ensures { result ≡ list_any is_quote all.now }
 {
     all.iter().any(|piece| piece.is_quote())
 }
 
-/// The pieces without the quotes round them. There is no further quote.
+/// Returns the pieces without the quotes around them, or `None` if there is a further quote.
 pub fn inside_of(all: &[Piece]) -> Option<&[Piece]>
     ensures { MatchOption result ((inside : List Piece) → ¬ IsInside all.now inside)
         (λ inside. IsInside all.now inside.now) }
@@ -107,7 +107,7 @@ pub fn inside_of(all: &[Piece]) -> Option<&[Piece]>
     }
 }
 
-/// The text of the characters that the pieces stand for.
+/// Returns the text of the characters that the pieces stand for.
 pub fn text_of_pieces(alloc: Global, all: &[Piece]) -> Result<String, AllocError>
     ensures { IfOk result (λ text.
         string_bytes text ≡ encode_utf8_all (map (λ piece. piece.character) all.now)) }
@@ -115,7 +115,7 @@ pub fn text_of_pieces(alloc: Global, all: &[Piece]) -> Result<String, AllocError
     all.iter().map(|piece| piece.character).collect(alloc)
 }
 
-/// The text of these characters.
+/// Returns the text of these characters.
 pub fn text_of(alloc: Global, characters: &[char]) -> Result<String, AllocError>
     ensures { IfOk result (λ text. string_bytes text ≡ encode_utf8_all characters.now) }
 {

@@ -1,4 +1,4 @@
-//! Patterns of RE2 (Go's `regexp`), which Alertmanagers read, as patterns of `regex` that match the same texts.
+//! Patterns of RE2 (Go's `regexp`), which Alertmanager reads, as patterns of `regex` that match the same texts.
 
 mod braces;
 mod classes;

@@ -1,6 +1,6 @@
-//! Searches in texts by the engines of `regex`, which keep what they have built from one search to the next.
+//! Searches by the engines of `regex`, which keep what they have built from one search to the next.
 //!
-//! A search reads its text at most twice, and follows each state at most once for each byte: no engine begins anew within a
+//! A search reads its text at most twice, and follows each state at most once for each byte. No engine begins anew within a
 //! text, since nothing matches from any place but the first.
 
 ghost use Rattle.std.specs.Prelude.{◌≡◌, ℕ, length, is_some, IfOk, IfSome};
@@ -13,7 +13,7 @@ use regex_nfa::Nfa;
 use regex_vm::PikeVm;
 use std::alloc::{AllocError, Global};
 
-/// Returns whether a character begins here, or the text ends.
+/// Returns whether a character begins at the place, or the text ends there.
 fn begins_character(text: &[u8], place: usize) -> bool
     ensures { result ≡ is_boundary text.now place }
 {
@@ -23,7 +23,8 @@ fn begins_character(text: &[u8], place: usize) -> bool
     (text[place] < 0x80) | (text[place] > 0xBF)
 }
 
-/// Returns whether there is a match from the first place, found by following all states at once. The engine is made once, and kept.
+/// Returns whether there is a match from the first place, by following all states at once. The engine is made once, and
+/// kept.
 fn runs_from_first(
     alloc: Global,
     nfa: &Nfa,
@@ -67,7 +68,7 @@ fn matches_from_first(
     }
 }
 
-/// Returns whether there is a match from any place where a character begins: nothing matches from any but the first.
+/// Returns whether there is a match in the text. Nothing matches from any place but the first.
 pub fn is_found(
     alloc: Global,
     dfa: &Dfa,

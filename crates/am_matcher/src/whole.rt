@@ -1,4 +1,4 @@
-//! Patterns that are searched for from end to end.
+//! Patterns that have to match from end to end.
 
 ghost use Rattle.std.specs.Prelude.{◌≡◌, ◌-◌, ◌^◌, min, IfOk, OnOk, IsErrOf, if◌then◌else◌};
 ghost use Rattle.regex.specs.declared.error.Error.{Error};
@@ -20,13 +20,13 @@ use std::alloc::{AllocError, Global};
 use std::marker::Model;
 use std::rc::Rc;
 
-/// The most bytes that what is compiled may take: the limit that `regex` has by itself.
+/// The maximum size of a compiled pattern, in bytes: the default limit of `regex`.
 const MOST_BYTES: usize = 10 << 20;
 
-/// A compiled pattern, and what searches for it have built. Contracts see its text, how much was compiled, and how many
-/// tables searches may fill. What was compiled may be shared by several.
+/// A compiled pattern, and the tables that its searches have built. Contracts see its text, how much was compiled, and how
+/// many tables searches may fill. Several may share what was compiled.
 ///
-/// It stands on the parts of `regex`, whose own searcher borrows the compiled pattern and can't be kept beside it.
+/// The parts of `regex` are used directly, since its own searcher borrows the compiled pattern and can't be kept beside it.
 pub struct Whole {
     pattern: String,
     dfa: Rc<Dfa>,
@@ -36,7 +36,7 @@ pub struct Whole {
     alloc: Global,
 }
 
-// (so that crates above cite one drop, and don't prove those of all that is inside)
+// With this the crates above cite one drop, and don't prove those of everything inside.
 impl Drop for Whole {
     fn drop(self) {
         let Whole {
@@ -64,9 +64,9 @@ impl Model for Whole {
         × IsForwardFor w.forward w.dfa.value × IfSome w.runner (IsRunnerFor w.dfa.value.nfa) };
 }
 
-/// Refuses a pattern that is broken by itself, as `a)|(b`, which would be read once it is wrapped.
+/// Refuses a pattern that is broken by itself but valid once it is wrapped, such as `a)|(b`.
 ///
-/// One that is too big is also too big once it is wrapped, and is refused there.
+/// A pattern that is too big is also too big once it is wrapped, and is refused there.
 fn read_alone(alloc: Global, pattern: &str) -> Result<(), BuildError>
     ensures read { OnOk result (IsReadable pattern.now) }
     ensures unread { IsErrOf result BuildError.BadPattern → ¬ IsReadable pattern.now }
@@ -75,7 +75,7 @@ fn read_alone(alloc: Global, pattern: &str) -> Result<(), BuildError>
     Ok(())
 }
 
-/// Returns the states of a pattern that was read. It is refused if it is too big.
+/// Returns the states of a pattern that was read, unless it is too big.
 fn nfa_of(alloc: Global, parsed: &Parsed) -> Result<Nfa, BuildError>
     ensures implements { IfOk result (λ nfa. Implements nfa (meaning parsed.now.hir)) }
     ensures first { IfOk result BeginsFirst }
@@ -83,7 +83,7 @@ fn nfa_of(alloc: Global, parsed: &Parsed) -> Result<Nfa, BuildError>
     let Ok(groups) = u32::try_from(parsed.names.len()) else {
         return Err(BuildError::BadPattern);
     };
-    // (never so: what is compiled begins with `^`)
+    // This is never the case, since the compiled text begins with `^`.
     if !is_anchored_start(&parsed.hir) {
         return Err(BuildError::BadPattern);
     }
@@ -128,7 +128,7 @@ impl Whole {
         Ok(Whole::over(alloc, pattern, dfa)?)
     }
 
-    /// Returns the pattern with what it was compiled to. Searches build their own tables.
+    /// Returns the pattern with its compiled form. Searches build their own tables.
     fn over(alloc: Global, pattern: &str, dfa: Rc<Dfa>) -> Result<Whole, AllocError>
         requires finds { Finds dfa.value.nfa (whole_text pattern.now) }
         requires first { BeginsFirst dfa.value.nfa }
@@ -145,7 +145,7 @@ impl Whole {
         })
     }
 
-    /// Returns another one of the same pattern, whose searches build their own tables. Nothing is compiled.
+    /// Returns the same compiled pattern again, for searches that build their own tables. Nothing is compiled.
     pub fn share(&self) -> Result<Whole, AllocError>
         ensures { IfOk result (λ whole. whole ≡ self.now) }
     {
@@ -160,7 +160,7 @@ impl Whole {
         self.pattern.as_str()
     }
 
-    /// Returns the bytes that are counted for it.
+    /// Returns the number of bytes that are counted for the pattern.
     pub fn size(&self) -> usize
         ensures { result ≡ min (bytes_of self.now) (2 ^ 64 - 1) }
     {
@@ -190,15 +190,15 @@ impl Whole {
     }
 }
 
-/// Returns what was compiled, to be shared.
+/// Returns what was compiled in a form that can be shared.
 fn shared(alloc: Global, dfa: Dfa) -> Result<Rc<Dfa>, AllocError>
     ensures { IfOk result (λ shared. shared.value ≡ dfa) }
 {
     Ok(Rc::new(alloc, dfa)?)
 }
 
-/// Returns how many tables searches may fill: one of the states that they meet, and, if the pattern asks for the characters
-/// beside a word, one of the steps by these.
+/// Returns the number of tables that searches may fill: one for the states that they meet, and another one for the
+/// characters beside a word, if the pattern depends on these.
 fn tables_of(dfa: &Dfa) -> usize
     ensures { result ≡ (if dfa.now.needs.unicode then 2 else 1) }
 {

@@ -1,4 +1,4 @@
-//! The reasons that a schedule was not played.
+//! The reasons why a schedule isn't played.
 
 ghost use Rattle.std.specs.Prelude.{◌≡◌};
 
@@ -6,18 +6,18 @@ use am_schedule::{FaultKind, ScheduleError};
 use std::alloc::AllocError;
 use thiserror::Error;
 
-/// The reason that a schedule was not played, or its output not written: the first fault that occurs.
+/// The reason why a schedule isn't played, or its output isn't written: the first fault that occurs.
 #[derive(Clone, Copy, Debug, Error)]
 pub enum ReplayError {
     #[error("a read failed after {at} bytes")]
     Read { at: usize },
-    /// A line of the schedule is at fault.
+    /// The schedule has a fault in one of its lines.
     #[error("{0}")]
     Schedule(ScheduleError),
     #[error("the schedule is too large")]
     TooLarge,
-    /// Memory ran out at this line of the schedule. The line is 0 if it ran out while the schedule was read, before its first
-    /// line was played, or after its last.
+    /// Memory ran out at this line of the schedule. The line is 0 if it ran out while the schedule was read, before the
+    /// first line was played, or after the last one.
     #[error("out of memory at line {line}")]
     Memory { line: u64 },
     #[error("a write failed after {written} bytes")]
@@ -46,7 +46,7 @@ impl From<AllocError> for ReplayError {
 
     ghost from_gives = { λ _ fault. fault ≡ Memory 0 };
 
-    // (at no line)
+    // An allocation knows no line.
     fn from(_e: AllocError) -> ReplayError {
         ReplayError::Memory { line: 0 }
     }

@@ -1,4 +1,4 @@
-//! The frames in flight.
+//! Frames in flight.
 
 ghost use Rattle.std.specs.Prelude.{◌≡◌, ◌++◌, [], OnOk, slice_get, string_bytes, unwrap_or};
 ghost use Rattle.std.specs.List.{flat_map};
@@ -10,7 +10,7 @@ use am_cluster::{Cluster, Flight};
 use am_instance::{Config, Place};
 use std::alloc::AllocError;
 
-/// Returns a configuration's name for the member at a place, which must exist.
+/// Returns the name of the member at a place in a configuration. There must be such a member.
 fn name_in(config: &Config, place: Place) -> &str
     ensures { result.now ≡ unwrap_or (slice_get config.now.members place) [] }
 {
@@ -20,7 +20,7 @@ fn name_in(config: &Config, place: Place) -> &str
     }
 }
 
-/// Returns the name of the member at a place, which must exist.
+/// Returns the name of the member at a place. There must be such a member.
 fn name_at(cluster: &Cluster, place: Place) -> &str
     ensures { result.now ≡ name_at cluster.now place }
 {
@@ -30,7 +30,7 @@ fn name_at(cluster: &Cluster, place: Place) -> &str
     }
 }
 
-/// Appends a frame in flight.
+/// Appends the line of a frame in flight.
 #[tactic(auto, unfolding(crate::specs::Printed::line_text))]
 fn tell_flight(out: &mut String, cluster: &Cluster, flight: &Flight) -> Result<(), AllocError>
     ensures { OnOk result (string_bytes out.new ≡ string_bytes out.old ++ flight_text cluster.now flight.now) }
@@ -44,7 +44,7 @@ fn tell_flight(out: &mut String, cluster: &Cluster, flight: &Flight) -> Result<(
     tell(out, &line)
 }
 
-/// Appends all frames in flight, in the order of their numbers.
+/// Appends the lines of all frames in flight, in the order of their numbers.
 pub fn tell_flights(out: &mut String, cluster: &Cluster) -> Result<(), AllocError>
     ensures { OnOk result (string_bytes out.new ≡ string_bytes out.old ++ flat_map (flight_text cluster.now) cluster.now.flights) }
 {

@@ -1,4 +1,4 @@
-//! The text of a schedule from any reader.
+//! Schedules as texts, from any reader.
 
 ghost use Rattle.std.specs.Prelude.{◌≤◌, IfOk, IfErr, OnOk, length};
 ghost use Rattle.std.specs.Io.KnownBytes.{Consumes, IsAtEnd};
@@ -9,15 +9,15 @@ use am_streams::{Stop, fill};
 use std::alloc::Global;
 use std::io::Read;
 
-/// The maximum size of a schedule in bytes.
+/// The maximum size of a schedule, in bytes.
 const MOST_BYTES: usize = 16_777_216;
 
 /// Reads the whole input.
 ///
 /// # Errors
 ///
-/// [`ReplayError::Read`] at the first read that fails, which is not tried again; [`ReplayError::TooLarge`] once byte 16,777,217
-/// has come; [`ReplayError::Memory`] with line 0.
+/// [`ReplayError::Read`] at the first read that fails, which isn't tried again; [`ReplayError::TooLarge`] once byte
+/// 16,777,217 has come; and [`ReplayError::Memory`] with line 0 if memory runs out.
 pub fn read_input<R: Read>(alloc: Global, reader: &mut R) -> Result<Vec<u8>, ReplayError>
     ensures all { IfOk result (λ bytes. Consumes (R.remaining reader.old) (R.remaining reader.new) bytes.items) }
     ensures end { OnOk result (IsAtEnd (R.remaining reader.new)) }

@@ -1,5 +1,5 @@
-//! Laws of all runs of a cluster, of a cluster's states, and of all steps of an instance; and the law that a member prints what
-//! it shows.
+//! Laws of all runs of a cluster, of a cluster's states, and of all steps of an instance; and the law that a member prints
+//! the versions that it shows.
 
 ghost use Rattle.std.specs.Prelude.{◌≡◌, ℕ, List, Some};
 ghost use Rattle.am_instance.specs.InstanceStates.{InstanceState};
@@ -29,7 +29,7 @@ pub use am_runs::laws::{
     one_step_more, settled, taking_a_map_joins_it, timely_runs_are_calm, views_agree, worked_runs,
 };
 
-/// States that the view of a member's maps is what is printed for the reply to a Show.
+/// States that the view of a member's maps is printed for the reply to a Show.
 pub fn a_show_prints_the_view()
     ensures { (stand : InstanceState) (name : List ℕ) (event : LineEvent) (now : ℕ) (reply : Reply) (made : Made) →
         IsReply stand events.Show now reply made →

@@ -1,4 +1,5 @@
-//! Schedules played on a cluster: what each line prints, to the byte, and how calm each member was in the end.
+//! Schedules that are played on a cluster. Output is exact to the byte: the output of each line, and at the end the reports
+//! on the calm of members.
 #![tactic(auto)]
 
 mod error;

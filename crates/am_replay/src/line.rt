@@ -1,4 +1,4 @@
-//! The printed lines other than those of views.
+//! Lines of output, other than those of views.
 
 ghost use Rattle.std.specs.Prelude.{◌≡◌, ◌++◌, OnOk, codes, string_bytes};
 ghost use Rattle.am_replay.specs.Printed.{line_text};
@@ -12,7 +12,7 @@ use am_wire::Text;
 use std::alloc::AllocError;
 use std::fmt::{self, Display};
 
-/// A line that a player prints. Members are given by their names.
+/// A line of output. Members are given by their names.
 #[derive(Clone, Copy)]
 pub enum OutputLine<'a> {
     /// A silence was made or updated.
@@ -30,7 +30,7 @@ pub enum OutputLine<'a> {
         name: &'a str,
         changed: bool,
     },
-    /// The decision whether a group is notified was made.
+    /// A decision about notifying a group was made.
     Decided {
         name: &'a str,
         decision: Decision,
@@ -47,23 +47,23 @@ pub enum OutputLine<'a> {
     Timely {
         is_timely: bool,
     },
-    /// A frame in flight.
+    /// A frame is in flight.
     Frame {
         number: u64,
         sender: &'a str,
         addressee: &'a str,
         kind: FrameKind,
     },
-    /// A step was refused, by a member or by none.
+    /// A step was refused, by a member or by the cluster.
     Refused {
         name: Option<&'a str>,
         refusal: Refusal,
     },
-    /// A member's events were calm.
+    /// A member was calm at all of its events.
     Calm {
         name: &'a str,
     },
-    /// A member's events were calm only before the step of this line.
+    /// A member was calm only before the step of this line.
     Uncalm {
         name: &'a str,
         line: u64,
@@ -117,7 +117,7 @@ fn word(text: &str) -> Word<'_>
     Word(text.as_bytes())
 }
 
-/// Appends a line and its end.
+/// Appends a line and its line end.
 ///
 /// # Errors
 ///

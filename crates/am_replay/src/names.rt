@@ -1,4 +1,4 @@
-//! The names of answers in a line.
+//! The names of replies in a line.
 
 ghost use Rattle.std.specs.Prelude.{◌≡◌};
 ghost use Rattle.am_replay.specs.Printed.{decision_word, kind_word, refusal_word, yes_or_no};
@@ -13,7 +13,7 @@ pub fn yes_or_no(answer: bool) -> &'static str
     if answer { "yes" } else { "no" }
 }
 
-/// Returns the reason for which a group is notified, or that it isn't.
+/// Returns the name of a decision: the reason why a group is notified, or that it isn't.
 pub fn decision_name(decision: Decision) -> &'static str
     ensures { result.now ≡ decision_word decision }
 {

@@ -10,9 +10,9 @@ use std::alloc::AllocError;
 /// The outcome of a line, as a word.
 #[derive(Clone, Copy)]
 pub enum Answer {
-    /// No word says what came of the line.
+    /// The line has no outcome in one word.
     Nothing,
-    /// Whether a notification changed the log, a silence mutes, or the run is timely.
+    /// True if a notification changed the log, a silence mutes, or the run is timely.
     Is(bool),
     Decided(Decision),
     Refused(Refusal),
@@ -30,13 +30,13 @@ impl Answer {
     }
 }
 
-/// An onlooker that watches while a schedule is played. It has no influence on what is played and printed, except that both end
-/// if it runs out of memory.
+/// An onlooker that watches while a schedule is played. It has no influence on the steps and their output, except that both
+/// end if it runs out of memory.
 pub trait Onlooker {
-    /// Notes that `lines` of all lines are played.
+    /// Notes that `lines` of all lines have been played.
     fn is_at(&mut self, lines: usize, all: usize);
 
-    /// Notes that the line of this number was played, which left the cluster as it is given.
+    /// Notes that the line with this number was played. The cluster is given as that line left it.
     ///
     /// # Errors
     ///
@@ -51,7 +51,7 @@ pub trait Onlooker {
         Ok(())
     }
 
-    /// Notes that all lines were played, which left the cluster as it is given.
+    /// Notes that all lines were played. The cluster is given as the last line left it.
     ///
     /// # Errors
     ///

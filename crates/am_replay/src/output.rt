@@ -1,4 +1,4 @@
-//! Lines of output, with their ends.
+//! Lines of output, with their line ends.
 
 ghost use Rattle.std.specs.Prelude.{◌≡◌, ◌++◌, OnOk, string_bytes};
 ghost use Rattle.std.specs.Option.{option_copied};
@@ -9,15 +9,15 @@ use crate::onlooker::Answer;
 use crate::refusal::Refusal;
 use std::alloc::AllocError;
 
-/// Appends a line and its end.
+/// Appends a line and its line end.
 pub fn tell(out: &mut String, line: &OutputLine<'_>) -> Result<(), AllocError>
     ensures { OnOk result (string_bytes out.new ≡ string_bytes out.old ++ told line.now) }
 {
     append_line(out, line)
 }
 
-/// Appends that a step was refused, by a member or by none, and returns that as the answer. If memory ran out, which is no kind
-/// of refusal, an error is returned.
+/// Appends that a step was refused, by a member or by the cluster, and returns that answer. If memory ran out, which isn't
+/// a kind of refusal, an error is returned.
 #[tactic(auto, unfolding(crate::specs::Printed::line_text))]
 pub fn tell_refusal(
     out: &mut String,

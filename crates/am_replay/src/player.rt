@@ -24,7 +24,7 @@ use am_version_order::Moment;
 use am_wire::Text;
 use std::alloc::{AllocError, Global};
 
-/// Makes a step, appends what it prints, and returns its outcome. So do the functions below.
+/// Makes a step, appends its output, and returns its outcome. The functions below return the outcome too.
 fn play_step(
     cluster: &mut Cluster,
     step: &Step,
@@ -53,7 +53,7 @@ fn refusal_of(error: SettleError) -> Option<Refusal>
     }
 }
 
-/// Appends what a settle prints.
+/// Appends the output of a settle.
 ///
 /// # Errors
 ///
@@ -70,7 +70,7 @@ fn tell_settled(out: &mut String, settled: Result<(), SettleError>) -> Result<An
     }
 }
 
-/// Makes a settle, and appends what it prints.
+/// Makes a settle, and appends its output.
 fn play_settle(
     cluster: &mut Cluster,
     now: Moment,
@@ -83,7 +83,7 @@ fn play_settle(
     tell_settled(out, settled)
 }
 
-/// Plays a line, and appends what it prints.
+/// Plays a line, and appends its output.
 fn play_line(
     cluster: &mut Cluster,
     line: &Line,
@@ -107,7 +107,7 @@ fn play_line(
     }
 }
 
-/// Plays a line, appends what it prints, and shows it to the onlooker.
+/// Plays a line, appends its output, and shows it to the onlooker.
 fn show_line<O: Onlooker>(
     cluster: &mut Cluster,
     line: &Line,
@@ -121,7 +121,7 @@ fn show_line<O: Onlooker>(
     onlooker.saw(cluster, line, number, answer)
 }
 
-/// Plays lines one after the other, and appends what they print.
+/// Plays lines one after the other, and appends their output.
 ///
 /// # Errors
 ///
@@ -145,7 +145,7 @@ fn play_lines<O: Onlooker>(
     Ok(())
 }
 
-/// Copies words as texts.
+/// Copies words into texts.
 fn texts(alloc: Global, words: &[Word]) -> Result<Vec<Text>, AllocError>
     ensures { IfOk result (λ texts. texts.items ≡ words.now) }
 {
@@ -156,7 +156,7 @@ fn texts(alloc: Global, words: &[Word]) -> Result<Vec<Text>, AllocError>
     Ok(texts)
 }
 
-/// Returns the cluster of a schedule, before its first line.
+/// Returns the cluster of a schedule before its first line.
 fn newborn(alloc: Global, schedule: &Schedule) -> Result<Cluster, AllocError>
     ensures { IfOk result (AreNewborn schedule.now.names schedule.now.retention schedule.now.peer_timeout) }
 {
@@ -168,11 +168,12 @@ fn newborn(alloc: Global, schedule: &Schedule) -> Result<Cluster, AllocError>
     }
 }
 
-/// Plays a schedule, and returns everything that it prints.
+/// Plays a schedule, and returns its whole output.
 ///
 /// # Errors
 ///
-/// [`ReplayError::Memory`] with the line at which memory ran out, or 0 before the first line and after the last.
+/// [`ReplayError::Memory`] with the line at which memory ran out, or with line 0 if it ran out before the first line or
+/// after the last one.
 pub fn play<O: Onlooker>(
     alloc: Global,
     schedule: &Schedule,

@@ -1,11 +1,11 @@
-//! The reasons that a step of a schedule is refused.
+//! The reasons why a step of a schedule is refused.
 
 use am_silence::SilenceError;
 
 /// The kind of a refusal.
 #[derive(Clone, Copy)]
 pub enum Refusal {
-    // a silence is not posted, or not ended
+    // The reasons why a silence isn't posted, or isn't ended.
     NotFound,
     NoMatcher,
     EmptyName,
@@ -26,7 +26,7 @@ pub enum Refusal {
     Stopped,
     /// The member runs already.
     Running,
-    /// No frame of that number is in flight.
+    /// No frame with that number is in flight.
     NoFrame,
 }
 

@@ -12,12 +12,13 @@ use am_streams::send;
 use std::alloc::Global;
 use std::io::{Read, Write};
 
-/// Reads a schedule of at most 16,777,216 bytes, plays it, and then writes everything that it prints.
+/// Reads a schedule of at most 16,777,216 bytes, plays it, and then writes its whole output.
 ///
 /// # Errors
 ///
-/// The first [`ReplayError`] that occurs. If it is [`ReplayError::Write`], a write failed or took nothing: exactly the first
-/// `written` bytes of the output went out, and the write is not tried again. With any other error nothing is written.
+/// The first [`ReplayError`] that occurs. If it is [`ReplayError::Write`], a write failed or took nothing. Exactly the
+/// first `written` bytes of the output were written then, and the write isn't tried again. With any other error nothing is
+/// written.
 pub fn run<R: Read, W: Write>(
     alloc: Global,
     reader: &mut R,
@@ -30,11 +31,11 @@ pub fn run<R: Read, W: Write>(
     run_shown(alloc, reader, writer, &mut Nobody)
 }
 
-/// Does as [`run`] does while an onlooker watches.
+/// Reads, plays and writes a schedule as [`run`] does, while an onlooker watches.
 ///
 /// # Errors
 ///
-/// Those of [`run`].
+/// The errors of [`run`].
 pub fn run_shown<R: Read, W: Write, O: Onlooker>(
     alloc: Global,
     reader: &mut R,

@@ -1,4 +1,4 @@
-//! The lines that a step prints.
+//! The output of a step.
 
 ghost use Rattle.std.specs.Prelude.{◌≡◌, ◌++◌, OnOk, string_bytes};
 ghost use Rattle.std.specs.Option.{option_copied};
@@ -16,7 +16,7 @@ use am_report::append_shown;
 use am_schedule::{Action, LineEvent};
 use std::alloc::AllocError;
 
-/// Appends that the silence whose end an event asks for was ended.
+/// Appends that the silence that an event asks to end was ended.
 #[tactic(auto, unfolding(crate::specs::Printed::line_text))]
 fn tell_ended(out: &mut String, name: &str, event: &LineEvent) -> Result<(), AllocError>
     ensures { OnOk result (string_bytes out.new ≡ string_bytes out.old ++ ended_text name.now event.now) }
@@ -46,7 +46,7 @@ fn tell_mutes(out: &mut String, name: &str, mutes: &Mutes) -> Result<(), AllocEr
     tell(out, &line)
 }
 
-/// Appends what is printed for the reply of the member of a name to an event.
+/// Appends the output for the reply to an event, by the member with this name.
 #[tactic(auto, unfolding(crate::specs::Printed::line_text))]
 fn tell_reply(
     out: &mut String,
@@ -92,7 +92,7 @@ fn tell_reply(
     }
 }
 
-/// Appends what is printed for a step that was answered.
+/// Appends the output of a step that was answered.
 pub fn tell_answer(out: &mut String, action: &Action, reply: &Reply) -> Result<(), AllocError>
     ensures { OnOk result (string_bytes out.new ≡ string_bytes out.old ++ answer_text action.now reply.now) }
 {
@@ -129,7 +129,7 @@ fn refusal_of(error: ClusterError) -> Option<Refusal>
     }
 }
 
-/// Appends that a step was refused, and returns that as the answer.
+/// Appends that a step was refused, and returns that answer.
 ///
 /// # Errors
 ///

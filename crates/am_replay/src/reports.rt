@@ -1,4 +1,4 @@
-//! The reports on the members at the end.
+//! The reports on the members, at the end of the output.
 
 ghost use Rattle.std.specs.Prelude.{◌≡◌, ◌++◌, OnOk, string_bytes};
 ghost use Rattle.am_cluster.specs.Ties.{names_in};
@@ -11,7 +11,7 @@ use am_instance::Place;
 use am_wire::Text;
 use std::alloc::AllocError;
 
-/// Appends the report on the member of a name.
+/// Appends the report on the member with this name.
 #[tactic(auto, unfolding(crate::specs::Printed::line_text))]
 fn tell_report(out: &mut String, name: &str, report: CalmReport) -> Result<(), AllocError>
     ensures { OnOk result (string_bytes out.new ≡ string_bytes out.old ++ report_text name.now report.first_fault) }
@@ -22,7 +22,7 @@ fn tell_report(out: &mut String, name: &str, report: CalmReport) -> Result<(), A
     }
 }
 
-/// Appends the reports on the members of these names, from the first place on.
+/// Appends the reports on the members with these names, from the first place on.
 fn tell_each(out: &mut String, cluster: &Cluster, names: &[Text]) -> Result<(), AllocError>
     ensures { OnOk result (PrintsReports cluster.now names.now (string_bytes out.old) (string_bytes out.new)) }
 {
@@ -32,7 +32,7 @@ fn tell_each(out: &mut String, cluster: &Cluster, names: &[Text]) -> Result<(), 
     Ok(())
 }
 
-/// Appends the reports on all members, by their names.
+/// Appends the reports on all members, in the order of their names.
 pub fn tell_reports(out: &mut String, cluster: &Cluster) -> Result<(), AllocError>
     ensures { OnOk result (PrintsReports cluster.now (names_in cluster.now) (string_bytes out.old) (string_bytes out.new)) }
 {

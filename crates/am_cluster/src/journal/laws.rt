@@ -1,4 +1,4 @@
-//! What holds of runs that are told of the same steps.
+//! Laws of runs that tell of the same steps.
 
 ghost use Rattle.std.specs.Prelude.{◌≡◌, ℕ, List, length};
 ghost use Rattle.am_silence.specs.Mesh.{Mesh};
@@ -10,7 +10,8 @@ ghost use Rattle.am_cluster.specs.Marks.{step_of_mark};
 ghost use Rattle.am_cluster.specs.Reports.{IsPossibleForLog, IsPossibleForSilences};
 ghost use Rattle.am_cluster.specs.Twins.{IsTwin, AreTwins};
 
-/// Both runs tell the same of a member, whether it runs and its last moment, and as many frames were sent in both.
+/// States that both runs say the same about a member, whether it runs and what its last moment is, and that as many frames
+/// were sent in one as in the other.
 pub fn twins_tell_same()
     ensures runs { (members place : ℕ) (silences : List (RunStep Mesh)) (log : List (RunStep LogMesh)) → AreTwins silences log →
         (member_of members place silences).runs ≡ (member_of members place log).runs }
@@ -20,7 +21,7 @@ pub fn twins_tell_same()
         length (flights_of silences) ≡ length (flights_of log) }
 {}
 
-/// A step without versions is the twin of itself, and what is possible in one run is possible in the other.
+/// States that a step without versions is its own twin, and is possible in one run if it is possible in the other.
 pub fn marks_are_told_of_both()
     ensures twins { (mark : Mark) → IsTwin (step_of_mark {X = Mesh} mark) (step_of_mark {X = LogMesh} mark) }
     ensures possible { (members : ℕ) (silences : List (RunStep Mesh)) (log : List (RunStep LogMesh)) (mark : Mark) →

@@ -12,20 +12,20 @@ use am_version_order::Moment;
 pub enum Mark {
     /// A member collected.
     Ticked { place: usize, now: Moment },
-    /// Refused to a member, since the moment is before that member's last one.
+    /// A member refused the step, since its moment was before that member's last one.
     Back { place: usize, now: Moment },
-    /// Refused for another cause.
+    /// The step was refused for another reason.
     Refused { now: Moment },
-    /// A member's copy was saved.
+    /// A member was saved.
     Saved { place: usize },
     /// A member was stopped.
     Stopped { place: usize },
-    /// A member was started from its saved copy, or from nothing where none was saved.
+    /// A member was started from its saved copy, or empty if there was none.
     Started { place: usize, now: Moment },
 }
 
 impl Mark {
-    /// What it is to the versions of any type.
+    /// Returns the record of the step for versions of any type.
     pub(super) fn step<V>(&self) -> RunStep<V>
         ensures { step_of result ≡ step_of_mark self.now }
     {

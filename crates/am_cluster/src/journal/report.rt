@@ -1,18 +1,18 @@
-//! Whether a member was calm.
+//! Reports on the calm of members.
 
 ghost use Rattle.std.specs.Prelude.{◌≡◌};
 ghost use Rattle.am_cluster.specs.Firsts.{earlier};
 
-/// Whether a member was calm, and where it wasn't.
+/// The report on a member: that it was calm, or the line of the first step at which it wasn't.
 #[derive(Clone, Copy, Debug)]
 pub struct CalmReport {
-    /// Whether it was, with each step so far.
+    /// True if the member was calm at each step so far.
     pub calm: bool,
-    /// The line of the first step with which it wasn't.
+    /// The line of the first step at which the member wasn't calm.
     pub first_fault: Option<u64>,
 }
 
-/// The lesser one of two numbers, or the only one.
+/// Returns the smaller of two numbers, or the only one.
 pub(super) fn earlier(first: Option<usize>, second: Option<usize>) -> Option<usize>
     ensures { result ≡ earlier first second }
 {

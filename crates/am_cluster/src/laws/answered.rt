@@ -1,4 +1,5 @@
-//! What an answered step was, and how a cluster goes on: laws over the values that contracts see before and after a call.
+//! Laws of steps that are answered, and of the steps by which a cluster goes on. They hold of the values that contracts see
+//! before and after a call.
 
 ghost use Rattle.std.specs.Prelude.{◌≡◌, ℕ, Ok, Result, Some};
 ghost use Rattle.am_instance.specs.declared.event.Event.{Event};
@@ -13,26 +14,28 @@ ghost use Rattle.am_cluster.specs.Settling.{IsSettle};
 ghost use Rattle.am_cluster.specs.Steps.{IsStepped};
 ghost use Rattle.am_cluster.specs.Worlds.{Replica, World};
 
-/// A step with a moment that is answered, at a member or by a delivery, extends both runs by one step of that moment.
+/// States that a step with a moment that is answered, by a member or as a delivery, extends both runs by one step with that
+/// moment.
 pub fn answered_steps_go_on()
     ensures { (old new : World) (action : Action) (now line : ℕ) (reply : Reply) → IsCluster old → moment_of action ≡ Some now →
         IsStepped old action line (Ok reply) new → GoesOnBy old new now }
 {}
 
-/// What is answered where a line asks a member for an event is that member's reply, as it stood before the step.
+/// States that the answer to a line that asks a member for an event is the reply of that member, in its state before the
+/// step.
 pub fn answered_steps_reply()
     ensures { (old new : World) (action : Action) (now line place : ℕ) (replica : Replica) (event : Event) (reply : Reply) →
         Asks old action place replica event now → IsStepped old action line (Ok reply) new → Replies replica event now reply }
 {}
 
-/// Any step, answered or refused, extends both runs by what was written down of it, with its moment and in its line, or leaves
-/// them as they are.
+/// States that any step, answered or refused, extends both runs by its record, with its moment and its line, or leaves them
+/// as they are.
 pub fn steps_go_on()
     ensures { (old new : World) (action : Action) (line : ℕ) (result : Result Reply ClusterError) → IsCluster old →
         IsStepped old action line result new → Extends old new (moment_of action) line }
 {}
 
-/// So does any settle, with its moment.
+/// States that any settle extends both runs by its records, with its moment and its line, or leaves them as they are.
 pub fn settles_go_on()
     ensures { (old new : World) (now line : ℕ) (result : Result Unit SettleError) →
         IsSettle old now line result new → Extends old new (Some now) line }

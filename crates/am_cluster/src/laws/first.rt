@@ -1,4 +1,4 @@
-//! When a group is notified for the first time.
+//! Laws of members that say that a group is notified for the first time.
 
 ghost use Rattle.std.specs.Prelude.{◌≡◌, ◌≢◌, ◌↔◌, ◌+◌, ◌<◌, ◌≤◌, ◌++◌, ◌∷◌, ℕ, List, Some, true, false, Contains};
 ghost use Rattle.am_nflog.specs.Mesh.{Mesh as LogMesh, mesh_version as entry_version};
@@ -25,8 +25,8 @@ use am_nflog::MeshEntry;
 use am_runs::laws::nothing_shown_after_a_spread;
 use am_version_order::Version;
 
-/// A calm member, asked at a moment from its last one on, says that a group is notified for the first time exactly where
-/// something fires, and of all entries of the group that were delivered to it none is best and live.
+/// States that a calm member that is asked at a moment from its last one on says that a group is notified for the first
+/// time if and only if something fires, and none of the group's entries that were delivered to it is best and live.
 pub fn first_is_told_exactly(cluster: &Cluster)
     // PROMISE: A calm member calls a notification the first exactly if something fires and no entry that reached it is best and live.
     ensures { (place now : ℕ) (asked : Question) (reply : Reply) (made : Made) →
@@ -38,9 +38,9 @@ pub fn first_is_told_exactly(cluster: &Cluster)
     members_show_the_bare_sets(cluster);
 }
 
-/// In a timely run, when a step begins a spread or more after an entry of a group was made, that was delivered anywhere in
-/// the run, a member that runs says that the group is notified for the first time only where the greatest entry of it that
-/// the member took, at least as great as that one, isn't live any more.
+/// States what follows if a member calls a notification the first in a timely run. Its step begins a spread or more after
+/// the update of an entry of the group, which was delivered anywhere in the run, and the member runs. Then the greatest
+/// entry of the group that the member took, which is at least as great as that one, isn't live any more.
 pub fn first_is_told_after_a_spread()
     // PROMISE: In a timely run, a spread after an entry, no member calls it the first while the greatest entry that it took lives.
     ensures { (members spread flight now : ℕ) (before rest : List (RunStep LogMesh)) (step : RunStep LogMesh) (entry : LogMesh) → 0 < spread →

@@ -1,6 +1,6 @@
-//! What holds when a step of a timely cluster begins: of the cluster as it stood before that step, and as it stands later.
-//! Both are values of contracts alone, since no program has a cluster and its own past: `Cluster::consistency` says of
-//! either that it is a cluster, and `answered_steps_go_on` that the one goes on to the other.
+//! Laws of a timely cluster at the moment when a step begins: of the cluster as it is before that step, and as it is later.
+//! Both are values of contracts alone, since no program has a cluster and its own past. `Cluster::consistency` says of each
+//! that it is a cluster, and `answered_steps_go_on` that one goes on to the other.
 
 ghost use Rattle.std.specs.Prelude.{◌≡◌, ◌+◌, ◌<◌, ◌≤◌, ℕ, Contains, false, length};
 ghost use Rattle.am_nflog.specs.Mesh.{Mesh as LogMesh, mesh_version as entry_version};
@@ -22,8 +22,9 @@ use am_nflog::MeshEntry;
 use am_runs::laws::views_agree;
 use am_silence::MeshSilence;
 
-/// When a step begins in a timely run of a cluster, any two members that run show the same of each identifier, and of each
-/// key of the log, of which every version that was delivered anywhere in the run was updated a spread before or earlier.
+/// States that, when a step begins in a timely run of a cluster, any two members that run show the same version of an
+/// identifier or a key of the log if every version of it that was delivered anywhere in the run was updated a spread before
+/// or earlier.
 pub fn members_agree_on_what_is_old()
     ensures silences { (earlier later : World) → IsCluster earlier → IsCluster later → AgreeOnWhatIsOld silence_run earlier later }
     ensures log { (earlier later : World) → IsCluster earlier → IsCluster later → AgreeOnWhatIsOld log_run earlier later }
@@ -32,9 +33,9 @@ pub fn members_agree_on_what_is_old()
     views_agree::<MeshEntry>();
 }
 
-/// When a step begins in a timely run of a cluster, a spread or more after an entry of a group was made, a member that runs
-/// says that the group is notified for the first time only where the greatest entry of the group that it took, at least as
-/// great as that one, isn't live any more.
+/// States that, when a step begins in a timely run of a cluster, a spread or more after the update of an entry of a group,
+/// a member that runs says that the group is notified for the first time only if the greatest entry of the group that it
+/// took, which is at least as great as that one, isn't live any more.
 pub fn first_is_told_where_old_ones_ended()
     ensures { (earlier later : World) (spread flight now : ℕ) (entry : LogMesh) (asked : Question) (place : ℕ) → 0 < spread →
         IsCluster earlier → IsCluster later → GoesOnAt earlier later now →

@@ -1,4 +1,4 @@
-//! What members show.
+//! Laws of the versions that members show.
 
 ghost use Rattle.std.specs.Prelude.{◌≡◌, ℕ, List, Option, All, Contains, true};
 ghost use Rattle.am_matcher.specs.declared.labels.Label.{Label};
@@ -25,8 +25,8 @@ use am_runs::laws::calm_members_show_the_bare_set;
 use am_silence::MeshSilence;
 use am_version_order::Version;
 
-/// After any steps of a cluster, a member that was calm shows, at every moment from its last one on, of each identifier
-/// and of each key of the log what the bare set of all versions shows that were delivered to it.
+/// States that, after any steps of a cluster, a member that was calm shows the same as the bare set of all versions that
+/// were delivered to it, for each identifier and each key of the log, at every moment from its last one on.
 pub fn members_show_the_bare_sets(cluster: &Cluster)
     ensures silences { ShowTheBareSet silence_run cluster.now }
     ensures log { ShowTheBareSet log_run cluster.now }
@@ -36,13 +36,13 @@ pub fn members_show_the_bare_sets(cluster: &Cluster)
     calm_members_show_the_bare_set::<MeshEntry>();
 }
 
-/// Sets with the same versions show one version of a key, or none.
+/// States that sets with the same versions show one version of a key, or none.
 fn equal_sets_show_one<V: Version>()
     ensures { (set other : List V) (now : ℕ) (key : V.Key) (one two : Option V) → HaveSame set other → All V.is_value set →
         IsViewAt V.seen set now key one → IsViewAt V.seen other now key two → one ≡ two }
 {}
 
-/// Both lists of an instance are maps.
+/// States that both lists of an instance are maps.
 fn instance_has_maps(instance: &Instance)
     ensures { HasMaps instance.now }
 {
@@ -50,7 +50,7 @@ fn instance_has_maps(instance: &Instance)
     instance.log().has_values();
 }
 
-/// So are those of the member at a place.
+/// States that both lists of the member at a place are maps.
 fn member_has_maps(cluster: &Cluster, place: Place)
     ensures { OfMember cluster.now place (λ replica. HasMaps replica.stand) }
 {
@@ -59,8 +59,9 @@ fn member_has_maps(cluster: &Cluster, place: Place)
     }
 }
 
-/// After any steps of a cluster, a member that was calm replies to a list, a single silence, a decision, both views and the
-/// mutes of an alert, at every moment from its last one on, as the bare sets say of all versions that were delivered to it.
+/// States that, after any steps of a cluster, a member that was calm replies as the bare sets of all versions that were
+/// delivered to it would. This holds of a list, a single silence, a decision, both views and the mutes of an alert, at
+/// every moment from its last one on.
 pub fn members_reply_as_the_bare_sets(cluster: &Cluster, place: Place)
     // PROMISE: A calm member of any cluster answers as everything that was delivered to it would.
     ensures { (now : ℕ) (event : Event) (reply : Reply) (made : Made) →
@@ -73,8 +74,9 @@ pub fn members_reply_as_the_bare_sets(cluster: &Cluster, place: Place)
     what_is_shown_replies();
 }
 
-/// Two calm members, of one cluster or of two, to which the same versions were delivered, in any order and however often,
-/// reply alike to whatever is answered from the views alone, at every moment from the later of their last ones on.
+/// States that two calm members, of one cluster or of two, to which the same versions were delivered, in any order and
+/// however often, give the same replies to events that are answered from the views alone, at every moment from the later of
+/// their last ones on.
 pub fn members_with_equal_sets_reply_alike(
     cluster: &Cluster,
     place: Place,
@@ -98,8 +100,8 @@ pub fn members_with_equal_sets_reply_alike(
     equal_views_reply_alike();
 }
 
-/// States that a silence which mutes an alert at one of them mutes it at the other, by patterns of the same dialect, if its
-/// patterns are not told as broken there.
+/// States that a silence that mutes an alert at one of two such members mutes it at the other, by patterns of the same
+/// dialect, unless the other reports its patterns as broken.
 pub fn members_with_equal_sets_mute_alike(
     cluster: &Cluster,
     place: Place,

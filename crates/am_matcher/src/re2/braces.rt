@@ -8,14 +8,14 @@ use crate::re2::pieces::{Part, Piece, Spelling, outside};
 use crate::re2::runs::{before, split_digits};
 use std::marker::Model;
 
-/// A part is repeated so many times at most, also by what is round it.
+/// The maximum number of times that a part is repeated, also by the groups around it.
 pub const MOST_TIMES: u32 = 1000;
 
-/// A repetition: how often a part may come, and what follows.
+/// A count: how often a part may come, and the text behind it.
 #[derive(Drop)]
 struct Bounds<'a> {
     least: u32,
-    /// The same as `least` where no greatest number is said.
+    /// The greatest number, or `least` if the count has none.
     most: u32,
     rest: &'a [char],
 }
@@ -28,7 +28,7 @@ impl<'a> Model for Bounds<'a> {
     ghost view = { λ b. record { least = b.least; most = b.most; rest = b.rest.now } };
 }
 
-/// The number with one more digit, unless it is above [`MOST_TIMES`].
+/// Returns the number with one more digit, or the number itself if it is above [`MOST_TIMES`].
 fn with_digit(number: u32, digit: char) -> u32
     ensures { result ≡ (if nat_lt 1000 number then number else number * 10 + digit_value digit) }
 {
@@ -39,7 +39,7 @@ fn with_digit(number: u32, digit: char) -> u32
     }
 }
 
-/// The number that the digits write, or a greater one than [`MOST_TIMES`].
+/// Returns the number that the digits write, or a number above [`MOST_TIMES`] if it is too great.
 #[tactic(auto, unfolding(crate::specs::Re2Pieces::number))]
 fn number(digits: &[char]) -> u32
     ensures { result ≡ number digits.now }
@@ -49,7 +49,7 @@ fn number(digits: &[char]) -> u32
         .fold(0, |number, digit| with_digit(number, *digit))
 }
 
-/// Tells whether the digits are those of a number: there are some, and none is a zero before others.
+/// Returns whether the digits are those of a number: there is at least one, and none is a zero before others.
 #[tactic(auto, unfolding(crate::specs::Re2Pieces::is_number))]
 fn is_number(digits: &[char]) -> bool
     ensures { result ≡ is_number digits.now }
@@ -61,7 +61,7 @@ fn is_number(digits: &[char]) -> bool
     }
 }
 
-/// The number at the front, and what follows it.
+/// Returns the number at the front and the text behind it, or `None` if no number is there.
 #[tactic(auto, unfolding(crate::specs::Re2Pieces::number_at))]
 fn number_at(text: &[char]) -> Option<(u32, &[char])>
     ensures value { MatchOption result (number_at text.now ≡ None)
@@ -76,7 +76,7 @@ fn number_at(text: &[char]) -> Option<(u32, &[char])>
     }
 }
 
-/// The greatest number of a count, up to a brace.
+/// Reads the greatest number of a count, up to the brace.
 #[tactic(auto, unfolding(crate::specs::Re2Pieces::bounded))]
 fn bounded(least: u32, text: &[char]) -> Option<Bounds<'_>>
     ensures value { result ≡ bounded least text.now }
@@ -88,7 +88,7 @@ fn bounded(least: u32, text: &[char]) -> Option<Bounds<'_>>
     }
 }
 
-/// The rest of a count, behind its least number.
+/// Reads the rest of a count, behind its least number.
 #[tactic(auto, unfolding(crate::specs::Re2Pieces::count_behind))]
 fn count_behind(least: u32, text: &[char]) -> Option<Bounds<'_>>
     ensures value { result ≡ count_behind least text.now }
@@ -105,7 +105,7 @@ fn count_behind(least: u32, text: &[char]) -> Option<Bounds<'_>>
     }
 }
 
-/// The count at the front, as `2}`, `2,}` or `2,5}`.
+/// Reads the count at the front, such as `2}`, `2,}` or `2,5}`.
 #[tactic(auto, unfolding(crate::specs::Re2Pieces::count_at))]
 fn count_at(text: &[char]) -> Option<Bounds<'_>>
     ensures value { result ≡ count_at text.now }
@@ -117,7 +117,7 @@ fn count_at(text: &[char]) -> Option<Bounds<'_>>
     }
 }
 
-/// Returns what follows the sign for the shortest match, if it is there.
+/// Returns the text without the `?` at the front, if one is there.
 #[tactic(auto, unfolding(crate::specs::Re2Pieces::skip_lazy))]
 fn skip_lazy(text: &[char]) -> &[char]
     ensures value { result.now ≡ skip_lazy text.now }
@@ -129,7 +129,7 @@ fn skip_lazy(text: &[char]) -> &[char]
     }
 }
 
-/// A repetition up to the rest, with the sign behind it.
+/// Returns the repetition in front of the rest, with the `?` behind it if one is there.
 #[tactic(auto, unfolding(crate::specs::Re2Pieces::repetition, crate::specs::Re2Spelling::spelled))]
 pub fn repetition<'a>(text: &'a [char], most: u32, rest: &'a [char]) -> Piece<'a>
     ensures value { result ≡ repetition text.now most rest.now }
@@ -140,7 +140,7 @@ pub fn repetition<'a>(text: &'a [char], most: u32, rest: &'a [char]) -> Piece<'a
     outside(part, Spelling::Source(before(text, rest)), rest)
 }
 
-/// A count that is in order.
+/// Returns the repetition of a count, or `None` if the count is out of order or too great.
 #[tactic(auto, unfolding(crate::specs::Re2Pieces::counted))]
 fn counted<'a>(text: &'a [char], count: Bounds<'a>) -> Option<Piece<'a>>
     ensures value { result ≡ counted text.now count.entry }

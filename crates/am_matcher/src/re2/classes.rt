@@ -1,4 +1,4 @@
-//! Classes in brackets, and those of a property.
+//! Classes in brackets, and classes of a property.
 
 ghost use Rattle.std.specs.Prelude.{◌≡◌, ◌<◌, ◌≤◌, None, Some, true, false, drop, length, MatchOption, IfSome};
 ghost use Rattle.regex_syntax.specs.Reading.{begins};
@@ -10,7 +10,7 @@ use crate::re2::names::{is_class, is_property};
 use crate::re2::pieces::{Part, Piece, Place, Spelling, of_class, outside};
 use crate::re2::runs::{before, split_word};
 
-/// The property of this name, and what follows it.
+/// Returns the spelling of the property with this name, and the text behind it.
 #[tactic(auto, unfolding(crate::specs::Re2Pieces::named_property, crate::specs::Re2Spelling::spelled))]
 fn named_property<'a>(
     negated: bool,
@@ -28,7 +28,7 @@ fn named_property<'a>(
     }
 }
 
-/// The property whose name stands up to a brace, and what follows it.
+/// Returns the spelling of the property whose name stands before a brace, and the text behind it.
 #[tactic(auto, unfolding(crate::specs::Re2Pieces::braced_property))]
 fn braced_property(negated: bool, text: &[char]) -> Option<(Spelling<'_>, &[char])>
     ensures value { MatchOption result (braced_property negated text.now ≡ None)
@@ -42,7 +42,7 @@ fn braced_property(negated: bool, text: &[char]) -> Option<(Spelling<'_>, &[char
     }
 }
 
-/// The property behind `\p` or `\P`, and what follows it.
+/// Returns the spelling of the property behind `\p` or `\P`, and the text behind it.
 #[tactic(auto, unfolding(crate::specs::Re2Pieces::property_at))]
 pub fn property_at(negated: bool, text: &[char]) -> Option<(Spelling<'_>, &[char])>
     ensures value { MatchOption result (property_at negated text.now ≡ None)
@@ -57,7 +57,7 @@ pub fn property_at(negated: bool, text: &[char]) -> Option<(Spelling<'_>, &[char
     }
 }
 
-/// Tells whether a hyphen is at the front that doesn't end the class.
+/// Returns whether a hyphen is at the front that doesn't end the class.
 #[tactic(auto, unfolding(crate::specs::Re2Pieces::is_range))]
 fn is_range(text: &[char]) -> bool
     ensures { result ≡ is_range text.now }
@@ -69,7 +69,7 @@ fn is_range(text: &[char]) -> bool
     }
 }
 
-/// Returns what follows a circumflex, if one is there.
+/// Returns the text without the `^` at the front, if one is there.
 fn skip_negation(text: &[char]) -> &[char]
     ensures value { result.now ≡ skip_negation text.now }
     ensures shorter { length result.now ≤ length text.now }
@@ -80,7 +80,7 @@ fn skip_negation(text: &[char]) -> &[char]
     }
 }
 
-/// Returns what follows the end of a class of POSIX, if it is there.
+/// Returns the text behind the `:]` at the front, or `None` if it isn't there.
 fn behind_class(text: &[char]) -> Option<&[char]>
     ensures value { MatchOption result (begins ":]" text.now ≡ false)
         (λ rest. (begins ":]" text.now ≡ true) × (rest.now ≡ drop 2 text.now)) }
@@ -92,7 +92,7 @@ fn behind_class(text: &[char]) -> Option<&[char]>
     }
 }
 
-/// A class of POSIX in brackets. Its name is behind the front of the text.
+/// Reads a POSIX class in brackets, whose name is behind the front of the text.
 #[tactic(auto, unfolding(crate::specs::Re2Pieces::named_class, crate::specs::Re2Spelling::spelled))]
 fn named_class<'a>(text: &'a [char], behind: &'a [char]) -> Option<Piece<'a>>
     ensures value { result ≡ named_class text.now behind.now }
@@ -105,7 +105,7 @@ fn named_class<'a>(text: &'a [char], behind: &'a [char]) -> Option<Piece<'a>>
     }
 }
 
-/// A character of a class, and what follows it.
+/// Returns the character of a class at the front, and the text behind it.
 #[tactic(auto, unfolding(crate::specs::Re2Pieces::member))]
 fn member(text: &[char]) -> Option<(char, &[char])>
     ensures value { MatchOption result (member text.now ≡ None)
@@ -119,7 +119,7 @@ fn member(text: &[char]) -> Option<(char, &[char])>
     }
 }
 
-/// The last character of a range, and what follows it.
+/// Returns the last character of a range, and the text behind it.
 #[tactic(auto, unfolding(crate::specs::Re2Pieces::range_end))]
 fn range_end(text: &[char]) -> Option<(char, &[char])>
     ensures value { MatchOption result (range_end text.now ≡ None)
@@ -132,7 +132,7 @@ fn range_end(text: &[char]) -> Option<(char, &[char])>
     }
 }
 
-/// The range of these characters, if they are in order.
+/// Returns the range of these characters, or `None` if they are out of order.
 #[tactic(auto, unfolding(crate::specs::Re2Pieces::range_of, crate::specs::Re2Spelling::spelled))]
 fn range_of<'a>(low: char, high: char, rest: &'a [char]) -> Option<Piece<'a>>
     ensures value { result ≡ range_of low high rest.now }
@@ -145,7 +145,7 @@ fn range_of<'a>(low: char, high: char, rest: &'a [char]) -> Option<Piece<'a>>
     }
 }
 
-/// The range that begins with this character and goes on behind a hyphen.
+/// Returns the range that begins with this character and goes on behind a hyphen.
 #[tactic(auto, unfolding(crate::specs::Re2Pieces::range_from))]
 fn range_from<'a>(low: char, behind: &'a [char]) -> Option<Piece<'a>>
     ensures value { result ≡ range_from low behind.now }
@@ -157,7 +157,7 @@ fn range_from<'a>(low: char, behind: &'a [char]) -> Option<Piece<'a>>
     }
 }
 
-/// Reads what a character in brackets begins: a range, or itself alone.
+/// Reads a range that begins with this character, or the character alone.
 #[tactic(auto, unfolding(crate::specs::Re2Pieces::range, crate::specs::Re2Pieces::is_range, crate::specs::Re2Spelling::spelled))]
 fn range<'a>(low: char, text: &'a [char]) -> Option<Piece<'a>>
     ensures value { result ≡ range low text.now }
@@ -170,7 +170,7 @@ fn range<'a>(low: char, text: &'a [char]) -> Option<Piece<'a>>
     }
 }
 
-/// A character or a range at the front.
+/// Reads a character or a range at the front.
 #[tactic(auto, unfolding(crate::specs::Re2Pieces::range_at))]
 fn range_at(text: &[char]) -> Option<Piece<'_>>
     ensures value { result ≡ range_at text.now }
@@ -182,7 +182,7 @@ fn range_at(text: &[char]) -> Option<Piece<'_>>
     }
 }
 
-/// A set in brackets, which no range begins with.
+/// Reads a set in brackets. No range begins with it.
 #[tactic(auto, unfolding(crate::specs::Re2Pieces::set_in_class))]
 fn set_in_class<'a>(spelling: Spelling<'a>, rest: &'a [char]) -> Option<Piece<'a>>
     ensures value { result ≡ set_in_class (spelled spelling.entry) rest.now }
@@ -195,7 +195,7 @@ fn set_in_class<'a>(spelling: Spelling<'a>, rest: &'a [char]) -> Option<Piece<'a
     }
 }
 
-/// The set of a property in brackets.
+/// Reads the set of a property in brackets.
 #[tactic(auto, unfolding(crate::specs::Re2Pieces::property_in_class))]
 fn property_in_class(negated: bool, text: &[char]) -> Option<Piece<'_>>
     ensures value { result ≡ property_in_class negated text.now }
@@ -207,7 +207,7 @@ fn property_in_class(negated: bool, text: &[char]) -> Option<Piece<'_>>
     }
 }
 
-/// Reads what the backslash at the front of the text stands for in brackets.
+/// Reads an escape in brackets, whose backslash is at the front of the text.
 #[tactic(auto, unfolding(crate::specs::Re2Pieces::escape_in_class, crate::specs::Re2Spelling::spelled))]
 fn escape_in_class<'a>(text: &'a [char], behind: &'a [char]) -> Option<Piece<'a>>
     requires { length behind.now < length text.now }
@@ -249,7 +249,7 @@ pub fn later_item(text: &[char]) -> Option<Piece<'_>>
     }
 }
 
-/// The start of a class at the front of the text.
+/// Reads the start of a class at the front of the text.
 #[tactic(auto, unfolding(crate::specs::Re2Pieces::class_start, crate::specs::Re2Spelling::spelled))]
 pub fn class_start<'a>(text: &'a [char], behind: &'a [char]) -> Piece<'a>
     ensures value { result ≡ class_start text.now behind.now }

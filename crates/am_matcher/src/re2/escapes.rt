@@ -6,7 +6,7 @@ ghost use Rattle.am_matcher.specs.Re2Pieces.{code, coded, braced_code, short_cod
 
 use crate::re2::runs::split_hex;
 
-/// The character that a letter or a sign behind a backslash stands for.
+/// Returns the character that a letter or a sign behind a backslash stands for.
 #[tactic(auto, unfolding(crate::specs::Re2Pieces::escaped_letter))]
 fn escaped_letter(letter: char) -> Option<char>
     ensures { result ≡ escaped_letter letter }
@@ -23,7 +23,7 @@ fn escaped_letter(letter: char) -> Option<char>
     }
 }
 
-/// The code with one more digit of base 16, unless it is above that of the last character.
+/// Returns the code with one more hexadecimal digit, or the code itself if it is above that of the last character.
 fn with_digit(code: u32, digit: char) -> u32
     ensures { result ≡ (if nat_lt 0x10FFFF code then code else code * 16 + digit_value digit) }
 {
@@ -34,7 +34,7 @@ fn with_digit(code: u32, digit: char) -> u32
     }
 }
 
-/// The code that the digits of base 16 write, or a greater one where it is none of a character.
+/// Returns the code that the hexadecimal digits write, or a code above those of all characters if it is too great.
 #[tactic(auto, unfolding(crate::specs::Re2Pieces::code))]
 fn code(digits: &[char]) -> u32
     ensures { result ≡ code digits.now }
@@ -44,7 +44,7 @@ fn code(digits: &[char]) -> u32
         .fold(0, |code, digit| with_digit(code, *digit))
 }
 
-/// The character whose code the digits write.
+/// Returns the character whose code the digits write, or `None` if there is none.
 #[tactic(auto, unfolding(crate::specs::Re2Pieces::coded))]
 fn coded(digits: &[char]) -> Option<char>
     ensures { result ≡ coded digits.now }
@@ -52,7 +52,7 @@ fn coded(digits: &[char]) -> Option<char>
     char::from_u32(code(digits))
 }
 
-/// The character whose code is written up to a brace, and what follows it.
+/// Returns the character whose code is written before a brace, and the text behind it.
 #[tactic(auto, unfolding(crate::specs::Re2Pieces::braced_code))]
 fn braced_code(text: &[char]) -> Option<(char, &[char])>
     ensures value { MatchOption result (braced_code text.now ≡ None)
@@ -69,7 +69,7 @@ fn braced_code(text: &[char]) -> Option<(char, &[char])>
     }
 }
 
-/// The character whose code two digits write, and what follows it.
+/// Returns the character whose code two digits write, and the text behind it.
 #[tactic(auto, unfolding(crate::specs::Re2Pieces::short_code))]
 fn short_code(text: &[char]) -> Option<(char, &[char])>
     ensures value { MatchOption result (short_code text.now ≡ None)
@@ -87,7 +87,7 @@ fn short_code(text: &[char]) -> Option<(char, &[char])>
     }
 }
 
-/// The character behind `\x`, by its code, and what follows it.
+/// Returns the character whose code is behind `\x`, and the text behind it.
 #[tactic(auto, unfolding(crate::specs::Re2Pieces::coded_character))]
 fn coded_character(text: &[char]) -> Option<(char, &[char])>
     ensures value { MatchOption result (coded_character text.now ≡ None)
@@ -100,7 +100,7 @@ fn coded_character(text: &[char]) -> Option<(char, &[char])>
     }
 }
 
-/// The character that is written behind a backslash, and what follows it.
+/// Returns the character that is written behind a backslash, and the text behind it.
 #[tactic(auto, unfolding(crate::specs::Re2Pieces::escaped_character))]
 pub fn escaped_character(text: &[char]) -> Option<(char, &[char])>
     ensures value { MatchOption result (escaped_character text.now ≡ None)
@@ -117,7 +117,7 @@ pub fn escaped_character(text: &[char]) -> Option<(char, &[char])>
     }
 }
 
-/// Tells whether the letter behind a backslash stands for a class of Perl.
+/// Returns whether the letter behind a backslash stands for a Perl class.
 pub fn is_perl(letter: char) -> bool
     ensures { result ≡ is_perl letter }
 {

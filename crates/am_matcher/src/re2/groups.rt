@@ -7,14 +7,14 @@ ghost use Rattle.am_matcher.specs.Re2Pieces.{has_twice, are_flags, is_name, name
 use crate::re2::pieces::{Part, Piece, Place, Spelling, outside};
 use crate::re2::runs::{before, split_flags, split_word};
 
-/// Tells whether the letter is among them.
+/// Returns whether the letter is among these.
 fn contains(letters: &[char], letter: char) -> bool
     ensures { result ≡ list_any (λ other. other == letter) letters.now }
 {
     letters.iter().any(|other| *other == letter)
 }
 
-/// Tells whether one of them comes twice.
+/// Returns whether a letter comes twice.
 #[tactic(auto, unfolding(crate::specs::Re2Pieces::has_twice))]
 fn has_twice(letters: &[char]) -> bool
     ensures { result ≡ has_twice letters.now }
@@ -25,7 +25,7 @@ fn has_twice(letters: &[char]) -> bool
     }
 }
 
-/// Tells whether these are flags: some, none of them twice, and something behind the hyphen.
+/// Returns whether these are flags: there is at least one, none comes twice, and a hyphen has something behind it.
 #[tactic(auto, unfolding(crate::specs::Re2Pieces::are_flags))]
 fn are_flags(letters: &[char]) -> bool
     ensures { result ≡ are_flags letters.now }
@@ -36,7 +36,7 @@ fn are_flags(letters: &[char]) -> bool
         && !matches!(letters, [.., '-'])
 }
 
-/// Tells whether these characters of a word are the name of a group.
+/// Returns whether these characters are the name of a group.
 #[tactic(auto, unfolding(crate::specs::Re2Pieces::is_name))]
 fn is_name(word: &[char]) -> bool
     ensures { result ≡ is_name word.now }
@@ -47,7 +47,7 @@ fn is_name(word: &[char]) -> bool
     }
 }
 
-/// The start of a group whose name is at the front.
+/// Reads the start of a group whose name is at the front.
 #[tactic(auto, unfolding(crate::specs::Re2Pieces::named_group, crate::specs::Re2Spelling::spelled))]
 fn named_group(text: &[char]) -> Option<Piece<'_>>
     ensures value { result ≡ named_group text.now }
@@ -66,7 +66,7 @@ fn named_group(text: &[char]) -> Option<Piece<'_>>
     }
 }
 
-/// The start of a group with flags, or flags alone. They are behind the front of the text.
+/// Reads the start of a group with flags, or flags alone. They are behind the front of the text.
 #[tactic(auto, unfolding(crate::specs::Re2Pieces::flagged_group, crate::specs::Re2Spelling::spelled))]
 fn flagged_group<'a>(text: &'a [char], behind: &'a [char]) -> Option<Piece<'a>>
     ensures value { result ≡ flagged_group text.now behind.now }
@@ -84,7 +84,7 @@ fn flagged_group<'a>(text: &'a [char], behind: &'a [char]) -> Option<Piece<'a>>
     }
 }
 
-/// Reads what the parenthesis at the front of the text begins: a group, or flags.
+/// Reads the group or the flags that begin with the parenthesis at the front of the text.
 #[tactic(auto, unfolding(crate::specs::Re2Pieces::group, crate::specs::Re2Spelling::spelled))]
 pub fn group<'a>(text: &'a [char], behind: &'a [char]) -> Option<Piece<'a>>
     ensures value { result ≡ group text.now behind.now }

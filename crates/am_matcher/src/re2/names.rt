@@ -5,13 +5,13 @@ ghost use Rattle.std.specs.List.{list_any};
 ghost use lib.Pointwise.{pointwise};
 ghost use Rattle.am_matcher.specs.Re2Pieces.{class_names, script_names, is_one_of, is_subcategory, is_category, is_property};
 
-/// The names of the classes of POSIX.
+/// The names of the POSIX classes.
 const CLASSES: [&str; 14] = [
     "alnum", "alpha", "ascii", "blank", "cntrl", "digit", "graph", "lower", "print", "punct",
     "space", "upper", "word", "xdigit",
 ];
 
-/// The scripts that are known.
+/// The names of the known scripts.
 const SCRIPTS: [&str; 14] = [
     "Arabic",
     "Armenian",
@@ -29,7 +29,7 @@ const SCRIPTS: [&str; 14] = [
     "Thai",
 ];
 
-/// Tells whether the text is this word of ASCII.
+/// Returns whether the text is this ASCII word.
 fn spells(text: &[char], word: &[u8]) -> bool
     ensures { result ≡ pointwise nat_eq text.now word.now }
 {
@@ -42,28 +42,28 @@ fn spells(text: &[char], word: &[u8]) -> bool
     }
 }
 
-/// Tells whether the text is one of the words.
+/// Returns whether the text is one of the words.
 fn is_one_of(words: &[&str], text: &[char]) -> bool
     ensures { result ≡ list_any (λ word. pointwise nat_eq text.now word.now) words.now }
 {
     words.iter().any(|word| spells(text, word.as_bytes()))
 }
 
-/// Tells whether the text is the name of a class of POSIX.
+/// Returns whether the text is the name of a POSIX class.
 pub fn is_class(text: &[char]) -> bool
     ensures { result ≡ is_one_of class_names text.now }
 {
     is_one_of(&CLASSES, text)
 }
 
-/// Tells whether the text is the name of a script.
+/// Returns whether the text is the name of a script.
 fn is_script(text: &[char]) -> bool
     ensures { result ≡ is_one_of script_names text.now }
 {
     is_one_of(&SCRIPTS, text)
 }
 
-/// Tells whether the letter behind another one names a general category.
+/// Returns whether two letters name a general category: that of a group, and one behind it.
 #[tactic(auto, unfolding(crate::specs::Re2Pieces::is_subcategory))]
 fn is_subcategory(category: char, letter: char) -> bool
     ensures { result ≡ is_subcategory category letter }
@@ -80,7 +80,7 @@ fn is_subcategory(category: char, letter: char) -> bool
     }
 }
 
-/// Tells whether the text is the name of a general category.
+/// Returns whether the text is the name of a general category.
 #[tactic(auto, unfolding(crate::specs::Re2Pieces::is_category))]
 fn is_category(text: &[char]) -> bool
     ensures { result ≡ is_category text.now }
@@ -92,7 +92,7 @@ fn is_category(text: &[char]) -> bool
     }
 }
 
-/// Tells whether the text is the name of a property.
+/// Returns whether the text is the name of a property.
 #[tactic(auto, unfolding(crate::specs::Re2Pieces::is_property))]
 pub fn is_property(text: &[char]) -> bool
     ensures { result ≡ is_property text.now }

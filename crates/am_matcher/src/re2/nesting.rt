@@ -1,4 +1,4 @@
-//! Which parts stand beside and in one another.
+//! The order of parts, and groups within groups. A pattern is checked from its end to its start.
 
 ghost use Rattle.std.specs.Prelude.{◌≡◌, None, Some, IfOk, MatchBool, MatchOption, []};
 ghost use Rattle.am_matcher.specs.Re2Nesting.{at_end, opened, closed, repeated, back_over};
@@ -9,17 +9,17 @@ use crate::re2::pieces::Part;
 use std::alloc::{AllocError, Global};
 use std::marker::Model;
 
-/// So many groups may stand in one another.
+/// The maximum depth of groups within groups.
 const MOST_GROUPS: usize = 100;
 
-/// The needs of what follows a place of a pattern.
+/// The state of the check at a place of a pattern, which depends on the parts behind it.
 #[derive(Drop)]
 struct Nesting {
-    /// The times that the part before the place is repeated in all, if a repetition is next.
+    /// The number of times that the part before the place is repeated in all, if a repetition is next.
     waiting: Option<u32>,
-    /// The times that a part at the place is repeated in all, by the groups round it.
+    /// The number of times that a part at the place is repeated in all, by the groups around it.
     times: u32,
-    /// The same of what is round these groups, the innermost last.
+    /// The same number for each group around these, the innermost last.
     outer: Vec<u32>,
 }
 
@@ -32,7 +32,7 @@ impl Model for Nesting {
     ghost view = { λ n. record { waiting = n.waiting; times = n.times; outer = reverse n.outer.items } };
 }
 
-/// Returns the needs at the end of a pattern.
+/// Returns the state at the end of a pattern.
 fn at_end(alloc: Global) -> Nesting
     ensures { result ≡ at_end }
 {
@@ -43,14 +43,14 @@ fn at_end(alloc: Global) -> Nesting
     }
 }
 
-/// Tells whether all groups are closed and opened, and no repetition is next.
+/// Returns whether each group has a start and an end, and no repetition is next.
 fn is_whole(nesting: &Nesting) -> bool
     ensures { MatchBool result ((nesting.now.waiting ≡ None) × (nesting.now.outer ≡ [])) (¬ ((nesting.now.waiting ≡ None) × (nesting.now.outer ≡ []))) }
 {
     nesting.outer.is_empty() && nesting.waiting.is_none()
 }
 
-/// Goes back over a repetition, if it may stand there.
+/// Goes back over a repetition, and returns whether it may stand there.
 #[tactic(auto, unfolding(crate::specs::Re2Nesting::repeated))]
 fn repeat(nesting: &mut Nesting, most: u32) -> bool
     ensures { MatchBool result (repeated most nesting.old ≡ Some nesting.new) (repeated most nesting.old ≡ None) }
@@ -63,7 +63,7 @@ fn repeat(nesting: &mut Nesting, most: u32) -> bool
     true
 }
 
-/// Goes back over the end of a group, if it may stand there.
+/// Goes back over the end of a group, and returns whether it may stand there.
 #[tactic(auto, unfolding(crate::specs::Re2Nesting::closed))]
 fn close(nesting: &mut Nesting) -> Result<bool, AllocError>
     ensures { IfOk result (λ may. MatchBool may (closed nesting.old ≡ Some nesting.new) (closed nesting.old ≡ None)) }
@@ -77,7 +77,7 @@ fn close(nesting: &mut Nesting) -> Result<bool, AllocError>
     Ok(true)
 }
 
-/// Goes back over the start of a group, if it may stand there.
+/// Goes back over the start of a group, and returns whether it may stand there.
 #[tactic(auto, unfolding(crate::specs::Re2Nesting::opened))]
 fn open(nesting: &mut Nesting) -> bool
     ensures { MatchBool result (opened nesting.old nesting.old.outer ≡ Some nesting.new) (opened nesting.old nesting.old.outer ≡ None) }
@@ -94,7 +94,7 @@ fn open(nesting: &mut Nesting) -> bool
     }
 }
 
-/// Goes back over a part, if it may stand there.
+/// Goes back over a part, and returns whether it may stand there.
 #[tactic(auto, unfolding(crate::specs::Re2Nesting::back_over))]
 fn step(nesting: &mut Nesting, part: Part) -> Result<bool, AllocError>
     ensures { IfOk result (λ may. MatchBool may (back_over part nesting.old ≡ Some nesting.new) (back_over part nesting.old ≡ None)) }
@@ -111,7 +111,7 @@ fn step(nesting: &mut Nesting, part: Part) -> Result<bool, AllocError>
     }
 }
 
-/// The first part that ends a group which none before it begins, or else the first of all.
+/// Returns the place of the first end of a group that has no start, or 0 if there is none.
 fn unopened(parts: &[Part]) -> usize {
     let mut depth: usize = 0;
     for (place, part) in parts.iter().enumerate() {
@@ -125,7 +125,7 @@ fn unopened(parts: &[Part]) -> usize {
     0
 }
 
-/// The place of a part that may not stand where it is, if there is one.
+/// Returns the place of a part that may not stand where it is, or `None` if there is none.
 pub fn misplaced(alloc: Global, parts: &[Part]) -> Result<Option<usize>, AllocError>
     ensures { IfOk result (λ place. MatchOption place (IsExpression 1 100 parts.now) (λ _. ¬ IsExpression 1 100 parts.now)) }
 {

@@ -1,4 +1,4 @@
-//! Pieces by the place where they stand.
+//! Pieces, depending on the place where they stand.
 
 ghost use Rattle.std.specs.Prelude.{◌≡◌, ◌<◌, ◌≤◌, length, IfSome};
 ghost use Rattle.am_matcher.specs.Re2Pieces.{sign, property_outside, character_outside, quotation, quoted_character, quotation_end, escape, outside_piece, quoted, first_piece};
@@ -26,7 +26,7 @@ fn sign<'a>(text: &'a [char], first: char, rest: &'a [char]) -> Piece<'a>
     }
 }
 
-/// The set of a property.
+/// Reads the set of a property outside of classes.
 #[tactic(auto, unfolding(crate::specs::Re2Pieces::property_outside))]
 fn property_outside(negated: bool, text: &[char]) -> Option<Piece<'_>>
     ensures value { result ≡ property_outside negated text.now }
@@ -38,7 +38,7 @@ fn property_outside(negated: bool, text: &[char]) -> Option<Piece<'_>>
     }
 }
 
-/// The character that is written behind a backslash.
+/// Reads a character that is written behind a backslash.
 #[tactic(auto, unfolding(crate::specs::Re2Pieces::character_outside, crate::specs::Re2Spelling::spelled))]
 fn character_outside(text: &[char]) -> Option<Piece<'_>>
     ensures value { result ≡ character_outside text.now }
@@ -50,7 +50,7 @@ fn character_outside(text: &[char]) -> Option<Piece<'_>>
     }
 }
 
-/// The start of a quotation.
+/// Returns the start of a quotation.
 #[tactic(auto, unfolding(crate::specs::Re2Spelling::spelled))]
 fn quotation(rest: &[char]) -> Piece<'_>
     ensures value { result ≡ quotation rest.now }
@@ -65,7 +65,7 @@ fn quotation(rest: &[char]) -> Piece<'_>
     }
 }
 
-/// Reads what the backslash at the front of the text stands for with what is behind it.
+/// Reads an escape outside of classes, whose backslash is at the front of the text.
 #[tactic(auto, unfolding(crate::specs::Re2Pieces::escape, crate::specs::Re2Spelling::spelled))]
 fn escape<'a>(text: &'a [char], behind: &'a [char]) -> Option<Piece<'a>>
     ensures value { result ≡ escape text.now behind.now }
@@ -102,7 +102,7 @@ fn outside_piece(text: &[char]) -> Option<Piece<'_>>
     }
 }
 
-/// A piece of a quotation that stands for a character.
+/// Returns a piece of a quotation that stands for a character.
 #[tactic(auto, unfolding(crate::specs::Re2Spelling::spelled))]
 fn quoted_character(character: char, rest: &[char]) -> Piece<'_>
     ensures value { result ≡ quoted_character character rest.now }
@@ -116,7 +116,7 @@ fn quoted_character(character: char, rest: &[char]) -> Piece<'_>
     }
 }
 
-/// The end of a quotation.
+/// Returns the end of a quotation.
 #[tactic(auto, unfolding(crate::specs::Re2Spelling::spelled))]
 fn quotation_end(rest: &[char]) -> Piece<'_>
     ensures value { result ≡ quotation_end rest.now }

@@ -6,27 +6,27 @@ ghost use Rattle.am_matcher.specs.Re2Pieces.{outside, of_class};
 
 use std::marker::Model;
 
-/// Where a piece of a pattern stands.
+/// The place where a piece of a pattern stands.
 #[derive(Clone, Copy)]
 pub enum Place {
-    /// In no class and no quotation.
+    /// Outside of classes and quotations.
     Outside,
     /// At the start of a class, where `]` and `-` are characters.
     ClassStart,
-    /// Further on in a class.
+    /// Behind the start of a class.
     Class,
     /// Between `\Q` and `\E`.
     Quotation,
 }
 
-/// The part that a piece plays beside others.
+/// The role of a piece among the pieces beside it.
 #[derive(Clone, Copy)]
 pub enum Part {
     /// A character or a class, which may be repeated.
     Atom,
-    /// A place, flags or a quotation, which may not.
+    /// An assertion, flags or a quotation, which may not be repeated.
     Fixed,
-    /// The part before it, so many times at most; 1 where no count is said.
+    /// A repetition of the part before it, up to this number of times, which is 1 if there is no count.
     Repeat(u32),
     Open,
     Close,
@@ -36,13 +36,13 @@ pub enum Part {
 /// The spelling of a piece for `regex`.
 #[derive(Clone, Copy)]
 pub enum Spelling<'a> {
-    /// As in the pattern.
+    /// The characters of the pattern itself.
     Source(&'a [char]),
     Character(char),
     Range(char, char),
-    /// `\d`, `\s` or `\w` over ASCII, or by an upper case all others.
+    /// `\d`, `\s` or `\w` over ASCII, or all other characters if the letter is in upper case.
     Perl(char),
-    /// The characters that have the property, or all others.
+    /// The characters that have the property, or all others if the flag is true.
     Property(bool, &'a [char]),
     /// `\b` over ASCII.
     Boundary,
@@ -51,15 +51,15 @@ pub enum Spelling<'a> {
     Nothing,
 }
 
-/// A piece at the front of a text. Contracts see what is written for it.
+/// A piece at the front of a text. Contracts see the text that is written for it.
 #[derive(Drop)]
 pub struct Piece<'a> {
-    /// The part that it plays beside others, if it is not inside of a class or of a quotation.
+    /// The role of the piece, if it isn't inside of a class or of a quotation.
     pub part: Option<Part>,
     pub spelling: Spelling<'a>,
-    /// The name of the group that it opens.
+    /// The name of the group that the piece opens.
     pub name: Option<&'a [char]>,
-    /// Where the next one stands.
+    /// The place of the next piece.
     pub place: Place,
     pub rest: &'a [char],
 }
@@ -79,7 +79,7 @@ impl<'a> Model for Piece<'a> {
     } };
 }
 
-/// A part of a pattern, outside of classes.
+/// Returns a piece outside of classes.
 pub fn outside<'a>(part: Part, spelling: Spelling<'a>, rest: &'a [char]) -> Piece<'a>
     ensures { result ≡ outside part (spelled spelling.entry) rest.now }
 {
@@ -92,7 +92,7 @@ pub fn outside<'a>(part: Part, spelling: Spelling<'a>, rest: &'a [char]) -> Piec
     }
 }
 
-/// A part of a class.
+/// Returns a piece of a class.
 pub fn of_class<'a>(spelling: Spelling<'a>, rest: &'a [char]) -> Piece<'a>
     ensures { result ≡ of_class (spelled spelling.entry) rest.now }
 {

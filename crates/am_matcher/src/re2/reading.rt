@@ -1,4 +1,4 @@
-//! Reading of a pattern, piece by piece.
+//! A reader of patterns, piece by piece.
 
 ghost use Rattle.std.specs.Prelude.{◌≡◌, ◌++◌, ℕ, List, map, option_map, string_bytes, encode_utf8_all, OnOk, IfOk, MatchOption, MatchResult};
 ghost use Rattle.am_matcher.specs.declared.re2.pieces.Place.TheVariants as places;
@@ -13,15 +13,15 @@ use crate::re2::spelling::push_spelling;
 use std::alloc::{AllocError, Global};
 use std::marker::Model;
 
-/// The pieces that were read of a pattern. Contracts see its contents.
+/// The pieces that were read of a pattern. Contracts see their contents.
 #[derive(Drop)]
 struct Reading {
     parts: Vec<Part>,
-    /// The count of characters before each part.
+    /// The number of characters before each part.
     places: Vec<usize>,
     written: Vec<char>,
     names: Vec<String>,
-    /// The count of characters before each name's group.
+    /// The number of characters before the group of each name.
     name_places: Vec<usize>,
 }
 
@@ -73,7 +73,7 @@ fn push_name(
     Ok(())
 }
 
-/// Keeps a piece that stands behind so many characters.
+/// Appends a piece that stands behind this number of characters.
 fn keep(
     alloc: Global,
     reading: &mut Reading,
@@ -94,7 +94,7 @@ fn keep(
     Ok(())
 }
 
-/// Reads all pieces, or says how many characters stand before a fault.
+/// Reads all pieces, or returns the number of characters before a fault.
 fn read_pieces(alloc: Global, characters: &[char]) -> Result<Result<Reading, usize>, AllocError>
     ensures { IfOk result (λ found. MatchResult found (IsRead places.Outside characters.now)
         (λ _. (contents : Contents) → ¬ IsRead places.Outside characters.now contents)) }
@@ -117,12 +117,12 @@ fn read_pieces(alloc: Global, characters: &[char]) -> Result<Result<Reading, usi
     }
 }
 
-/// The number at the place, or 0.
+/// Returns the number at the place, or 0 if there is none.
 fn number_at(numbers: &[usize], place: usize) -> usize {
     numbers.get(place).copied().unwrap_or(0)
 }
 
-/// Says how many characters stand before a fault of what was read, if there is one.
+/// Returns the number of characters before a fault in what was read, or `None` if there is none.
 fn fault_of(alloc: Global, reading: &Reading) -> Result<Option<usize>, AllocError>
     ensures { IfOk result (λ at. MatchOption at (IsSoundContents reading.now) (λ _. ¬ IsSoundContents reading.now)) }
 {
@@ -135,7 +135,7 @@ fn fault_of(alloc: Global, reading: &Reading) -> Result<Option<usize>, AllocErro
     }
 }
 
-/// Returns the pattern of `regex` for these characters, or how many of them stand before a fault.
+/// Returns the pattern of `regex` for these characters, or the number of characters before a fault.
 fn written_of(
     alloc: Global,
     characters: &[char],
@@ -151,7 +151,7 @@ fn written_of(
     }
 }
 
-/// Reads a pattern, and gives what is written for it, or how many characters stand before a fault.
+/// Reads a pattern, and returns the pattern that is written for it, or the number of characters before a fault.
 pub fn translated(
     alloc: Global,
     characters: &[char],

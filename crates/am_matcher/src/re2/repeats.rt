@@ -6,7 +6,7 @@ ghost use Rattle.std.specs.BTreeSet.{contains_text};
 use std::alloc::{AllocError, Global};
 use std::collections::BTreeSet;
 
-/// Keeps a name. Says whether none like it was kept.
+/// Keeps a name, and returns whether it wasn't kept before.
 fn keep(seen: &mut BTreeSet<String>, name: &String) -> Result<bool, AllocError>
     ensures added { IfOk result (λ added. added ≡ not (contains_text seen.old (string_bytes name.now))) }
     ensures kept { IfOk result (λ added. (bytes : List ℕ) → contains_text seen.new bytes
@@ -17,7 +17,7 @@ fn keep(seen: &mut BTreeSet<String>, name: &String) -> Result<bool, AllocError>
     Ok(added)
 }
 
-/// The place of a name that stands before too, if there is one.
+/// Returns the place of a name that comes before it too, or `None` if all names differ.
 pub fn repeated(alloc: Global, names: &[String]) -> Result<Option<usize>, AllocError>
     ensures { IfOk result (λ place. MatchOption place (AllPairs ◌≢◌ (map string_bytes names.now)) (λ _. ¬ AllPairs ◌≢◌ (map string_bytes names.now))) }
 {

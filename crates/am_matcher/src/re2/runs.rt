@@ -5,7 +5,7 @@ ghost use Rattle.std.specs.Char.{is_ascii_digit, is_ascii_hexdigit};
 ghost use Rattle.am_matcher.specs.Re2Spelling.{before};
 ghost use Rattle.am_matcher.specs.Re2Pieces.{run, behind, is_word, is_flag};
 
-/// Returns what stands before the rest of a text.
+/// Returns the text in front of its rest.
 #[tactic(auto, unfolding(crate::specs::Re2Spelling::before))]
 pub fn before<'a>(text: &'a [char], rest: &[char]) -> &'a [char]
     ensures { result.now ≡ before text.now rest.now }
@@ -14,14 +14,14 @@ pub fn before<'a>(text: &'a [char], rest: &[char]) -> &'a [char]
     front
 }
 
-/// Counts the digits at the front.
+/// Returns the number of digits at the front.
 fn digit_count(text: &[char]) -> usize
     ensures { result ≡ length (run is_ascii_digit text.now) }
 {
     text.iter().take_while(|c| c.is_ascii_digit()).count()
 }
 
-/// The digits at the front, and what follows them.
+/// Returns the digits at the front, and the text behind them.
 #[tactic(auto, using(crate::proofs::Re2Runs::taken))]
 pub fn split_digits(text: &[char]) -> (&[char], &[char])
     ensures digits { result.0.now ≡ run is_ascii_digit text.now }
@@ -31,14 +31,14 @@ pub fn split_digits(text: &[char]) -> (&[char], &[char])
     text.split_at(digit_count(text))
 }
 
-/// Counts the digits of base 16 at the front.
+/// Returns the number of hexadecimal digits at the front.
 fn hex_count(text: &[char]) -> usize
     ensures { result ≡ length (run is_ascii_hexdigit text.now) }
 {
     text.iter().take_while(|c| c.is_ascii_hexdigit()).count()
 }
 
-/// The digits of base 16 at the front, and what follows them.
+/// Returns the hexadecimal digits at the front, and the text behind them.
 #[tactic(auto, using(crate::proofs::Re2Runs::taken))]
 pub fn split_hex(text: &[char]) -> (&[char], &[char])
     ensures digits { result.0.now ≡ run is_ascii_hexdigit text.now }
@@ -54,14 +54,14 @@ fn is_word(character: char) -> bool
     character.is_ascii_alphanumeric() || character == '_'
 }
 
-/// Counts the letters, digits and `_` at the front.
+/// Returns the number of letters, digits and `_` at the front.
 fn word_len(text: &[char]) -> usize
     ensures { result ≡ length (run is_word text.now) }
 {
     text.iter().take_while(|c| is_word(**c)).count()
 }
 
-/// The letters, digits and `_` at the front, and what follows them.
+/// Returns the letters, digits and `_` at the front, and the text behind them.
 #[tactic(auto, using(crate::proofs::Re2Runs::taken))]
 pub fn split_word(text: &[char]) -> (&[char], &[char])
     ensures word { result.0.now ≡ run is_word text.now }
@@ -77,14 +77,14 @@ fn is_flag(character: char) -> bool
     matches!(character, 'i' | 'm' | 's' | 'U' | '-')
 }
 
-/// Counts the letters of flags and hyphens at the front.
+/// Returns the number of flag letters and hyphens at the front.
 fn flag_count(text: &[char]) -> usize
     ensures { result ≡ length (run is_flag text.now) }
 {
     text.iter().take_while(|c| is_flag(**c)).count()
 }
 
-/// The letters of flags and the hyphens at the front, and what follows them.
+/// Returns the flag letters and hyphens at the front, and the text behind them.
 #[tactic(auto, using(crate::proofs::Re2Runs::taken))]
 pub fn split_flags(text: &[char]) -> (&[char], &[char])
     ensures flags { result.0.now ≡ run is_flag text.now }

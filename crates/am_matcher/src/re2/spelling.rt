@@ -6,7 +6,7 @@ ghost use Rattle.am_matcher.specs.Re2Spelling.{is_meta, literal, perl, property,
 use crate::re2::pieces::Spelling;
 use std::alloc::AllocError;
 
-/// Tells whether the character means more than itself, somewhere in a pattern.
+/// Returns whether the character has a meaning of its own somewhere in a pattern.
 #[tactic(auto, unfolding(crate::specs::Re2Spelling::is_meta))]
 fn is_meta(character: char) -> bool
     ensures { result ≡ is_meta character }
@@ -33,7 +33,7 @@ fn is_meta(character: char) -> bool
     )
 }
 
-/// Appends a character for itself.
+/// Appends a character that stands for itself.
 #[tactic(auto, unfolding(crate::specs::Re2Spelling::literal))]
 fn push_character(out: &mut Vec<char>, character: char) -> Result<(), AllocError>
     ensures { OnOk result (out.new.items ≡ out.old.items ++ literal character) }
@@ -53,7 +53,7 @@ fn push_all(out: &mut Vec<char>, characters: &[char]) -> Result<(), AllocError>
     Ok(())
 }
 
-/// The class of a letter of Perl, over ASCII.
+/// Returns the class of a Perl letter, over ASCII.
 #[tactic(auto, unfolding(crate::specs::Re2Spelling::perl))]
 fn perl(letter: char) -> &'static [char]
     ensures { result.now ≡ perl letter }
@@ -72,7 +72,7 @@ fn perl(letter: char) -> &'static [char]
     }
 }
 
-/// Appends the first of two characters, a hyphen, and the last one.
+/// Appends a range: its first character, a hyphen, and its last character.
 #[tactic(auto, unfolding(crate::specs::Re2Spelling::spelled))]
 fn push_range(out: &mut Vec<char>, low: char, high: char) -> Result<(), AllocError>
     ensures { OnOk result (out.new.items ≡ out.old.items ++ (literal low ++ 0x2D ∷ literal high)) }
@@ -82,7 +82,7 @@ fn push_range(out: &mut Vec<char>, low: char, high: char) -> Result<(), AllocErr
     push_character(out, high)
 }
 
-/// Appends the class of a property, or of all that lack it.
+/// Appends the class of a property, or of all characters that lack it.
 #[tactic(auto, unfolding(crate::specs::Re2Spelling::property))]
 fn push_property(out: &mut Vec<char>, negated: bool, name: &[char]) -> Result<(), AllocError>
     ensures { OnOk result (out.new.items ≡ out.old.items ++ property negated name.now) }
@@ -96,7 +96,7 @@ fn push_property(out: &mut Vec<char>, negated: bool, name: &[char]) -> Result<()
     push_all(out, &['}'])
 }
 
-/// Appends what a piece is written as.
+/// Appends the spelling of a piece.
 #[tactic(auto, unfolding(crate::specs::Re2Spelling::spelled))]
 pub fn push_spelling(out: &mut Vec<char>, spelling: Spelling<'_>) -> Result<(), AllocError>
     ensures { OnOk result (out.new.items ≡ out.old.items ++ spelled spelling.entry) }

@@ -11,10 +11,10 @@ use am_wire::Text;
 use std::alloc::{AllocError, Global};
 use thiserror::Error;
 
-/// Why a pattern was not taken.
+/// The reason why a pattern isn't taken.
 #[derive(Clone, Copy, Debug, PartialEq, Eq, Error)]
 pub enum Re2Error {
-    /// RE2 refuses it, or may mean something else by it than `regex`. It is at fault behind so many bytes.
+    /// RE2 refuses the pattern, or may read it in another way than `regex` does. The fault is behind this number of bytes.
     #[error("bad pattern at byte {0}")]
     Refused(usize),
     #[error("out of memory")]
@@ -32,7 +32,7 @@ impl From<AllocError> for Re2Error {
     }
 }
 
-/// Counts the bytes of the first characters of a text.
+/// Returns the number of bytes of the first characters of a text.
 fn offset_of(text: &str, count: usize) -> usize
     ensures { result ≤ length text.now }
 {
@@ -42,14 +42,14 @@ fn offset_of(text: &str, count: usize) -> usize
     }
 }
 
-/// Gives the pattern of `regex` that matches the texts which RE2 (Go's `regexp`) matches by this one.
+/// Returns the pattern of `regex` that matches the same texts as this pattern of RE2 (Go's `regexp`).
 ///
-/// Taken are patterns of a part of RE2: those that RE2 may refuse, or may mean otherwise than `regex`, are refused. A group of
-/// the pattern captures nothing by its name.
+/// A part of RE2 is taken: patterns that RE2 may refuse, or may read in another way than `regex` does, are refused. A named
+/// group of the pattern captures nothing by its name.
 ///
 /// # Errors
 ///
-/// [`Re2Error::Refused`] exactly where the pattern is not taken, and [`Re2Error::Memory`].
+/// [`Re2Error::Refused`] if and only if the pattern isn't taken, and [`Re2Error::Memory`] if memory runs out.
 pub fn re2_of(alloc: Global, pattern: &str) -> Result<Text, Re2Error>
     // PROMISE: A pattern that is taken is one of RE2's grammar, and what is written for it is what the grammar says.
     ensures translated { IfOk result (IsTranslation pattern.now) }
