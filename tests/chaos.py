@@ -76,6 +76,9 @@ ROUND, CLIENTS, DISK = 30, 10, 16 << 20
 # How many members keep a log, and how many begin or cease to at a start; and within how many seconds a lost log has to be found.
 LOGGING, CHANGING, FOUND_WITHIN = 0.5, 0.25, 30
 
+# How many ticks of the clock by which the system counts make a second.
+CLOCK_TICKS = os.sysconf("SC_CLK_TCK")
+
 # How many silent clients come at once, and how many frames that ask for something.
 CROWD, FLOOD = 300, 1000
 
@@ -189,6 +192,15 @@ class Member(members.Member):
         """Whether there was room on its disk for long enough, at some moment, and has been since."""
         return not self.disk.is_full and at > self.full_at + EVERY + LATE_SAVE
 
+    def processor_time(self):
+        """For how long its process has run, and for how long it was ready to run and got no processor, in seconds: by this machine
+        or by that which this one runs on, whose time is of all processes together."""
+        with contextlib.suppress(OSError, ValueError):
+            with open(f"/proc/{self.process.pid}/schedstat", encoding="ascii") as its, open("/proc/stat", encoding="ascii") as all_:
+                ran, waited, _ = map(int, its.read().split())
+                return ran / 10**9, waited / 10**9 + int(all_.readline().split()[8]) / CLOCK_TICKS
+        return 0.0, 0.0
+
     def is_let_alone(self, since):
         """Whether nothing was done to it since then, and it answered before."""
         return self.generation is not None and self.is_open and not self.is_frozen and self.meddled < since
@@ -238,15 +250,20 @@ class Client:
                 act(self.draw.choice(found))
 
     def ask(self, member, method, path, value=None):
-        """A reply of a member, which has to come where it is let alone."""
-        begun = time.monotonic()
+        """A reply of a member, which has to come where it is let alone and gets its processor."""
+        begun, former = time.monotonic(), member.processor_time()
         reply = member.request(method, path, b"" if value is None else json.dumps(value).encode())
         self.ledger.counts["requests"] += 1
         took = time.monotonic() - begun
         if member.is_let_alone(begun):
             self.round.slowest = max(self.round.slowest, took)
             if not reply[0]:
-                self.round.complain("answers", f"{member.name} {method} {path} after {took:.2f} s")
+                ran, waited = (now - then for now, then in zip(member.processor_time(), former))
+                times = f"after {took:.2f} s, of which it ran {ran:.2f} s and waited {waited:.2f} s for a processor"
+                if waited < TIME_LIMIT / 4:
+                    self.round.complain("answers", f"{member.name} {method} {path} {times}")
+                else:
+                    self.round.starved.append(f"{member.name} {method} {path} {times}")
         if reply == NOT_KEPT and member.had_room(begun):
             self.round.complain("room", f"{member.name} {method} {path}")
         return reply
@@ -474,6 +491,7 @@ class Round:
         self.is_robbed = is_robbed
         self.ledger = Ledger(1000 * self.retention)
         self.complaints, self.acts, self.slowest = collections.defaultdict(list), collections.Counter(), 0.0
+        self.starved = []
         self.draw = random.Random(f"{seed} weather")
         self.members = [Member(name, port, Disk(f"{top}/{name}")) for name, port in zip(NAMES, free_ports(3))]
         self.proxies = [self.proxy(it, peer) for it in self.members for peer in self.members if it is not peer]
@@ -691,6 +709,8 @@ class Round:
         print(f"  {counts['requests']} requests; {counts['acknowledged']} acknowledged; {counts['lasting']} had to last")
         print(f"  {counts['kept']} acknowledged with a log; {counts['not kept']} held, but not kept on disk")
         print(f"  connections: {words(fates)}; members: {words(self.acts)}")
+        for it in self.starved:
+            print(f"  no reply of a member that got no processor: {it}")
         print(f"  slowest reply of a member let alone {self.slowest:.2f} s; all agreed after {self.took:.1f} s", flush=True)
 
     def close(self):
@@ -708,7 +728,7 @@ class Round:
 COMPLAINTS = {
     "starts": "each start listens, and loads what stands in the files and logs",
     "lives": "no member ends by itself",
-    "answers": "a member that is let alone answers each request",
+    "answers": "a member that is let alone, and gets its processor, answers each request",
     "refusals": "no request is refused without cause",
     "pages": "a page of another site is refused",
     "lists": "each list has what was posted, and each silence once",
