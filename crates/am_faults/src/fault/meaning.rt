@@ -1,4 +1,4 @@
-//! What faults mean, and what is to be done, as a sentence for people: one for each kind.
+//! The meanings of faults, and what is to be done about them: one sentence for people for each kind.
 
 use crate::fault::Fault;
 use am_disk::FileFault;
@@ -67,7 +67,7 @@ const WITHHELD_MATCHER: &str =
 const FIELDS_DROPPED: &str =
     "so many matchers, receivers and moments that this Alertmanager told have fields that aren't known here, which are lost; is it of a later release?";
 
-/// What a fault means.
+/// Returns the meaning of a fault.
 pub fn meaning_of(fault: &Fault) -> &'static str {
     match *fault {
         Fault::Memory(_) => MEMORY,
@@ -105,7 +105,7 @@ pub fn meaning_of(fault: &Fault) -> &'static str {
     }
 }
 
-/// Why it can't listen.
+/// Returns the reason why it can't listen.
 fn meaning_of_listen(kind: ErrorKind) -> &'static str {
     match kind {
         ErrorKind::AddrInUse => "another process listens at this port",
@@ -114,7 +114,7 @@ fn meaning_of_listen(kind: ErrorKind) -> &'static str {
     }
 }
 
-/// Why the secret isn't read.
+/// Returns the reason why the secret isn't read.
 fn meaning_of_secret(fault: SecretFault) -> &'static str {
     match fault {
         SecretFault::File(kind) => meaning_of_file(FileFault::File(kind)),
@@ -125,7 +125,7 @@ fn meaning_of_secret(fault: SecretFault) -> &'static str {
     }
 }
 
-/// Why no more is heard of a connection at its gate.
+/// Returns the reason why no more is heard of a connection at its gate.
 fn meaning_of_gate(fault: GateFault) -> &'static str {
     match fault {
         GateFault::Frames =>
@@ -143,7 +143,7 @@ fn meaning_of_gate(fault: GateFault) -> &'static str {
     }
 }
 
-/// What is wrong with a row.
+/// Returns the fault of a row.
 fn meaning_of_snapshot(error: SnapshotError) -> &'static str {
     match error {
         SnapshotError::Read { .. } => READ,
@@ -159,7 +159,7 @@ fn meaning_of_snapshot(error: SnapshotError) -> &'static str {
     }
 }
 
-/// What is wrong with a message.
+/// Returns the fault of a message.
 fn meaning_of_wire(error: WireError) -> &'static str {
     match error {
         WireError::Truncated { .. } => "the input ends in what begins at this byte",
@@ -176,7 +176,7 @@ fn meaning_of_wire(error: WireError) -> &'static str {
     }
 }
 
-/// Why a file isn't read or written.
+/// Returns the reason why a file isn't read or written.
 fn meaning_of_file(fault: FileFault) -> &'static str {
     match fault {
         FileFault::File(ErrorKind::NotFound) => "there is no such file or directory",
@@ -190,7 +190,7 @@ fn meaning_of_file(fault: FileFault) -> &'static str {
     }
 }
 
-/// Why a member's state isn't loaded or saved.
+/// Returns the reason why a member's state isn't loaded or saved.
 fn meaning_of_state(fault: FileFault) -> &'static str {
     match fault {
         FileFault::Snapshot(SnapshotError::Write { .. }) => {
@@ -203,7 +203,7 @@ fn meaning_of_state(fault: FileFault) -> &'static str {
     }
 }
 
-/// Why a server didn't answer.
+/// Returns the reason why a server didn't answer.
 fn meaning_of_server(fault: ServerFault) -> &'static str {
     match fault {
         ServerFault::Connect(kind) => meaning_of_connect(kind),
@@ -218,7 +218,7 @@ fn meaning_of_server(fault: ServerFault) -> &'static str {
     }
 }
 
-/// What is wrong with what a replica answered by gossip.
+/// Returns the fault of a replica's answer by gossip.
 fn meaning_of_answer(error: AnswerError) -> &'static str {
     match error {
         AnswerError::Nothing => {
@@ -246,7 +246,7 @@ fn meaning_of_answer(error: AnswerError) -> &'static str {
     }
 }
 
-/// The first bytes that are told apart of answers that aren't read: one that is encrypted, one that has a label, an alert of TLS
+/// The first bytes by which answers are told apart that aren't read: of one that is encrypted, one that has a label, an alert of TLS
 /// (RFC 8446, section 5.1), and the `H` of HTTP.
 const ENCRYPTED: u8 = 10;
 
@@ -256,7 +256,7 @@ const ALERT: u8 = 21;
 
 const HTTP: u8 = 72;
 
-/// What is wrong with what is compressed.
+/// Returns the fault of compressed bytes.
 fn meaning_of_lzw(error: LzwError) -> &'static str {
     match error {
         LzwError::Cut => "what is compressed in the answer ends in the middle",
@@ -266,7 +266,7 @@ fn meaning_of_lzw(error: LzwError) -> &'static str {
     }
 }
 
-/// Why there is no connection.
+/// Returns the reason why there is no connection.
 fn meaning_of_connect(kind: ErrorKind) -> &'static str {
     match kind {
         ErrorKind::ConnectionRefused => "nothing listens there",
@@ -275,7 +275,7 @@ fn meaning_of_connect(kind: ErrorKind) -> &'static str {
     }
 }
 
-/// What is wrong with the list that a server replied.
+/// Returns the fault of a list that a server replied.
 fn meaning_of_list(error: ListError) -> &'static str {
     match error {
         ListError::BadJson => "the reply is no JSON",
@@ -288,7 +288,7 @@ fn meaning_of_list(error: ListError) -> &'static str {
     }
 }
 
-/// What is wrong with the names of members.
+/// Returns the fault of the names of members.
 fn meaning_of_names(error: ConfigError) -> &'static str {
     match error {
         ConfigError::EmptyName => "a member's name has no byte",
@@ -298,7 +298,7 @@ fn meaning_of_names(error: ConfigError) -> &'static str {
     }
 }
 
-/// Why a connection ended early.
+/// Returns the reason why a connection ended early.
 fn meaning_of_connection(fault: ConnectionFault) -> &'static str {
     match fault {
         ConnectionFault::Read { .. } => LOST_READ,
@@ -311,7 +311,7 @@ fn meaning_of_connection(fault: ConnectionFault) -> &'static str {
     }
 }
 
-/// What is wrong with a greeting or a frame.
+/// Returns the fault of a greeting or a frame.
 fn meaning_of_frame(error: FrameError) -> &'static str {
     match error {
         FrameError::Kind =>
@@ -324,7 +324,7 @@ fn meaning_of_frame(error: FrameError) -> &'static str {
     }
 }
 
-/// Why a step was refused.
+/// Returns the reason why a step was refused.
 fn meaning_of_step(error: StepError) -> &'static str {
     match error {
         StepError::MomentBack { .. } =>
@@ -336,7 +336,7 @@ fn meaning_of_step(error: StepError) -> &'static str {
     }
 }
 
-/// Why what waited for a peer is lost.
+/// Returns the reason why what waited for a peer is lost.
 fn meaning_of_link(fault: LinkFault) -> &'static str {
     match fault {
         LinkFault::Connect(kind) => meaning_of_connect(kind),
