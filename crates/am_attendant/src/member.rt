@@ -1,7 +1,7 @@
 //! A member: its instance, and its attendant.
 
 ghost use Rattle.std.specs.Prelude.{◌≡◌, ◌↔◌, ◌⊎◌, ◌≤◌, ℕ, List, IfSome, IsTrue, ⊤, length};
-ghost use Rattle.am_dialogue.specs.Answered.{ByItself, IsAnswered};
+ghost use Rattle.am_dialogue.specs.Answered.{ByItself, ForPages, IsAnswered};
 ghost use Rattle.am_dialogue.specs.Talks.{Lasts, pending_in, talk_of};
 ghost use Rattle.am_http.specs.Sessions.{SaysEnd, Spoken, name_of, over as ended_under};
 ghost use Rattle.am_living.specs.Talking.{Does, IsLetIn, IsScreened, IsTakenUp, fresh_talk};
@@ -68,7 +68,7 @@ pub trait Attendant {
     fn due(&self, dialogue: &Conversation) -> Option<Instant>;
 
     fn come_due(&mut self, instance: &mut Instance, dialogue: &mut Conversation)
-        ensures own { ByItself instance.old instance.new }
+        ensures steps { ForPages instance.old instance.new }
         ensures lasts { Lasts (talk_of dialogue.old) (talk_of dialogue.new) };
 
     fn hurry(&mut self, dialogue: &mut Conversation)

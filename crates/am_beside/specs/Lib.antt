@@ -1,3 +1,4 @@
+pub mod Comings
 pub mod Heard
 pub mod News
 pub mod Reading

@@ -10,6 +10,7 @@ use Rattle.am_gate.specs.Gates.{Way}
 use Rattle.am_http.specs.Sessions.{Standing}
 use Rattle.am_instance.specs.InstanceStates.{InstanceState}
 use Rattle.am_living.specs.Talking.{IsTakenUp}
+use Rattle.am_member.specs.Lives.{IsPagingEvent}
 
 -- a connection for which this is to be done
 abbrev pub talk_with : Way → Standing → Work → Talk
@@ -21,7 +22,7 @@ pub list_taken_up : (way : Way) (session : Standing) (work left : Work) (old new
     KeepsBy making (saying_in left) next.saying → IsTakenUp (waiting_in work) old (talk_with way session work) new next
 list_taken_up way session work left old new next making emptied is same stays by =
     subst (λ (w : Work). IsTakenUp (waiting_in w) old (talk_with way session w) new next) is (record {
-      own = nothing_made old new same;
+      steps = nothing_made IsPagingEvent old new same;
       lasts = making_lasts making (talk_with way session (works.PendingReply making)) next refl
           (subst (λ (w : Work). Stays (talk_with way session w) next) emptied stays)
           (subst (λ (w : Work). KeepsBy making (saying_in w) next.saying) emptied by);

@@ -1,21 +1,28 @@
 -- What is replied, one call after the other.
-use Rattle.std.proofs.Common.{◌≡◌, ◌≤◌, ◌∙◌, arith, [], None, inl, inr, refl, sym, subst, ap}
+use Rattle.std.proofs.Common.{◌≡◌, ◌⊎◌, ◌∙◌, ℕ, Bool, false, List, [], None, inl, inr, refl, sym, subst, ap}
 use Rattle.am_wire.specs.declared.unknown.Unknown.TheVariants.{Drop}
 use Rattle.am_matcher.specs.declared.dialect.Dialect.TheVariants.{Regex}
 use Rattle.am_api_silences.specs.Answers.{IsRefusalAnswer, WhenMade}
 use Rattle.am_api_silences.specs.PendingReply.{IsMadeOf, Makes}
 use Rattle.am_api_silences.specs.Replies.{Says, line_bytes}
-use Rattle.am_api_silences.specs.Table.{memory_line}
+use Rattle.am_api_silences.specs.Table.{memory_line, refused_line}
 use Rattle.am_api_silences.specs.declared.answering.PendingAnswer.{PendingAnswer}
 use Rattle.am_api_silences.specs.declared.pending_reply.PendingReply.{PendingReply}
 use Rattle.am_api_silences.specs.declared.replies.ReplyBytes.{ReplyBytes}
 use Rattle.am_api_silences.specs.declared.replies.ReplyBytes.TheVariants.{Own, Fixed}
-use Rattle.am_http.specs.Lines.{RefusalLine, line_seen}
+use Rattle.am_http.specs.Hosts.{line_of_foreign}
+use Rattle.am_http.specs.Lines.{RefusalLine, line_of, line_seen, told_to}
+use Rattle.am_http.specs.Sessions.{Standing}
+use Rattle.am_http.specs.declared.cause.Cause.TheVariants.{BadFilter}
+use Rattle.am_http.specs.declared.hosts.Foreign.{Foreign}
+use Rattle.am_http.specs.declared.hosts.Foreign.TheVariants.{Host, Origin}
 use Rattle.am_http.specs.declared.refusal.Refusal.{Refusal}
 use Rattle.am_instance.specs.InstanceStates.{InstanceState}
 use Rattle.am_dialogue.proofs.Resting.{stays_same}
-use Rattle.am_dialogue.specs.Talks.{IsClosed, IsLine, IsOwed, IsReplyTo, Keeps, KeepsBy, KeepsGone, Lasts, Owed, Rests, Saying, Stays, Talk, WaitsNoMore, gone_of, said_next}
+use Rattle.am_dialogue.specs.Talks.{IsClosed, IsLine, IsOwed, IsOwnLine, IsScreenedBy, OwnCause, IsReplyTo, Keeps, KeepsBy, KeepsGone, Lasts, Owed, Rests, Saying, Stays, Talk, WaitsNoMore, gone_of, own_line, said_next}
 use Rattle.am_dialogue.specs.Talks.Owed.{Line, Reply, Other}
+use Rattle.am_dialogue.specs.Talks.OwnCause.{IsForeign, NotReady, StateTooLarge, FilterTooLarge, PatternTooLarge, NotKept, OutOfMemory}
+use Rattle.am_silence.specs.declared.error.SilenceError.TheVariants.{BadPattern}
 use Rattle.am_dialogue.specs.Talks.Saying.{Silent, Making, Elsewhere, Held, Out}
 
 pub keeps_same : (old new : Saying) → new ≡ old → Keeps old new
@@ -52,18 +59,53 @@ pub keeps_line : (reply : ReplyBytes) (old new : Saying) → new ≡ said_next r
 keeps_line reply old new is line = keeps_on old (said_next reply old) new
     (record { owed = λ owed was. next_owed owed reply old was (line_to owed reply line); gone = next_gone reply old }) (keeps_same _ new is)
 
+-- ---- the lines of a member's own refusals
+
+foreign_whole : (what : Foreign) (to_head : Bool) → record (line_of_foreign what to_head) { bare = false } ≡ line_of_foreign what false
+foreign_whole Host to_head = refl
+foreign_whole Origin to_head = refl
+
+own_whole : (cause : OwnCause) → record (own_line cause) { bare = false } ≡ own_line cause
+own_whole (IsForeign what) = foreign_whole what false
+own_whole NotReady = refl
+own_whole StateTooLarge = refl
+own_whole FilterTooLarge = refl
+own_whole PatternTooLarge = refl
+own_whole NotKept = refl
+own_whole OutOfMemory = refl
+
+-- a whole line for one of the causes
+pub told_own : (cause : OwnCause) (told : RefusalLine) → told ≡ own_line cause → IsOwnLine told
+told_own cause told is = (cause, subst (λ (l : RefusalLine). record l { bare = false } ≡ own_line cause) (sym is) (own_whole cause))
+
+-- the same line as it is told to a request with a method
+pub headed_own : (cause : OwnCause) (method : List ℕ) (given told : RefusalLine) → given ≡ own_line cause → told ≡ told_to method given → IsOwnLine told
+headed_own cause method given told is to =
+    (cause, subst (λ (l : RefusalLine). record l { bare = false } ≡ own_line cause) (sym to) (subst (λ (l : RefusalLine). record l { bare = false } ≡ own_line cause) (sym is) (own_whole cause)))
+
+-- the line of a request that is screened out
+pub screened_own : (session : Standing) (piece : List ℕ) (names : List (List ℕ)) (told : RefusalLine) → IsScreenedBy session piece names told → IsOwnLine told
+screened_own session piece names told (inl foreign) =
+    (IsForeign foreign.0, subst (λ (l : RefusalLine). record l { bare = false } ≡ line_of_foreign foreign.0 false) (sym foreign.3) (foreign_whole foreign.0 foreign.1))
+screened_own session piece names told (inr is) = told_own OutOfMemory told is
+
+-- the line of a request whose patterns take too much
+pub patterns_own : (told : RefusalLine) → (told ≡ line_of BadFilter) ⊎ (told ≡ refused_line BadPattern) → IsOwnLine told
+patterns_own told (inl is) = told_own FilterTooLarge told is
+patterns_own told (inr is) = told_own PatternTooLarge told is
+
 -- such a line is what a refusal is told by
-says_line : (line : RefusalLine) (reply : ReplyBytes) → 400 ≤ line.status → Says (λ bytes. bytes ≡ line_bytes line) reply → IsLine reply
-says_line line (Own bytes) refuses says = (line, refuses, says)
-says_line line (Fixed bytes) refuses says = (memory_line, grind arith, says)
+says_line : (line : RefusalLine) (reply : ReplyBytes) → IsOwnLine line → Says (λ bytes. bytes ≡ line_bytes line) reply → IsLine reply
+says_line line (Own bytes) own says = (line, own, says)
+says_line line (Fixed bytes) own says = (memory_line, (OutOfMemory, refl), says)
 
 -- (whatever an instance is, a refusal tells nothing of it)
 no_instance : InstanceState
 no_instance = record { config = record { members = []; place = 0; retention = 0; peer_timeout = 0; dialect = Regex; unknown = Drop }; silences = []; log = []; last = 0 }
 
 pub line_made : (refusal : Refusal) (begun : PendingAnswer) (reply : ReplyBytes) → ((stand : InstanceState) → WhenMade (λ answered. IsRefusalAnswer refusal stand answered stand) begun)
-    → 400 ≤ (line_seen refusal).status → IsMadeOf begun.making reply → IsLine reply
-line_made refusal begun reply refused refuses made = says_line (line_seen refusal) reply refuses (refused no_instance reply made).says
+    → IsOwnLine (line_seen refusal) → IsMadeOf begun.making reply → IsLine reply
+line_made refusal begun reply refused own made = says_line (line_seen refusal) reply own (refused no_instance reply made).says
 
 -- what it is finished with goes out
 pub by_reply : (making : PendingReply) (reply : ReplyBytes) (old new : Saying) → new ≡ said_next reply old → IsMadeOf making reply → KeepsBy making old new

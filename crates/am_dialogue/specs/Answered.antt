@@ -1,29 +1,47 @@
--- The results of what a connection said, and of the member's own steps.
-use Rattle.std.specs.Prelude.{◌≡◌, ◌⊎◌, ℕ, List, [], ◌∷◌, Option, None, Some}
+-- The results of what a connection said, and of steps that are no turns of one.
+use Rattle.std.specs.Prelude.{◌≡◌, ◌⊎◌, ℕ, List, [], ◌∷◌, Option, None, Some, Result}
 use Rattle.am_api_silences.specs.declared.pending_reply.PendingReply.{PendingReply}
 use Rattle.am_http.specs.Sessions.{Spoken, name_of}
+use Rattle.am_instance.specs.declared.event.Event.{Event}
+use Rattle.am_gossip.specs.declared.frame.Frame.{Frame}
+use Rattle.am_instance.specs.declared.event.Event.TheVariants as events
+use Rattle.am_instance.specs.declared.reply.Outcome.{Outcome}
+use Rattle.am_refusals.specs.declared.error.StepError.{StepError}
 use Rattle.am_instance.specs.InstanceStates.{InstanceState}
 use Rattle.am_instance.specs.Laws.{Happened}
 use Rattle.am_instance.specs.OneStep.{IsStep}
 use Rattle.am_member.specs.declared.session_answer.SessionAnswer.{SessionAnswer}
 use Rattle.am_member.specs.Exchanging.{IsSessionAnswer, left_at}
-use Rattle.am_member.specs.Lives.{IsOwnEvent}
+use Rattle.am_member.specs.Lives.{IsOwnEvent, IsPagingEvent}
 use Rattle.am_member.specs.Sparing.{spared}
 use Rattle.am_dialogue.specs.Talks.{Closes, IsElsewhere, IsRequest, Keeps, KeepsBy, KeepsGone, Saying, Talk, WaitsNoMore}
 use Rattle.am_dialogue.specs.Talks.Saying.{Silent}
 
--- ---- the member's own steps
+-- ---- steps that are no turns of a connection
 
--- The steps are the member's own, one after another.
-abbrev pub AreOwnSteps : InstanceState → List Happened → InstanceState → Type 0
-AreOwnSteps old [] new = new ≡ old
-AreOwnSteps old (step ∷ steps) new =
-    IsOwnEvent step.event × IsStep old step.event step.now step.answer step.left × AreOwnSteps step.left steps new
+-- The steps are of such events, one after another.
+abbrev pub AreStepsOf : (Event → Type 0) → InstanceState → List Happened → InstanceState → Type 0
+AreStepsOf IsSuch old [] new = new ≡ old
+AreStepsOf IsSuch old (step ∷ steps) new =
+    IsSuch step.event × IsStep old step.event step.now step.answer step.left × AreStepsOf IsSuch step.left steps new
 
--- No steps but the member's own were made.
-pub record ByItself (old new : InstanceState) : Type 0 where
+-- No steps but those of such events were made.
+pub record MakesOnly (IsSuch : Event → Type 0) (old new : InstanceState) : Type 0 where
   pub steps : List Happened
-  pub made : AreOwnSteps old steps new
+  pub made : AreStepsOf IsSuch old steps new
+
+-- No steps were made but those that a member makes by itself.
+abbrev pub ByItself : InstanceState → InstanceState → Type 0
+ByItself = MakesOnly IsOwnEvent
+
+-- The step of the frame that came from the Alertmanager at a place was made, if one came, and nothing else.
+abbrev pub IsStepOfFrame : Option (ℕ × Frame) → InstanceState → InstanceState → Type 0
+IsStepOfFrame None old new = new ≡ old
+IsStepOfFrame (Some came) old new = (now : ℕ) × (answer : Result Outcome StepError) × IsStep old (events.Frame came.0 came.1) now answer new
+
+-- No steps were made but those for a program that sends pages.
+abbrev pub ForPages : InstanceState → InstanceState → Type 0
+ForPages = MakesOnly IsPagingEvent
 
 -- ---- the results of what was said
 
@@ -55,10 +73,10 @@ pub record IsRefused (old : InstanceState) (saying : Saying) (new : InstanceStat
   pub same : new ≡ old
   pub line : Keeps saying saying'
 
--- It is a request that isn't about silences: nothing was done but the member's own steps, and nothing more went out.
+-- It is a request that isn't about silences: nothing was done but steps for a program that sends pages, and nothing more went out.
 pub record IsElsewhereDone (said : Spoken) (old : InstanceState) (saying : Saying) (new : InstanceState) (saying' : Saying) : Type 0 where
   pub elsewhere : IsElsewhere said
-  pub own : ByItself old new
+  pub steps : ForPages old new
   pub gone : KeepsGone saying saying'
 
 -- No more is heard: what was said is refused, or isn't about silences.

@@ -1,16 +1,21 @@
 -- A connection in a member's life: the progress of its gate and its session, what it said that waits, and what is replied.
-use Rattle.std.specs.Prelude.{◌≡◌, ◌⊎◌, ◌+◌, ◌-◌, ◌≤◌, ◌++◌, ℕ, min, List, [], length, take, drop, Option, Some, None, Err, ⊤}
+use Rattle.std.specs.Prelude.{◌≡◌, ◌⊎◌, ◌+◌, ◌-◌, ◌++◌, ℕ, min, Bool, false, List, [], length, take, drop, codes, Option, Some, None, Err, ⊤}
 use Rattle.am_api_silences.specs.Events.{IsCall}
 use Rattle.am_api_silences.specs.PendingReply.{IsMadeOf, Makes}
 use Rattle.am_api_silences.specs.Replies.{bytes_of, line_bytes}
+use Rattle.am_api_silences.specs.Table.{refused_line}
 use Rattle.am_api_silences.specs.declared.pending_reply.PendingReply.{PendingReply}
 use Rattle.am_api_silences.specs.declared.replies.ReplyBytes.{ReplyBytes}
 use Rattle.am_gate.specs.Gates.{Way, challenge_left, challenge_sent}
-use Rattle.am_http.specs.Lines.{RefusalLine}
-use Rattle.am_http.specs.declared.cause.Cause.TheVariants.{NoSuchPath}
+use Rattle.am_http.specs.Hosts.{line_of_foreign}
+use Rattle.am_http.specs.Lines.{RefusalLine, line, line_of}
+use Rattle.am_http.specs.declared.cause.Cause.TheVariants.{BadFilter, Memory, NoSuchPath}
+use Rattle.am_http.specs.declared.hosts.Foreign.{Foreign}
+use Rattle.am_http.specs.declared.hosts.Screened.TheVariants.{Foreign as ForeignTo}
 use Rattle.am_http.specs.declared.request.Read.{Read}
 use Rattle.am_http.specs.declared.request.Read.TheVariants.{Whole}
-use Rattle.am_http.specs.Sessions.{Spoken, Standing, name_of, over, spoken}
+use Rattle.am_http.specs.Sessions.{Screens, Spoken, Standing, name_of, over, spoken}
+use Rattle.am_silence.specs.declared.error.SilenceError.TheVariants.{BadPattern}
 use Rattle.am_dialogue.specs.declared.conversation.Conversation.{Conversation}
 use Rattle.am_dialogue.specs.declared.conversation.Work.{Work}
 use Rattle.am_dialogue.specs.declared.conversation.Work.TheVariants as works
@@ -41,14 +46,51 @@ abbrev pub sent_on : ℕ → Saying → Saying
 sent_on count (Out reply written) = Out reply (written + count)
 sent_on count saying = saying
 
+-- what is replied, once it waits for no commit any more
+abbrev pub released : Saying → Saying
+released (Held reply) = Out reply 0
+released saying = saying
+
 -- A whole reply goes out, unless one does already.
 abbrev pub said_next : ReplyBytes → Saying → Saying
 said_next reply (Out other written) = Out other written
 said_next reply _ = Out reply 0
 
--- The reply is the line of a refusal: its status is at least 400.
+-- why a member answers a line in place of a step's reply: the request names a host or an origin that isn't the member's; it
+-- waited for the first pull, and waits no longer; there is no room for its post; its patterns take too much, in a filter or in a
+-- post; what it changed isn't kept on disk; or memory ran out
+pub data OwnCause : Type 0 where
+  IsForeign : Foreign → OwnCause
+  NotReady : OwnCause
+  StateTooLarge : OwnCause
+  FilterTooLarge : OwnCause
+  PatternTooLarge : OwnCause
+  NotKept : OwnCause
+  OutOfMemory : OwnCause
+
+-- the line for each of them
+abbrev pub own_line : OwnCause → RefusalLine
+own_line (IsForeign what) = line_of_foreign what false
+own_line NotReady = line 503 (codes "not ready")
+own_line StateTooLarge = line 500 (codes "state too large")
+own_line FilterTooLarge = line_of BadFilter
+own_line PatternTooLarge = refused_line BadPattern
+own_line NotKept = line 500 (codes "held, but not kept on disk")
+own_line OutOfMemory = line_of Memory
+
+-- The line tells such a cause; of the reply to a HEAD only its head is sent.
+abbrev pub IsOwnLine : RefusalLine → Type 0
+IsOwnLine told = (cause : OwnCause) × (record told { bare = false } ≡ own_line cause)
+
+-- The reply is such a line.
 abbrev pub IsLine : ReplyBytes → Type 0
-IsLine reply = (line : RefusalLine) × (400 ≤ line.status) × (bytes_of reply ≡ line_bytes line)
+IsLine reply = (told : RefusalLine) × IsOwnLine told × (bytes_of reply ≡ line_bytes told)
+
+-- The line says that what comes with this piece names a host or an origin that is none of these, or that memory ran out.
+abbrev pub IsScreenedBy : Standing → List ℕ → List (List ℕ) → RefusalLine → Type 0
+IsScreenedBy session piece names told =
+    ((what : Foreign) × (to_head : Bool) × Screens session piece names (ForeignTo what to_head) × (told ≡ line_of_foreign what to_head))
+    ⊎ (told ≡ line_of Memory)
 
 -- what a connection is owed: nothing but such a line; the reply that its step has begun, or a line; or any reply to a request
 -- that isn't about silences

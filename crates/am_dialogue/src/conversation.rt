@@ -3,10 +3,11 @@
 ghost use Rattle.std.specs.Prelude.{◌≡◌, ◌≤◌, [], drop, length, take, true, Some, None, IfSome};
 ghost use Rattle.am_api_silences.specs.Replies.{bytes_of};
 ghost use Rattle.am_gate.specs.Gates.{before};
+ghost use Rattle.am_http.specs.Hosts.{texts};
 ghost use Rattle.am_http.specs.Lines.{line_seen};
 ghost use Rattle.am_http.specs.Sessions.{fresh, nothing, spoken};
 ghost use Rattle.am_dialogue.specs.Answered.{SaysBy};
-ghost use Rattle.am_dialogue.specs.Talks.{Closes, IsClosed, IsRequest, Keeps, KeepsBy, KeepsGone, Lasts, Rests, Stays, pending_in, pending_of, said_next, sent_in, sent_on, talk_of};
+ghost use Rattle.am_dialogue.specs.Talks.{Closes, IsClosed, IsOwnLine, IsRequest, IsScreenedBy, Keeps, KeepsBy, KeepsGone, Lasts, Rests, Stays, pending_in, pending_of, released, said_next, sent_in, sent_on, talk_of};
 ghost use Rattle.am_dialogue.specs.Talks.Saying.{Silent};
 
 use crate::counting::{Account, Census};
@@ -191,7 +192,8 @@ impl Conversation {
     /// Returns the refusal of a request that names a host or a site other than this member's, now that the next piece has come.
     pub fn screen(&mut self, piece: &[u8], hosts: &[&str]) -> Option<Refusal>
         ensures same { talk_of self.new ≡ talk_of self.old }
-        ensures refused { IfSome result (λ refusal. 400 ≤ (line_seen refusal).status) }
+        // PROMISE: A request is turned away as foreign only if it names a host or an origin that isn't the member's.
+        ensures refused { IfSome result (λ refusal. IsScreenedBy self.old.session piece.now (texts hosts.now) (line_seen refusal)) }
     {
         if self.is_screened {
             return None;
@@ -218,7 +220,7 @@ impl Conversation {
 
     /// Answers a request with the line of a refusal, whatever it asks for, and hears no more.
     pub fn refuse(&mut self, alloc: Global, refusal: &Refusal)
-        ensures refused { 400 ≤ (line_seen refusal.now).status → IsClosed (talk_of self.old) (talk_of self.new) }
+        ensures refused { IsOwnLine (line_seen refusal.now) → IsClosed (talk_of self.old) (talk_of self.new) }
         ensures closes { Closes (talk_of self.old) (talk_of self.new) }
         ensures gone { KeepsGone (talk_of self.old).saying (talk_of self.new).saying }
     {
@@ -312,7 +314,9 @@ impl Conversation {
 
     /// Has the reply that waited for a commit go out; `is_kept` says whether the commit has kept everything.
     pub fn release(&mut self, alloc: Global, is_kept: bool)
-        ensures { Lasts (talk_of self.old) (talk_of self.new) }
+        ensures lasts { Lasts (talk_of self.old) (talk_of self.new) }
+        // PROMISE: A reply that waited for a commit which kept everything goes out as it is.
+        ensures kept { is_kept ≡ true → (talk_of self.new).saying ≡ released (talk_of self.old).saying }
     {
         match mem::replace(&mut self.work, Work::Nothing) {
             Work::HeldBack(held) if is_kept || !held.is_change => self.say(held.reply),

@@ -54,12 +54,12 @@ owns_append (Own step ∷ ds) es first more = (first.0, owns_append ds es first.
 of_owns : (n : ℕ) (ds : List LifeDeed) → AreOf n ds → OwnsItsOwn ds
 of_owns n [] of = tt
 of_owns n (Served turn ∷ ds) of = of_owns n ds of.1
-of_owns n (Own step ∷ ds) of = (of.0, of_owns n ds of.1)
+of_owns n (Own step ∷ ds) of = (inr of.0, of_owns n ds of.1)
 
 own_owns : (ds : List LifeDeed) → AreOwn ds → OwnsItsOwn ds
 own_owns [] own = tt
 own_owns (Served turn ∷ ds) own = absurd own
-own_owns (Own step ∷ ds) own = (own.0, own_owns ds own.1)
+own_owns (Own step ∷ ds) own = (inl own.0, own_owns ds own.1)
 
 -- ---- a number, and another
 
@@ -91,7 +91,7 @@ others_stay n m (Served turn ∷ ds) standings of away =
     (rest.0 ∙ chosen_not m turn.connection _ (standings m) off, chosen_not m turn.connection _ _ off ∙ rest.1)
 others_stay n m (Own step ∷ ds) standings of away = others_stay n m ds standings of.1 away
 
-pub own_stay : (m : ℕ) (ds : List LifeDeed) (standings : ℕ → Standing) → AreOwn ds → (standings_in standings ds m ≡ standings m) × (turns_of m ds ≡ [])
+own_stay : (m : ℕ) (ds : List LifeDeed) (standings : ℕ → Standing) → AreOwn ds → (standings_in standings ds m ≡ standings m) × (turns_of m ds ≡ [])
 own_stay m [] standings own = (refl, refl)
 own_stay m (Served turn ∷ ds) standings own = absurd own
 own_stay m (Own step ∷ ds) standings own = own_stay m ds standings own.1

@@ -6,7 +6,7 @@ use Rattle.std.proofs.lemmas.Bool.{cases_order}
 use Rattle.std.proofs.lemmas.Option.{none-some}
 use Rattle.am_dialogue.proofs.Sayings.{keeps_same}
 use Rattle.am_dialogue.proofs.Steps.{nothing_made}
-use Rattle.am_dialogue.specs.Answered.{AreOwnSteps, ByItself, IsAnswered, IsKept, IsLeft, IsTaken}
+use Rattle.am_dialogue.specs.Answered.{AreStepsOf, ByItself, ForPages, IsAnswered, IsKept, IsLeft, IsTaken}
 use Rattle.am_dialogue.specs.Answered.{SaysBy}
 use Rattle.am_dialogue.specs.Talks.{AsksElsewhere, Idles, IsClosed, IsElsewhere, IsOwed, IsRequest, Keeps, Lasts, Owed, Saying, Talk, WaitsNoMore, gone_of, sent_in, sent_on}
 use Rattle.am_dialogue.specs.Talks.Owed.{Line, Reply}
@@ -25,6 +25,7 @@ use Rattle.am_http.specs.declared.request.Read.TheVariants.{More, Whole, Refused
 use Rattle.am_http.specs.declared.session.fault.SessionFault.{SessionFault}
 use Rattle.am_http.specs.Sessions.{Feeds, Greets, Hears as HearsPiece, IsAsked, IsGreeted, IsHeard as IsHeardStream, LacksMemory, Says, SaysEnd, Spoken, Standing, heard, name_of, nothing}
 use Rattle.am_http.specs.Sessions.Standing.{fresh, InRequest, InGreeting, InFrames, over}
+use Rattle.am_instance.specs.declared.event.Event.{Event}
 use Rattle.am_instance.specs.InstanceStates.{InstanceState}
 use Rattle.am_instance.specs.Laws.{Happened}
 use Rattle.am_api_silences.specs.Replies.{bytes_of as reply_bytes}
@@ -33,7 +34,7 @@ use Rattle.am_api_silences.specs.declared.replies.ReplyBytes.{ReplyBytes}
 use Rattle.am_member.specs.declared.session_answer.SessionAnswer.{SessionAnswer}
 use Rattle.am_member.specs.Exchanging.{AreStepped, IsSessionAnswer, left_at}
 use Rattle.am_member.specs.Incoming.{SoFar, no_effects, so_far}
-use Rattle.am_member.specs.Lives.{Came, Deed as LifeDeed, IsGreetedBy, IsLife, Tells, Turn, bytes_in, bytes_of, turns_of}
+use Rattle.am_member.specs.Lives.{Came, Deed as LifeDeed, IsGreetedBy, IsLife, IsOwnEvent, IsPagingEvent, Tells, Turn, bytes_in, bytes_of, standings_in, turns_of}
 use Rattle.am_member.specs.Lives.Came.{Heard, Fed as FedAnyhow, AtEnd, Opened}
 use Rattle.am_member.specs.Lives.Deed.{Served, Own}
 use Rattle.am_member.specs.Sparing.{spared}
@@ -49,9 +50,9 @@ use Rattle.am_seal.specs.declared.seal.SealError.{SealError}
 use Rattle.am_seal.specs.declared.sequence.Sequence.{Sequence}
 use Rattle.am_seal.specs.Sequences.{after, first_in}
 use Rattle.am_living.specs.Living.{AreOf, AreOwn, LivesOn, Passed, nothing_passed, passed_on}
-use Rattle.am_living.specs.Talking.{AreFed, HasAskedElsewhere, Does, HasAsked, IsAlone, IsDone, IsEnded, IsFed, IsFront, IsHeard, IsInAccord, IsLetIn, IsMeantFor, IsReplied, IsSent, IsTakenUp, fresh_talk, owed_after, owed_by, owed_on}
+use Rattle.am_living.specs.Talking.{AreFed, HasAskedElsewhere, Does, HasAsked, IsDone, IsEnded, IsFed, IsForPages, IsFront, IsHeard, IsInAccord, IsLetIn, IsMeantFor, IsReplied, IsSent, IsStill, IsTakenUp, fresh_talk, owed_after, owed_by, owed_on}
 use Rattle.am_living.proofs.Fronts.{asked_then, front_bound, front_ends, front_on, front_then, gate_fronts, gone_then, order_then}
-use Rattle.am_living.proofs.Lived.{chosen_is, own_stay}
+use Rattle.am_living.proofs.Lived.{chosen_is}
 
 -- ---- a request ends what is heard
 
@@ -232,19 +233,19 @@ left_keeps said old new talk talk' silent left = elim left.done [
   | inr done ↦ no_request _ said silent (elsewhere_asked said done.elsewhere)
 ]
 
-left_own : (said : Spoken) (old new : InstanceState) (talk talk' : Talk) → IsLeft said old talk new talk' → ByItself old new
-left_own said old new talk talk' left = elim left.done [ inl refused ↦ nothing_made old new refused.same | inr done ↦ done.own ]
+left_own : (said : Spoken) (old new : InstanceState) (talk talk' : Talk) → IsLeft said old talk new talk' → ForPages old new
+left_own said old new talk talk' left = elim left.done [ inl refused ↦ nothing_made IsPagingEvent old new refused.same | inr done ↦ done.steps ]
 
 silent_alone : (fault : Option SessionFault) (said : Spoken) (old new : InstanceState) (talk talk' : Talk) → said ≡ heard [] fault → talk.waiting ≡ None →
-    IsAnswered said old talk new talk' → IsAlone old talk new talk'
+    IsAnswered said old talk new talk' → IsForPages old talk new talk'
 silent_alone fault said old new talk talk' says none (inl taken) = record {
-  own = nothing_made old new (exchanged_nothing (name_of talk.session) taken.bits taken.now fault old new taken.answer
+  steps = nothing_made IsPagingEvent old new (exchanged_nothing (name_of talk.session) taken.bits taken.now fault old new taken.answer
       (subst (λ (s : Spoken). IsSessionAnswer (name_of talk.session) taken.bits taken.now (spared s) old new taken.answer) says taken.exchanged));
   lasts = taken_lasts said old new talk talk' (request_of said _ says) none taken;
 }
 silent_alone fault said old new talk talk' says none (inr (inl kept)) = no_request _ said (request_of said _ says) kept.request
 silent_alone fault said old new talk talk' says none (inr (inr left)) = record {
-  own = left_own said old new talk talk' left;
+  steps = left_own said old new talk talk' left;
   lasts = inr (record {
     way = left.closes.way;
     session = left.closes.session;
@@ -255,37 +256,42 @@ silent_alone fault said old new talk talk' says none (inr (inr left)) = record {
 
 -- ---- deeds
 
--- steps by itself, as deeds
+-- steps that are no turns, as deeds
 abbrev own_deeds : List Happened → List LifeDeed
 own_deeds [] = []
 own_deeds (step ∷ steps) = Own step ∷ own_deeds steps
 
-own_of : (n : ℕ) (old : InstanceState) (steps : List Happened) (new : InstanceState) → AreOwnSteps old steps new → AreOf n (own_deeds steps)
+own_of : (n : ℕ) (old : InstanceState) (steps : List Happened) (new : InstanceState) → AreStepsOf IsPagingEvent old steps new → AreOf n (own_deeds steps)
 own_of n old [] new made = tt
 own_of n old (step ∷ steps) new made = (made.0, own_of n step.left steps new made.2)
 
-own_are : (old : InstanceState) (steps : List Happened) (new : InstanceState) → AreOwnSteps old steps new → AreOwn (own_deeds steps)
+own_are : (old : InstanceState) (steps : List Happened) (new : InstanceState) → AreStepsOf IsOwnEvent old steps new → AreOwn (own_deeds steps)
 own_are old [] new made = tt
 own_are old (step ∷ steps) new made = (made.0, own_are step.left steps new made.2)
 
-own_life : (standings : ℕ → Standing) (old : InstanceState) (steps : List Happened) (new : InstanceState) → AreOwnSteps old steps new → IsLife standings old (own_deeds steps) new
-own_life standings old [] new same = same
-own_life standings old (step ∷ steps) new made = (made.1, own_life standings step.left steps new made.2)
+own_life : (Is : Event → Type 0) (standings : ℕ → Standing) (old : InstanceState) (steps : List Happened) (new : InstanceState) → AreStepsOf Is old steps new →
+    IsLife standings old (own_deeds steps) new
+own_life Is standings old [] new same = same
+own_life Is standings old (step ∷ steps) new made = (made.1, own_life Is standings step.left steps new made.2)
+
+steps_stay : (m : ℕ) (steps : List Happened) (standings : ℕ → Standing) → (standings_in standings (own_deeds steps) m ≡ standings m) × (turns_of m (own_deeds steps) ≡ [])
+steps_stay m [] standings = (refl, refl)
+steps_stay m (step ∷ steps) standings = steps_stay m steps standings
 
 -- what a member does by itself is for no connection
 pub acts_alone : (old new : InstanceState) → ByItself old new → (deeds : List LifeDeed) × AreOwn deeds × ((standings : ℕ → Standing) → IsLife standings old deeds new)
 acts_alone old new own =
-    (own_deeds own.steps, own_are old own.steps new own.made, λ standings. own_life standings old own.steps new own.made)
+    (own_deeds own.steps, own_are old own.steps new own.made, λ standings. own_life IsOwnEvent standings old own.steps new own.made)
 
 -- a part of a life, behind which this is in accord
 module _ (connection : ℕ) (standings : ℕ → Standing) (old new : InstanceState) (turns : List Turn) where
-  alone : ByItself old new → (P : Standing → List Turn → Type 0) → P (standings connection) turns → LivesOn connection standings old new turns P
+  alone : ForPages old new → (P : Standing → List Turn → Type 0) → P (standings connection) turns → LivesOn connection standings old new turns P
   alone own P accord =
-      let stay = own_stay connection (own_deeds own.steps) standings (own_are old own.steps new own.made) in
+      let stay = steps_stay connection own.steps standings in
       record {
         deeds = own_deeds own.steps;
         of = own_of connection old own.steps new own.made;
-        life = own_life standings old own.steps new own.made;
+        life = own_life IsPagingEvent standings old own.steps new own.made;
         accord = subst (λ (s : Standing). P s (turns ++ turns_of connection (own_deeds own.steps))) (sym stay.0)
             (subst (λ (l : List Turn). P (standings connection) l) (sym (ap (λ (l : List Turn). turns ++ l) stay.1 ∙ append-nil turns)) accord);
       }
@@ -511,7 +517,7 @@ module _ (connection : ℕ) (standings : ℕ → Standing) (old new : InstanceSt
   kept_lives comes kept =
       let session : talk'.session ≡ talk.session = ap (λ (t : Talk). t.session) kept.waits in
       let silent : talk'.saying ≡ Silent = ap (λ (t : Talk). t.saying) kept.waits in
-      alone connection standings old new turns (nothing_made old new kept.same) (IsInAccord talk' passed) (record {
+      alone connection standings old new turns (nothing_made IsPagingEvent old new kept.same) (IsInAccord talk' passed) (record {
         front = comes.front;
         gone = comes.gone ∙ ap (λ (s : Saying). comes.front ++ gone_of s) (comes.silent ∙ sym silent);
         asked = front_on talk.way talk'.way talk.session talk'.session passed.fed comes.front (ap (λ (t : Talk). t.way) kept.waits) (inl session) comes.asked;
@@ -796,12 +802,15 @@ module _ (connection : ℕ) (standings : ℕ → Standing) (old new : InstanceSt
   abbrev fed_more : List ℕ → Passed
   fed_more piece = both (passed.fed ++ piece) passed.gone
 
-  alone_lives : IsInAccord talk passed (standings connection) turns → IsAlone old talk new talk' → OnBehind passed
-  alone_lives accord is = alone connection standings old new turns is.own (IsInAccord talk' passed) (lasts_in_accord passed (standings connection) turns talk talk' accord is.lasts)
+  alone_lives : IsInAccord talk passed (standings connection) turns → IsForPages old talk new talk' → OnBehind passed
+  alone_lives accord is = alone connection standings old new turns is.steps (IsInAccord talk' passed) (lasts_in_accord passed (standings connection) turns talk talk' accord is.lasts)
+
+  still_lives : IsInAccord talk passed (standings connection) turns → IsStill old talk new talk' → OnBehind passed
+  still_lives accord is = alone_lives accord (record { steps = nothing_made IsPagingEvent old new is.same; lasts = is.lasts })
 
   screened_lives : (piece : List ℕ) → IsInAccord talk passed (standings connection) turns → IsHeard talk passed.fed (standings connection) turns → new ≡ old → IsClosed talk talk' →
       OnBehind (fed_more piece)
-  screened_lives piece accord is same closes = alone connection standings old new turns (nothing_made old new same) (IsInAccord talk' (fed_more piece)) (record {
+  screened_lives piece accord is same closes = alone connection standings old new turns (nothing_made IsPagingEvent old new same) (IsInAccord talk' (fed_more piece)) (record {
     front = accord.front;
     gone = accord.gone ∙ ap (λ (l : List ℕ). accord.front ++ l) (sym closes.saying.gone);
     asked = front_ends talk.way talk'.way talk.session talk'.session passed.fed piece accord.front closes.way
@@ -855,7 +864,7 @@ module _ (connection : ℕ) (standings : ℕ → Standing) (old new : InstanceSt
       }) let_in.answered
   let_in_lives lock piece accord is quiet let_in front (inr silent) =
       let alone_ = silent_alone silent.fault let_in.told.said old new (behind_gate let_in.way let_in.session) talk' silent.says is.waiting let_in.answered in
-      alone connection standings old new turns alone_.own (IsInAccord talk' (fed_more piece))
+      alone connection standings old new turns alone_.steps (IsInAccord talk' (fed_more piece))
       (lasts_in_accord (fed_more piece) (standings connection) turns (behind_gate let_in.way let_in.session) talk'
       (record { front = accord.front; gone = accord.gone; asked = front; order = inr (ap gone_of quiet); stands = silent_standing piece let_in.told.said let_in.way let_in.session is quiet silent silent.stands }) alone_.lasts)
 
@@ -902,7 +911,7 @@ module _ (connection : ℕ) (standings : ℕ → Standing) (old new : InstanceSt
   ]
 
   sent_lives : (bytes : List ℕ) → IsInAccord talk passed (standings connection) turns → IsSent bytes old talk new talk' → OnBehind (both passed.fed (passed.gone ++ bytes))
-  sent_lives bytes accord call = alone connection standings old new turns (nothing_made old new call.same) (IsInAccord talk' (both passed.fed (passed.gone ++ bytes)))
+  sent_lives bytes accord call = alone connection standings old new turns (nothing_made IsPagingEvent old new call.same) (IsInAccord talk' (both passed.fed (passed.gone ++ bytes)))
       (subst (λ (t : Talk). IsInAccord t (both passed.fed (passed.gone ++ bytes)) (standings connection) turns) (sym call.sent) (record {
         front = front_then bytes talk passed.fed accord.front passed.gone accord.gone accord.asked accord.order call.first;
         gone = gone_then bytes talk passed.fed accord.front passed.gone accord.gone accord.asked accord.order call.first;
@@ -920,10 +929,10 @@ module _ (connection : ℕ) (standings : ℕ → Standing) (old new : InstanceSt
   does_lives lock Ended accord call = nothing_more (ended_lives accord call)
   does_lives lock Resumed accord call = nothing_more (resumed_lives accord call)
   does_lives lock (Sent bytes) accord call = subst OnBehind (passed_same _ _ _ _ (sym (append-nil passed.fed)) (ap (λ (l : List ℕ). passed.gone ++ l) (sym (append-nil bytes)))) (sent_lives bytes accord call)
-  does_lives lock Released accord call = nothing_more (alone_lives accord call)
+  does_lives lock Released accord call = nothing_more (still_lives accord call)
   does_lives lock CameDue accord call = nothing_more (alone_lives accord call)
-  does_lives lock Hurried accord call = nothing_more (alone_lives accord call)
-  does_lives lock (BrokenOff broken) accord call = nothing_more (alone_lives accord call)
+  does_lives lock Hurried accord call = nothing_more (still_lives accord call)
+  does_lives lock (BrokenOff broken) accord call = nothing_more (still_lives accord call)
 
 -- a connection over which nothing passed is in accord
 pub fresh_in_accord : (talk : Talk) → talk ≡ fresh_talk → IsInAccord talk nothing_passed fresh []
@@ -978,8 +987,8 @@ module _ {S : Type 0} (instance_of : S → InstanceState) (acts : S → S → Ty
       → ((s : S) (peer : ℕ) (bytes : List ℕ) (s' : S) → asks s peer bytes s' → instance_of s' ≡ instance_of s)
       → (s s' : S) → IsCall acts loses answers gives offers asks s s' → ByItself (instance_of s) (instance_of s')
   call_alone acted lost answered given offered asked s s' (inl call) = acted s s' call
-  call_alone acted lost answered given offered asked s s' (inr (inl call)) = nothing_made (instance_of s) (instance_of s') (lost s call.0 call.1 s' call.2)
-  call_alone acted lost answered given offered asked s s' (inr (inr (inl call))) = nothing_made (instance_of s) (instance_of s') (answered s call.0 call.1 s' call.2)
-  call_alone acted lost answered given offered asked s s' (inr (inr (inr (inl call)))) = nothing_made (instance_of s) (instance_of s') (given s call.0 call.1 call.2 s' call.3)
-  call_alone acted lost answered given offered asked s s' (inr (inr (inr (inr (inl call))))) = nothing_made (instance_of s) (instance_of s') (offered s call.0 call.1 s' call.2)
-  call_alone acted lost answered given offered asked s s' (inr (inr (inr (inr (inr call))))) = nothing_made (instance_of s) (instance_of s') (asked s call.0 call.1 s' call.2)
+  call_alone acted lost answered given offered asked s s' (inr (inl call)) = nothing_made IsOwnEvent (instance_of s) (instance_of s') (lost s call.0 call.1 s' call.2)
+  call_alone acted lost answered given offered asked s s' (inr (inr (inl call))) = nothing_made IsOwnEvent (instance_of s) (instance_of s') (answered s call.0 call.1 s' call.2)
+  call_alone acted lost answered given offered asked s s' (inr (inr (inr (inl call)))) = nothing_made IsOwnEvent (instance_of s) (instance_of s') (given s call.0 call.1 call.2 s' call.3)
+  call_alone acted lost answered given offered asked s s' (inr (inr (inr (inr (inl call))))) = nothing_made IsOwnEvent (instance_of s) (instance_of s') (offered s call.0 call.1 s' call.2)
+  call_alone acted lost answered given offered asked s s' (inr (inr (inr (inr (inr call))))) = nothing_made IsOwnEvent (instance_of s) (instance_of s') (asked s call.0 call.1 s' call.2)

@@ -1,8 +1,8 @@
 -- The history of a loop, as a member's life.
-use Rattle.std.specs.Prelude.{◌≡◌, ◌==◌, ℕ, ◌+◌, ◌<◌, ◌≤◌, List, [], ◌∷◌, ◌++◌, Option, Some, ⊤, if◌then◌else◌}
+use Rattle.std.specs.Prelude.{◌≡◌, ◌⊎◌, ◌==◌, ℕ, ◌+◌, ◌<◌, ◌≤◌, List, [], ◌∷◌, ◌++◌, Option, Some, ⊤, if◌then◌else◌}
 use Rattle.am_http.specs.Sessions.{Standing, fresh}
 use Rattle.am_instance.specs.InstanceStates.{InstanceState}
-use Rattle.am_member.specs.Lives.{Deed as LifeDeed, IsLife, IsOwnEvent, Turn, standings_in, turns_of}
+use Rattle.am_member.specs.Lives.{Deed as LifeDeed, IsLife, IsOwnEvent, IsPagingEvent, Turn, standings_in, turns_of}
 use Rattle.am_member.specs.Lives.Deed.{Served, Own}
 use Rattle.am_reactor.specs.Deeds.{Deed}
 use Rattle.am_reactor.specs.History.{Happening, Line, fed_in, out_in}
@@ -51,11 +51,11 @@ passed_by count numbers passed (happening ∷ happenings) =
 
 -- ---- what a member does, as its life
 
--- The deeds are those of one connection, and steps that the member made by itself.
+-- The deeds are turns of one connection, and steps for a program that sends pages.
 abbrev pub AreOf : ℕ → List LifeDeed → Type 0
 AreOf connection [] = ⊤
 AreOf connection (Served turn ∷ deeds) = (turn.connection ≡ connection) × AreOf connection deeds
-AreOf connection (Own step ∷ deeds) = IsOwnEvent step.event × AreOf connection deeds
+AreOf connection (Own step ∷ deeds) = IsPagingEvent step.event × AreOf connection deeds
 
 -- The deeds are steps that the member made by itself.
 abbrev pub AreOwn : List LifeDeed → Type 0
@@ -63,11 +63,11 @@ AreOwn [] = ⊤
 AreOwn (Served turn ∷ deeds) = ⊥
 AreOwn (Own step ∷ deeds) = IsOwnEvent step.event × AreOwn deeds
 
--- All that a member made by itself are such steps.
+-- All steps that are no turns are such steps: by itself, or for a program that sends pages.
 abbrev pub OwnsItsOwn : List LifeDeed → Type 0
 OwnsItsOwn [] = ⊤
 OwnsItsOwn (Served turn ∷ deeds) = OwnsItsOwn deeds
-OwnsItsOwn (Own step ∷ deeds) = IsOwnEvent step.event × OwnsItsOwn deeds
+OwnsItsOwn (Own step ∷ deeds) = (IsOwnEvent step.event ⊎ IsPagingEvent step.event) × OwnsItsOwn deeds
 
 -- A call that is for no session is steps that the member made by itself.
 pub record ActsAlone {S : Type 0} (instance_of : S → InstanceState) (service service' : S) : Type 0 where
@@ -75,7 +75,8 @@ pub record ActsAlone {S : Type 0} (instance_of : S → InstanceState) (service s
   pub own : AreOwn deeds
   pub life : (standings : ℕ → Standing) → IsLife standings (instance_of service) deeds (instance_of service')
 
--- Turns of one connection, after these, and steps by itself lead the instance on, after which the connection is in accord.
+-- Turns of one connection, after these, and steps for a program that sends pages lead the instance on, after which the connection is
+-- in accord.
 pub record LivesOn (connection : ℕ) (standings : ℕ → Standing) (old new : InstanceState) (turns : List Turn) (IsInAccord : Standing → List Turn → Type 0) : Type 0 where
   pub deeds : List LifeDeed
   pub of : AreOf connection deeds
@@ -88,7 +89,7 @@ module _ {S T : Type 0} (instance_of : S → InstanceState) (accords : T → Pas
     pub same : instance_of service' ≡ instance_of service
     pub accord : accords session nothing_passed fresh []
 
-  -- A call for a session is turns of its connection, whichever that is, and steps that the member made by itself.
+  -- A call for a session is turns of its connection, whichever that is, and steps for a program that sends pages.
   abbrev pub DoesForOne : S → T → Deed → S → T → Type 0
   DoesForOne service session deed service' session' =
       (connection : ℕ) (standings : ℕ → Standing) (passed : Passed) (turns : List Turn) → accords session passed (standings connection) turns
@@ -118,7 +119,7 @@ count_by count [] = count
 count_by count (happening ∷ happenings) = count_by (count_after count happening) happenings
 
 -- The history of a loop is the life of a member: turns of its connections, each by its number, and steps that the member made by
--- itself, lead its instance from where it stood to where it stands.
+-- itself or for a program that sends pages, lead its instance from where it stood to where it stands.
 pub record IsLived {S T C : Type 0} (instance_of : S → InstanceState) (accords : T → Passed → Standing → List Turn → Type 0) (is_so : Passed → Standing → List Turn → Type 0)
     (first : S) (happenings : List Happening) (service : S) (lines : ℕ → Option (Line T C)) : Type 0 where
   pub deeds : List LifeDeed

@@ -3,7 +3,7 @@ use Rattle.std.specs.Prelude.{◌≡◌, ◌≢◌, ◌⊎◌, ◌≤◌, ℕ, L
 use Rattle.am_api_silences.specs.Replies.{bytes_of as reply_bytes}
 use Rattle.am_api_silences.specs.declared.pending_reply.PendingReply.{PendingReply}
 use Rattle.am_api_silences.specs.declared.replies.ReplyBytes.{ReplyBytes}
-use Rattle.am_dialogue.specs.Answered.{ByItself, IsAnswered}
+use Rattle.am_dialogue.specs.Answered.{ForPages, IsAnswered}
 use Rattle.am_dialogue.specs.Talks.{IsClosed, IsElsewhere, IsOwed, IsReplyTo, IsRequest, Lasts, Owed, Talk, gone_of, pending_in, sent_in}
 use Rattle.am_dialogue.specs.Talks.Owed.{Line, Reply}
 use Rattle.am_dialogue.specs.Talks.Saying.{Silent}
@@ -153,9 +153,14 @@ pub record IsEnded (old : InstanceState) (talk : Talk) (new : InstanceState) (ta
   pub says : SaysEnd talk.session said
   pub answered : IsAnswered said old (record talk { session = over (name_of talk.session) }) new talk'
 
--- Nothing comes of the call but what the member does by itself.
-pub record IsAlone (old : InstanceState) (talk : Talk) (new : InstanceState) (talk' : Talk) : Type 0 where
-  pub own : ByItself old new
+-- Nothing comes of the call but steps for a program that sends pages.
+pub record IsForPages (old : InstanceState) (talk : Talk) (new : InstanceState) (talk' : Talk) : Type 0 where
+  pub steps : ForPages old new
+  pub lasts : Lasts talk talk'
+
+-- Nothing comes of the call for the instance.
+pub record IsStill (old : InstanceState) (talk : Talk) (new : InstanceState) (talk' : Talk) : Type 0 where
+  pub same : new ≡ old
   pub lasts : Lasts talk talk'
 
 -- These bytes went out, the first of those that waited.
@@ -166,7 +171,7 @@ pub record IsSent (bytes : List ℕ) (old : InstanceState) (talk : Talk) (new : 
 
 -- What waits is taken up, if something does.
 abbrev pub IsTakenUp : Option Spoken → InstanceState → Talk → InstanceState → Talk → Type 0
-IsTakenUp None old talk new talk' = IsAlone old talk new talk'
+IsTakenUp None old talk new talk' = IsForPages old talk new talk'
 IsTakenUp (Some said) old talk new talk' = IsRequest said → IsAnswered said old (record talk { waiting = None }) new talk'
 
 -- A call for a connection changes the instance and the connection in this way, behind this lock or none.
@@ -175,7 +180,7 @@ Does lock (Fed piece) old talk new talk' = IsFed lock piece old talk new talk'
 Does lock Ended old talk new talk' = IsEnded old talk new talk'
 Does lock Resumed old talk new talk' = IsTakenUp talk.waiting old talk new talk'
 Does lock (Sent bytes) old talk new talk' = IsSent bytes old talk new talk'
-Does lock Released old talk new talk' = IsAlone old talk new talk'
-Does lock CameDue old talk new talk' = IsAlone old talk new talk'
-Does lock Hurried old talk new talk' = IsAlone old talk new talk'
-Does lock (BrokenOff broken) old talk new talk' = IsAlone old talk new talk'
+Does lock Released old talk new talk' = IsStill old talk new talk'
+Does lock CameDue old talk new talk' = IsForPages old talk new talk'
+Does lock Hurried old talk new talk' = IsStill old talk new talk'
+Does lock (BrokenOff broken) old talk new talk' = IsStill old talk new talk'

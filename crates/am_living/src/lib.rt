@@ -18,7 +18,8 @@ use std::io::{self, Input};
 use std::net::Net;
 use std::rt::Clock;
 
-/// A service that is a member: its calls are turns of its connections, and steps that it makes by itself.
+/// A service that is a member: its calls are turns of its connections, steps for programs that send pages, and steps that it makes
+/// by itself.
 pub trait Living: Service {
     /// The instance that the member holds.
     ghost instance_of: { Self → InstanceState };
@@ -47,7 +48,8 @@ pub trait Living: Service {
 }
 
 /// Serves the connections of listeners as [`am_reactor::run`] does. Its history is a life of the member: turns of the
-/// connections, each by its number, and steps that the member made by itself, one after another. The links to peers and the
+/// connections, each by its number, and steps that the member made for programs that send pages or by itself: for a connection only
+/// the former, and for none only Ticks and frames of Alertmanagers that it asked. The links to peers and the
 /// exchanges with them are as [`am_reactor::run`] says.
 ///
 /// # Errors

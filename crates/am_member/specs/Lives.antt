@@ -90,13 +90,14 @@ abbrev pub standings_after : (ℕ → Standing) → Turn → ℕ → Standing
 standings_after standings turn = λ connection.
     if connection == turn.connection then left_at turn.answer.fault turn.heard else standings connection
 
--- a deed of a member: a turn of a connection; or a step by itself, as a Tick, that no connection makes
+-- a deed of a member: a turn of a connection; or a step that is no turn: one by itself, as a Tick, or one for a program that sends
+-- pages
 pub data Deed : Type 0 where
   Served : Turn → Deed
   Own : Happened → Deed
 
--- A member's life: its deeds one after the other. A turn goes on from where its own connection and the instance stand, and a step
--- by itself from where the instance stands.
+-- A member's life: its deeds one after the other. A turn goes on from where its own connection and the instance stand, and another
+-- step from where the instance stands.
 abbrev pub IsLife : (ℕ → Standing) → InstanceState → List Deed → InstanceState → Type 0
 IsLife standings old [] new = new ≡ old
 IsLife standings old (Served turn ∷ deeds) new =
@@ -121,15 +122,19 @@ abbrev pub said_in : List Turn → Spoken
 said_in [] = nothing
 said_in (turn ∷ turns) = and_then turn.said (said_in turns)
 
--- What a member does by itself: a collection, what is for a program that sends pages, and a frame of a replica that it asked. It
--- posts and ends nothing by itself.
+-- A member makes such a step by itself: a collection, or one of a frame in the answer of an Alertmanager that it asked.
 abbrev pub IsOwnEvent : Event → Type 0
 IsOwnEvent events.Tick = ⊤
-IsOwnEvent (events.Mutes labels) = ⊤
-IsOwnEvent (events.Decide group_key receiver firing resolved repeat send_resolved) = ⊤
-IsOwnEvent (events.Notified group_key receiver firing resolved repeat) = ⊤
 IsOwnEvent (events.Frame sender frame) = ⊤
 IsOwnEvent _ = ⊥
+
+-- A member makes such a step for a program that sends pages: which silences mute an alert, whether a group is to be notified, and
+-- that it was.
+abbrev pub IsPagingEvent : Event → Type 0
+IsPagingEvent (events.Mutes labels) = ⊤
+IsPagingEvent (events.Decide group_key receiver firing resolved repeat send_resolved) = ⊤
+IsPagingEvent (events.Notified group_key receiver firing resolved repeat) = ⊤
+IsPagingEvent _ = ⊥
 
 -- the standings of the connections after a life
 abbrev pub standings_in : (ℕ → Standing) → List Deed → ℕ → Standing

@@ -2,7 +2,7 @@
 //! to be notified is given only when the Alertmanagers beside the member have been heard since the question, or their time is
 //! over.
 
-ghost use Rattle.am_dialogue.specs.Answered.{ByItself};
+ghost use Rattle.am_dialogue.specs.Answered.{ForPages};
 ghost use Rattle.am_dialogue.specs.Talks.{Closes, KeepsGone, Rests, talk_of};
 
 use super::counting::{count_decided, count_decision, is_to_notify};
@@ -76,7 +76,7 @@ fn ask_on<U: Keeper>(
     instance: &mut Instance,
     deciding: Deciding,
 ) -> Result<Reached, Refusal>
-    ensures { ByItself instance.old instance.new }
+    ensures { ForPages instance.old instance.new }
 {
     let begun = upkeep.now();
     let most = stretch_over(instance.silences().len());
@@ -145,7 +145,7 @@ impl<U: Keeper> Desk<'_, U> {
         dialogue: &mut Conversation,
         said: SessionOutput,
     )
-        ensures own { ByItself instance.old instance.new }
+        ensures steps { ForPages instance.old instance.new }
         ensures closes { Closes (talk_of dialogue.old) (talk_of dialogue.new) }
         ensures gone { KeepsGone (talk_of dialogue.old).saying (talk_of dialogue.new).saying }
     {
@@ -174,7 +174,7 @@ impl<U: Keeper> Desk<'_, U> {
 
     /// Answers a request, or keeps it until its turn. A long one isn't read before its place in the line has come.
     fn take_up(&mut self, instance: &mut Instance, request: Request) -> Called
-        ensures { ByItself instance.old instance.new }
+        ensures { ForPages instance.old instance.new }
     {
         let due = Due {
             request,
@@ -192,7 +192,7 @@ impl<U: Keeper> Desk<'_, U> {
 
     /// Answers a request, or keeps it waiting for its place in the line if it is long.
     fn answer_in_line(&mut self, instance: &mut Instance, due: Due) -> Called
-        ensures { ByItself instance.old instance.new }
+        ensures { ForPages instance.old instance.new }
     {
         if is_long(&due.request) {
             Called::Later(CallProgress::Due(due))
@@ -203,7 +203,7 @@ impl<U: Keeper> Desk<'_, U> {
 
     /// Begins to answer a request whose place in the line has come.
     pub(super) fn answer_due(&mut self, instance: &mut Instance, due: Due) -> Called
-        ensures { ByItself instance.old instance.new }
+        ensures { ForPages instance.old instance.new }
     {
         if due.stage == Stage::Unread {
             self.answer_unread(instance, due.request, due.limit)
@@ -219,7 +219,7 @@ impl<U: Keeper> Desk<'_, U> {
         request: Request,
         limit: Option<Instant>,
     ) -> Called
-        ensures { ByItself instance.old instance.new }
+        ensures { ForPages instance.old instance.new }
     {
         match asked_of(self.alloc, &request) {
             Ok(Asked::Decide(question)) => match turn_of(&self.upkeep, instance, &question) {
@@ -251,7 +251,7 @@ impl<U: Keeper> Desk<'_, U> {
 
     /// Answers a request whose moment has come, or puts it into the line. If the member stops, the request is turned away.
     fn take_turn(&mut self, instance: &mut Instance, turn: Turn) -> Called
-        ensures { ByItself instance.old instance.new }
+        ensures { ForPages instance.old instance.new }
     {
         self.turns.end();
         if self.stops {
@@ -263,7 +263,7 @@ impl<U: Keeper> Desk<'_, U> {
 
     /// Continues a call whose moment has come. If the member stops, the call is turned away.
     pub(super) fn take_moment(&mut self, instance: &mut Instance, call: CallProgress) -> Called
-        ensures { ByItself instance.old instance.new }
+        ensures { ForPages instance.old instance.new }
     {
         match call {
             CallProgress::Turn(turn) => self.take_turn(instance, turn),
@@ -276,7 +276,7 @@ impl<U: Keeper> Desk<'_, U> {
 
     /// Begins to answer a request that no longer waits.
     fn answer_in_turn(&mut self, instance: &mut Instance, due: Due) -> Called
-        ensures { ByItself instance.old instance.new }
+        ensures { ForPages instance.old instance.new }
     {
         let Due {
             request,
@@ -306,7 +306,7 @@ impl<U: Keeper> Desk<'_, U> {
         unheard: Option<Request>,
         limit: Option<Instant>,
     ) -> Called
-        ensures { ByItself instance.old instance.new }
+        ensures { ForPages instance.old instance.new }
     {
         let alerts = question.message.alerts.len() as u64;
         self.upkeep.figures().step(Step::Mutes, alerts);
@@ -328,7 +328,7 @@ impl<U: Keeper> Desk<'_, U> {
         instance: &mut Instance,
         deliberation: Deliberation,
     ) -> Called
-        ensures { ByItself instance.old instance.new }
+        ensures { ForPages instance.old instance.new }
     {
         let Deliberation {
             deciding,
@@ -360,7 +360,7 @@ impl<U: Keeper> Desk<'_, U> {
         deciding: Deciding,
         unheard: Option<Request>,
     ) -> Called
-        ensures { ByItself instance.old instance.new }
+        ensures { ForPages instance.old instance.new }
     {
         let now = self.upkeep.next_moment(instance.last());
         let turn_seconds = seconds_in(self.upkeep.options().peer_timeout);
@@ -378,7 +378,7 @@ impl<U: Keeper> Desk<'_, U> {
         unheard: Option<Request>,
         now: Moment,
     ) -> Called
-        ensures { ByItself instance.old instance.new }
+        ensures { ForPages instance.old instance.new }
     {
         let turn_seconds = seconds_in(self.upkeep.options().peer_timeout);
         let reply = deciding.decide(self.alloc, instance, Timing { now, turn_seconds });
@@ -422,7 +422,7 @@ impl<U: Keeper> Desk<'_, U> {
 
     /// Logs what was notified if the log has room for this many bytes.
     fn log_in_room(&mut self, instance: &mut Instance, notice: Notice, bytes: u64) -> Called
-        ensures { ByItself instance.old instance.new }
+        ensures { ForPages instance.old instance.new }
     {
         if !self.upkeep.has_room_for_notice(instance, bytes) {
             return Called::Refused(Refusal::new(500, "state too large"));
@@ -433,7 +433,7 @@ impl<U: Keeper> Desk<'_, U> {
 
     /// Logs what was notified.
     fn log(&mut self, instance: &mut Instance, notice: Notice) -> Called
-        ensures { ByItself instance.old instance.new }
+        ensures { ForPages instance.old instance.new }
     {
         let now = self.upkeep.next_moment(instance.last());
         let PendingAnswer { making, outbox } = log_notice(self.alloc, instance, notice, now);

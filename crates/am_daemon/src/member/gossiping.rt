@@ -1,12 +1,9 @@
 //! The exchanges with the Alertmanagers beside a member: it takes what they answer, a stretch in each turn of the loop, and
 //! sends them what they lack.
 
-ghost use Rattle.std.specs.Prelude.{ℕ, Result};
-ghost use Rattle.am_dialogue.specs.Answered.{ByItself};
-ghost use Rattle.am_instance.specs.OneStep.{IsStep};
-ghost use Rattle.am_instance.specs.declared.event.Event.TheVariants as events;
-ghost use Rattle.am_instance.specs.declared.reply.Outcome.{Outcome};
-ghost use Rattle.am_refusals.specs.declared.error.StepError.{StepError};
+ghost use Rattle.std.specs.Prelude.{Some, option_map};
+ghost use Rattle.am_beside.specs.Comings.{frame_in};
+ghost use Rattle.am_dialogue.specs.Answered.{ByItself, IsStepOfFrame};
 
 use super::clerk::Clerk;
 use super::desk::Desk;
@@ -25,7 +22,7 @@ use std::time::{Duration, Instant};
 
 /// Makes the step of a frame that came from the replica at a place.
 fn take_from<U: Keeper>(upkeep: &mut U, instance: &mut Instance, place: usize, frame: Frame)
-    ensures { (now : ℕ) × (answer : Result Outcome StepError) × IsStep instance.old (events.Frame place frame) now answer instance.new }
+    ensures { IsStepOfFrame (Some (place, frame)) instance.old instance.new }
 {
     let sender = place as Place;
     let now = upkeep.next_moment(instance.last());
@@ -47,9 +44,9 @@ fn take_from<U: Keeper>(upkeep: &mut U, instance: &mut Instance, place: usize, f
 }
 
 impl<U: Keeper> Desk<'_, U> {
-    /// Takes what came from a replica.
+    /// Takes what came from a replica: the step of its frame is made, if one came, and no other.
     fn take_came(&mut self, instance: &mut Instance, came: Came)
-        ensures { ByItself instance.old instance.new }
+        ensures { IsStepOfFrame (frame_in came) instance.old instance.new }
     {
         match came {
             Came::Nothing | Came::Stretch => {}
@@ -90,7 +87,7 @@ impl<U: Keeper> Desk<'_, U> {
 
     /// Takes the last frame of the replica at a place, which ends a first pull.
     fn take_last(&mut self, instance: &mut Instance, place: usize, frame: Option<Frame>)
-        ensures { ByItself instance.old instance.new }
+        ensures { IsStepOfFrame (option_map (λ came. (place, came)) frame) instance.old instance.new }
     {
         self.end_first_pull();
         if let Some(frame) = frame {

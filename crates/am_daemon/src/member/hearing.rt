@@ -1,10 +1,10 @@
 //! The consequences of what a connection said.
 
-ghost use Rattle.std.specs.Prelude.{◌≡◌, ◌≤◌, ℕ, IsTrue};
+ghost use Rattle.std.specs.Prelude.{◌≡◌, ℕ, IsTrue};
 ghost use Rattle.am_http.specs.Lines.{line_seen};
 ghost use Rattle.am_http.specs.Sessions.{name_of, spoken};
 ghost use Rattle.am_dialogue.specs.Answered.{IsAnswered, IsTaken, SaysBy};
-ghost use Rattle.am_dialogue.specs.Talks.{Closes, IsClosed, KeepsBy, Stays, talk_of};
+ghost use Rattle.am_dialogue.specs.Talks.{Closes, IsClosed, IsOwnLine, KeepsBy, Stays, talk_of};
 ghost use Rattle.am_member.specs.Exchanging.{IsSessionAnswer, left_at};
 
 use super::counting::count_said;
@@ -59,7 +59,7 @@ impl<U: Keeper> Desk<'_, U> {
 
     /// Refuses to hear a request that names a host or a site other than this member's.
     pub(super) fn refuse(&self, dialogue: &mut Conversation, refusal: &Refusal)
-        ensures { 400 ≤ (line_seen refusal.now).status → IsClosed (talk_of dialogue.old) (talk_of dialogue.new) }
+        ensures { IsOwnLine (line_seen refusal.now) → IsClosed (talk_of dialogue.old) (talk_of dialogue.new) }
     {
         dialogue.account.ask(Request::Other, self.upkeep.now());
         dialogue.refuse(self.alloc, refusal);

@@ -1,11 +1,11 @@
 //! Requests whose patterns are compiled before they are answered, one in each turn of the loop; and posts that there is no room
 //! for.
 
-ghost use Rattle.std.specs.Prelude.{◌≡◌, ◌≤◌, IfErr, IfOk, IfSome, IsTrue};
+ghost use Rattle.std.specs.Prelude.{◌≡◌, IfErr, IfOk, IfSome, IsTrue};
 ghost use Rattle.am_http.specs.Lines.{line_seen};
 ghost use Rattle.am_http.specs.Sessions.{spoken};
 ghost use Rattle.am_dialogue.specs.Answered.{IsAnswered};
-ghost use Rattle.am_dialogue.specs.Talks.{IsClosed, IsRequest, talk_of};
+ghost use Rattle.am_dialogue.specs.Talks.{IsClosed, IsOwnLine, IsRequest, talk_of};
 
 use super::desk::Desk;
 use am_api_silences::{Read, Refusal};
@@ -37,7 +37,7 @@ fn judging_of(
 ///
 /// The [`Refusal`] of the request.
 fn is_judged(judging: &mut Judging) -> Result<bool, Refusal>
-    ensures { IfErr result (λ refusal. 400 ≤ (line_seen refusal).status) }
+    ensures { IfErr result (λ refusal. IsOwnLine (line_seen refusal)) }
 {
     match judging.go_on() {
         Ok(Judged::More) => Ok(false),

@@ -1,7 +1,7 @@
 //! The work that waits for its place in the line, and continues there.
 
 ghost use Rattle.am_http.specs.Sessions.{spoken};
-ghost use Rattle.am_dialogue.specs.Answered.{ByItself, IsAnswered};
+ghost use Rattle.am_dialogue.specs.Answered.{ForPages, IsAnswered};
 ghost use Rattle.am_dialogue.specs.Talks.{KeepsGone, Lasts, Rests, talk_of};
 ghost use Rattle.am_living.specs.Talking.{IsTakenUp};
 
@@ -34,7 +34,7 @@ impl<U: Keeper> Desk<'_, U> {
         dialogue: &mut Conversation,
         call: CallProgress,
     )
-        ensures own { ByItself instance.old instance.new }
+        ensures steps { ForPages instance.old instance.new }
         ensures rests { Rests (talk_of dialogue.old) (talk_of dialogue.new) }
         ensures gone { KeepsGone (talk_of dialogue.old).saying (talk_of dialogue.new).saying }
     {
@@ -74,7 +74,7 @@ impl<U: Keeper> Desk<'_, U> {
 
     /// Answers a request whose moment has come.
     pub(super) fn go_on_in_turn(&mut self, instance: &mut Instance, dialogue: &mut Conversation)
-        ensures own { ByItself instance.old instance.new }
+        ensures steps { ForPages instance.old instance.new }
         ensures lasts { Lasts (talk_of dialogue.old) (talk_of dialogue.new) }
     {
         match mem::replace(&mut dialogue.work, Work::Nothing) {

@@ -6,5 +6,5 @@ use Rattle.am_daemon.proofs.member.clerk.Clerk.do_duties.Goals.{then-is_tick_due
 pub returns : goal.returns
 returns g c = elim c.if-is_tick_due.branch [
   | then-is_tick_due w ↦ rw w.instance-is w.tick.ensures
-  | else-is_tick_due w ↦ rw w.instance-is (nothing_made _ _ refl)
+  | else-is_tick_due w ↦ rw w.instance-is (nothing_made _ _ _ refl)
 ]
