@@ -1,6 +1,6 @@
 -- The faults of reading and of writing a row, as those of a call that does both.
-use Rattle.std.proofs.Common.{◌≡◌, ◌≢◌, ◌↔◌, ◌<◌, ◌≤◌, ℕ, List, [], ◌∷◌, ◌++◌, length, map, Bool, true, false, Option, Some, None, IfSome, Result, Err, inl, inr, refl, ap, ◌∙◌, append_assoc, arith}
-use Rattle.std.specs.Prelude.{Contains, IsPermutation, is_none}
+use Rattle.std.proofs.Common.{◌≡◌, ◌≢◌, ◌↔◌, ◌<◌, ◌≤◌, ℕ, List, [], ◌∷◌, ◌++◌, length, map, Bool, true, false, Option, Some, None, IfSome, Result, Ok, Err, inl, inr, refl, ap, ◌∙◌, append_assoc, arith}
+use Rattle.std.specs.Prelude.{Contains, IfErr, IsPermutation, is_none}
 use Rattle.std.proofs.lemmas.List.{map-append}
 use Rattle.std.specs.declared.cmp.Ordering.{Ordering}
 use Rattle.am_version_order.specs.Versions.{Version}
@@ -55,7 +55,7 @@ module _ {K X : Type 0} (seen : X → Version K) (cmp : K → K → Ordering) (r
   pub fold_within : (row : List ℕ) → IfSome start (λ input. IsFold seen cmp reads input row) → IfSome start (λ input. length input ≤ most) → IfSome start (λ input. IsFoldWithin seen cmp reads input row)
   fold_within row fold size = both_then _ _ _ (λ input one small. record { fold = one; size = small }) start fold size
 
-  pub fold_writing : {W : Type 0} (contents : W → Option (List ℕ)) (old new : W) (row : List ℕ) (e : SnapshotError)
+  fold_writing : {W : Type 0} (contents : W → Option (List ℕ)) (old new : W) (row : List ℕ) (e : SnapshotError)
       → IfSome start (λ input. IsFoldWithin seen cmp reads input row) → StopsSaving contents old new row e → (stopped e ≡ stopped TooLarge) ↔ (most < length row)
       → StopsFold seen cmp reads start left contents old new e
   fold_writing contents old new row (Write k) fold stop large = (row, stop.0, within (Write k) row (λ same. absurd cc) large, stop.1, fold)
@@ -64,6 +64,12 @@ module _ {K X : Type 0} (seen : X → Version K) (cmp : K → K → Ordering) (r
   fold_writing contents old new row (Read at) fold stop large = absurd stop
   fold_writing contents old new row (Wire e) fold stop large = absurd stop
   fold_writing contents old new row DuplicateKey fold stop large = absurd stop
+
+  pub fold_saving : {W : Type 0} (contents : W → Option (List ℕ)) (old new : W) (row : List ℕ) (result : Result ℕ SnapshotError)
+      → IfSome start (λ input. IsFoldWithin seen cmp reads input row) → IfErr result (StopsSaving contents old new row) → (result ≡ stopped TooLarge) ↔ (most < length row)
+      → IfErr result (StopsFold seen cmp reads start left contents old new)
+  fold_saving contents old new row (Ok written) fold stop large = tt
+  fold_saving contents old new row (Err e) fold stop large = fold_writing contents old new row e fold stop large
 
 -- whether nothing was found, and what was
 pub some_found : {X : Type 0} (o : Option X) (none : Bool) → none ≡ is_none o → none ≡ false → (w : X) × (o ≡ Some w)

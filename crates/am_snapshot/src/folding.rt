@@ -3,8 +3,6 @@
 ghost use Rattle.std.specs.Prelude.{◌≡◌, ◌≢◌, ◌≤◌, ℕ, List, length, IfOk, OnOk, IfErr, IfSome};
 ghost use Rattle.std.specs.Io.KnownBytes.{Appends};
 ghost use Rattle.am_wire.specs.Limits.{most};
-ghost use Rattle.am_wire.specs.Inputs.{AreMessages};
-ghost use Rattle.am_merge.specs.Views.{HoldsBest};
 ghost use Rattle.am_snapshot.specs.Folds.{IsFold, StopsFold, fold_fault};
 ghost use Rattle.am_snapshot.specs.declared.error.SnapshotError.TheVariants.{DuplicateKey};
 
@@ -30,7 +28,7 @@ pub fn fold<V: Version + Message, R: Read, W: Write>(
     alloc: Global,
     reader: &mut R,
     writer: &mut W,
-    now: Moment,
+    _now: Moment,
 ) -> Result<u64, FoldError>
     // PROMISE: A fold writes the last write of each key in its input.
     ensures row { IfOk result (λ written. (row : List ℕ) × (written ≡ length row) ×
@@ -43,8 +41,8 @@ pub fn fold<V: Version + Message, R: Read, W: Write>(
     ensures stopped { IfErr result (λ fault. StopsFold V.seen V.Key.cmp (V.reads Unknown.Drop) (R.remaining reader.old)
         (R.remaining reader.new) W.contents writer.old writer.new (fold_fault fault)) }
 {
-    match fold_held::<V, R, W>(alloc, Unknown::Drop, reader, writer, now) {
-        Ok(folded) => Ok(folded.written),
+    match fold_row::<V, R, W>(alloc, reader, writer) {
+        Ok(written) => Ok(written),
         Err(fault) => Err(fold_error(fault)),
     }
 }
@@ -64,40 +62,20 @@ fn fold_error(fault: SnapshotError) -> FoldError
     }
 }
 
-/// The result of a fold.
-#[derive(Drop)]
-pub struct Folded<V: Version> {
-    /// The number of bytes that went out.
-    pub written: u64,
-    /// The versions of the row.
-    pub held: Held<V>,
-}
-
-/// Folds as [`fold`] does, handling unknown fields as told, and returns the map too. A program that then ends may forget the
-/// map: freeing each version would take about a tenth of the time.
-///
-/// # Errors
-///
-/// Returns the errors of [`fold`], as [`SnapshotError`]s.
-pub fn fold_held<V: Version + Message, R: Read, W: Write>(
+/// Folds as [`fold`] does, and tells a fault as that of a snapshot.
+fn fold_row<V: Version + Message, R: Read, W: Write>(
     alloc: Global,
-    unknown: Unknown,
     reader: &mut R,
     writer: &mut W,
-    _now: Moment,
-) -> Result<Folded<V>, SnapshotError>
-    ensures row { IfOk result (λ folded. (row : List ℕ) × (folded.written ≡ length row) ×
+) -> Result<u64, SnapshotError>
+    ensures row { IfOk result (λ written. (row : List ℕ) × (written ≡ length row) ×
         Appends (W.contents writer.old) (W.contents writer.new) row ×
-        IfSome (R.remaining reader.old) (λ input. IsFold V.seen V.Key.cmp (V.reads unknown) input row)) }
+        IfSome (R.remaining reader.old) (λ input. IsFold V.seen V.Key.cmp (V.reads Unknown.Drop) input row)) }
     ensures size { OnOk result (IfSome (R.remaining reader.old) (λ input. length input ≤ most)) }
-    ensures room { IfOk result (λ folded. folded.written ≤ most) }
-    ensures best { IfOk result (λ folded. IfSome (R.remaining reader.old) (λ input.
-        (versions : List V) × AreMessages (V.reads unknown) input versions × HoldsBest V.seen versions folded.held)) }
-
-    ensures stopped { IfErr result (StopsFold V.seen V.Key.cmp (V.reads unknown) (R.remaining reader.old)
+    ensures room { IfOk result (λ written. written ≤ most) }
+    ensures stopped { IfErr result (StopsFold V.seen V.Key.cmp (V.reads Unknown.Drop) (R.remaining reader.old)
         (R.remaining reader.new) W.contents writer.old writer.new) }
 {
-    let held: Held<V> = take_row(alloc, unknown, reader)?;
-    let written = save(alloc, &held, writer)?;
-    Ok(Folded { written, held })
+    let held: Held<V> = take_row(alloc, Unknown::Drop, reader)?;
+    save(alloc, &held, writer)
 }

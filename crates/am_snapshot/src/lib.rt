@@ -14,11 +14,11 @@ mod saving;
 mod sorting;
 
 pub use error::{FoldError, SnapshotError};
-pub use folding::{Folded, fold, fold_held};
+pub use folding::fold;
 pub use in_memory::{row_bytes, row_length, row_length_within};
 pub use loading::{load, load_within};
 pub use loading_at_once::load_bytes;
 pub use pieces::{RowPiece, row_piece};
-pub use reading::take_row;
+pub use reading::{take_row, take_row_within};
 pub use saving::{save, save_within};
 pub use sorting::sort_row;

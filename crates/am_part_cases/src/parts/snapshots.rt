@@ -6,7 +6,7 @@ use am_nflog::MeshEntry;
 use am_report::write_view;
 use am_silence::MeshSilence;
 use am_snapshot::laws::what_is_saved_is_loaded;
-use am_snapshot::{SnapshotError, fold, fold_held, load, load_within, save, take_row};
+use am_snapshot::{SnapshotError, fold, load, load_within, save, take_row};
 use am_streams::send;
 use am_version_order::{Moment, Version};
 use am_wire::{MOST_MESSAGE_BYTES, Message, Unknown};
@@ -113,9 +113,7 @@ fn done_with<V: Version + Message>(
     if call.verb == "fold" {
         return match unknown {
             Unknown::Drop => Ok(fold::<V, _, _>(alloc, reader, writer, call.now)?),
-            Unknown::Keep => Ok(
-                fold_held::<V, _, _>(alloc, unknown, reader, writer, call.now)?.written,
-            ),
+            Unknown::Keep => save(alloc, &take_row::<V, _>(alloc, unknown, reader)?, writer),
         };
     }
     let held: Held<V> = match unknown {
