@@ -54,7 +54,7 @@ HEAD = """# What is proved
 Every function is proved safe: it returns on every input, without undefined behaviour. Each row below is a promise, with the clause that says it. docs/promises.py writes this page. A *law* is a function that does nothing; its clauses hold for all values. [MODEL](MODEL.md) explains the words.
 
 - **Memory.** A call that allocates may answer `Memory` instead of what is promised.
-- **Bytes.** Clauses about readers and writers speak of known bytes, not of sockets or files.
+- **Bytes.** Clauses about readers and writers speak of known bytes, not of sockets or files. Those of the loop speak of what its streams noted: all that their two calls read and wrote.
 - **Calm** is a premise, and nothing that comes for free: a replica that is cut off for longer than the retention may no longer be calm.
 """
 
@@ -85,7 +85,7 @@ You have to trust the toolchain, the C library, the statements of the kit's crat
 - that the frames of a connection's pieces are those of all its bytes together: `connection` says it piece by piece;
 - that an unfinished head of over 64 fields is refused at once;
 - which canonical texts are kept as they came, or that `sort_row` refuses a row over 64 MiB;
-- that `SystemDisk` and `LogFile` make the calls that they note, and that bytes outside of a write stay;
+- that `SystemDisk` and `LogFile` make the calls that they note, and that bytes outside of a write stay; that `read` and `write` of `NotedStream` do, and nothing else reads from its socket or writes to it;
 - when an Alertmanager beside a member is asked next and what its messages say, that what comes for it is taken, or that each silence that isn't sent is reported just once: two of them may share a mark;
 - when a clock is read, or that a stream whose other end has left says so;
 - how long an answer takes.

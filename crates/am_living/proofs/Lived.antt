@@ -10,6 +10,7 @@ use Rattle.am_reactor.specs.Deeds.{Deed, Did}
 use Rattle.am_reactor.specs.Deeds.Deed.{Fed, Ended, Sent, Resumed, Released, CameDue, Hurried, BrokenOff}
 use Rattle.am_reactor.specs.History.{Acts, AreSame, Happening, Happens, Line, Makes, fed_in, no_lines, out_in, with_line}
 use Rattle.am_reactor.specs.History.Happening.{Came, TurnedAway, Called, Thrown, Closed, Acted}
+use Rattle.am_reactor.specs.Streams.{Arrival}
 use Rattle.am_living.specs.Living.{Accords, ActsAlone, AreOf, AreOwn, BeginsFresh, DoesForOne, IsLived, LivesOn, OwnsItsOwn, Passed, StandsUnder, count_after, count_by, nothing_passed, numbers_after, numbers_by, passed_after, passed_by, passed_on}
 
 -- ---- lives one after the other
@@ -204,7 +205,7 @@ module _ {S T C : Type 0} (instance_of : S → InstanceState) (accords : T → P
     (begins_so : (s : S) (t : T) (s' : S) → begins s t s' → BeginsFresh instance_of accords s t s')
     (acts_so : (s s' : S) → acts s s' → ActsAlone instance_of s s')
     (does_so : (s : S) (t : T) (d : Deed) (s' : S) (t' : T) → does s t d s' t' → DoesForOne instance_of accords s t d s' t')
-    (pending : T → List ℕ) (coming gone : C → Option (List ℕ)) where
+    (pending : T → List ℕ) (arrived : C → Arrival) (gone : C → List ℕ) where
   -- how a life goes on from where connections stand
   record GoesOn (count : ℕ) (numbers : ℕ → ℕ) (passed : ℕ → Passed) (standings : ℕ → Standing) (turns : ℕ → List Turn) (s s' : S) (new : ℕ → Option (Line T C)) : Type 0 where
     deeds : List LifeDeed
@@ -288,11 +289,11 @@ module _ {S T C : Type 0} (instance_of : S → InstanceState) (accords : T → P
       }
 
   happening_on : (h : Happening) (count : ℕ) (numbers : ℕ → ℕ) (passed : ℕ → Passed) (standings : ℕ → Standing) (turns : ℕ → List Turn) (s s' : S) (old new : ℕ → Option (Line T C))
-      → Makes does begins acts pending coming gone s old h s' new → Accords accords is_so count numbers passed standings turns old
+      → Makes does begins acts pending arrived gone s old h s' new → Accords accords is_so count numbers passed standings turns old
       → GoesOn (count_after count h) (numbers_after count numbers h) (passed_after numbers passed h) standings turns s s' new
   happening_on (Came key) count numbers passed standings turns s s' old new m a =
       let b = begins_so s m.0.session s' m.2 in
-      record { deeds = []; life = b.same; own = tt; accord = came_on key count numbers passed standings turns m.0 old new b.accord m.4 a }
+      record { deeds = []; life = b.same; own = tt; accord = came_on key count numbers passed standings turns m.0 old new b.accord m.5 a }
   happening_on TurnedAway count numbers passed standings turns s s' old new m a = record {
     deeds = [];
     life = (begins_so s m.0.0 s' m.0.1).same;
@@ -333,7 +334,7 @@ module _ {S T C : Type 0} (instance_of : S → InstanceState) (accords : T → P
       }
 
   happenings_on : (hs : List Happening) (count : ℕ) (numbers : ℕ → ℕ) (passed : ℕ → Passed) (standings : ℕ → Standing) (turns : ℕ → List Turn) (s s' : S)
-      (old new : ℕ → Option (Line T C)) → Happens does begins acts pending coming gone s old hs s' new → Accords accords is_so count numbers passed standings turns old
+      (old new : ℕ → Option (Line T C)) → Happens does begins acts pending arrived gone s old hs s' new → Accords accords is_so count numbers passed standings turns old
       → GoesOn (count_by count hs) (numbers_by count numbers hs) (passed_by count numbers passed hs) standings turns s s' new
   happenings_on [] count numbers passed standings turns s s' old new happens a = record {
     deeds = [];
@@ -355,7 +356,7 @@ module _ {S T C : Type 0} (instance_of : S → InstanceState) (accords : T → P
       }
 
   -- what happened from the beginning on is a life
-  pub history_lived : (hs : List Happening) (s s' : S) (new : ℕ → Option (Line T C)) → Happens does begins acts pending coming gone s no_lines hs s' new
+  pub history_lived : (hs : List Happening) (s s' : S) (new : ℕ → Option (Line T C)) → Happens does begins acts pending arrived gone s no_lines hs s' new
       → IsLived instance_of accords is_so s hs s' new
   history_lived hs s s' new happens =
       let all = happenings_on hs 0 (λ _. 0) (λ _. nothing_passed) (λ _. fresh) (λ _. []) s s' no_lines new happens

@@ -9,10 +9,10 @@ ghost use Rattle.am_member.specs.Lives.{Turn};
 ghost use Rattle.am_reactor.specs.Deeds.{Deed};
 ghost use Rattle.am_reactor.specs.History.{IsCall, Leads, Line, no_lines};
 ghost use Rattle.am_reactor.specs.Peered.{LoopGoesFromNone};
+ghost use Rattle.am_reactor.specs.Streams.{arrived_over, gone_over};
 ghost use Rattle.am_living.specs.Living.{ActsAlone, BeginsFresh, DoesForOne, IsLived, Passed, nothing_passed};
 
-use am_reactor::{Entrances, Limits, Peers, Service, Stream};
-use mio::net::TcpStream;
+use am_reactor::{Entrances, Limits, NotedStream, Peers, Service};
 use std::alloc::Global;
 use std::io::{self, Input};
 use std::net::Net;
@@ -64,11 +64,11 @@ pub fn run<S: Living, R: Net + Clock + Input>(
     limits: Limits,
 ) -> io::Result<()>
     // PROMISE: A member that the loop runs has lived a life: one list of steps, each connection's own bytes in order.
-    ensures lived { (left : ℕ → Option (Line S.Session TcpStream))
-        × (history : Leads S.does S.begins (IsCall S.acts S.loses S.answers S.gives S.offers S.asks) S.pending ⟦<TcpStream as Stream>⟧.coming ⟦<TcpStream as Stream>⟧.gone
+    ensures lived { (left : ℕ → Option (Line S.Session NotedStream))
+        × (history : Leads S.does S.begins (IsCall S.acts S.loses S.answers S.gives S.offers S.asks) S.pending arrived_over gone_over
         service.old no_lines service.new left)
         × IsLived S.instance_of S.accords S.is_so service.old history.happenings service.new left }
-    ensures peered { LoopGoesFromNone S.does S.begins S.acts S.pending ⟦<TcpStream as Stream>⟧.coming ⟦<TcpStream as Stream>⟧.gone S.loses S.answers S.gives S.offers S.asks service.old service.new }
+    ensures peered { LoopGoesFromNone S.does S.begins S.acts S.pending arrived_over gone_over S.loses S.answers S.gives S.offers S.asks service.old service.new }
 {
     am_reactor::run(alloc, rt, entrances, peers, service, limits)
 }

@@ -1,15 +1,15 @@
 -- Exchanges that go on, step by step, and one after the other.
 use Rattle.std.proofs.Common.{◌≡◌, ◌≢◌, ◌∙◌, ◌<◌, ap, sym, subst, refl, arith, ℕ, List, [], ◌∷◌, ◌++◌, length, take, drop, take-append-drop, append-nil, append_assoc, Option, None, Some, is_some, IsSome, IfSome, MatchOption, Result, Ok, Err, OnOk, OnErr, inl, inr}
-use Rattle.std.proofs.KnownBytes.{Consumes-nil, Consumes-trans}
 use Rattle.std.proofs.Math.Seq.{drop-nil}
 use Rattle.std.proofs.lemmas.Bool.{false≢true}
-use Rattle.std.specs.Io.KnownBytes.{Appends, Consumes, IsAtEnd}
 use Rattle.am_reactor.specs.declared.exchange.Exchange.{Exchange}
 use Rattle.am_reactor.specs.declared.exchanges.Exchanges.{Exchanges}
 use Rattle.am_reactor.specs.declared.fault.LinkFault.{LinkFault}
 use Rattle.am_reactor.specs.declared.fault.LinkFault.TheVariants.{Time}
 use Rattle.am_reactor.specs.Exchanges.{BreaksOff, ComesBack, Fails, GoesOn, IsDriven, IsHeard, IsTimedOut, IsTold, KeepsExchanges, OneByOne, exchange_with}
 use Rattle.am_reactor.specs.SendBuffer.{Empties}
+use Rattle.am_reactor.specs.Streams.{Arrival, HasEnded, Receives}
+use Rattle.am_reactor.proofs.Passing.{receives_none, receives_on}
 use Rattle.am_reactor.proofs.Sends.{empties_none, empties_on}
 
 -- ---- where a call fails or doesn't
@@ -33,24 +33,24 @@ err_then (Err e) f p = f p
 -- ---- what came back, read by read
 
 -- nothing came yet
-pub comes_none : (a : Option (List ℕ)) (x : List ℕ) → ComesBack a a x x
-comes_none a x = record { bytes = []; came = Consumes-nil a; behind = sym (append-nil x) }
+pub comes_none : (a : Arrival) (x : List ℕ) → ComesBack a a x x
+comes_none a x = record { bytes = []; came = receives_none a; behind = sym (append-nil x) }
 
 -- one read more
-pub comes_on : (a b c : Option (List ℕ)) (x y z : List ℕ) → ComesBack a b x y → ComesBack b c y z → ComesBack a c x z
+pub comes_on : (a b c : Arrival) (x y z : List ℕ) → ComesBack a b x y → ComesBack b c y z → ComesBack a c x z
 comes_on a b c x y z h t = record {
   bytes = h.bytes ++ t.bytes;
-  came = Consumes-trans a b c _ _ h.came t.came;
+  came = receives_on a b c _ _ h.came t.came;
   behind = t.behind ∙ (ap (λ l. l ++ t.bytes) h.behind ∙ append_assoc x h.bytes t.bytes);
 }
 
 -- one read more, of which these bytes are dropped
-pub breaks_off : (a b c : Option (List ℕ)) (x y z dropped : List ℕ) → ComesBack a b x y → Consumes b c dropped → z ≡ y → BreaksOff a c x z
-breaks_off a b c x y z dropped h came e = record { bytes = h.bytes; dropped = dropped; came = Consumes-trans a b c _ _ h.came came; behind = e ∙ h.behind }
+pub breaks_off : (a b c : Arrival) (x y z dropped : List ℕ) → ComesBack a b x y → Receives b c dropped → z ≡ y → BreaksOff a c x z
+breaks_off a b c x y z dropped h came e = record { bytes = h.bytes; dropped = dropped; came = receives_on a b c _ _ h.came came; behind = e ∙ h.behind }
 
 -- what came is kept, and then it fails
-pub breaks_off_whole : (a b : Option (List ℕ)) (x y : List ℕ) → ComesBack a b x y → BreaksOff a b x y
-breaks_off_whole a b x y h = breaks_off a b b x y y [] h (Consumes-nil b) refl
+pub breaks_off_whole : (a b : Arrival) (x y : List ℕ) → ComesBack a b x y → BreaksOff a b x y
+breaks_off_whole a b x y h = breaks_off a b b x y y [] h (receives_none b) refl
 
 -- ---- an exchange, step by step
 
@@ -66,23 +66,23 @@ behind_on (x ∷ more) rest w v n e h t some = e ∙ (ap (drop n) (h (some_item 
 taken_all : (n : ℕ) (waiting bytes : List ℕ) → waiting ≡ bytes → drop n waiting ≡ [] → take n waiting ≡ bytes
 taken_all n waiting bytes e none = sym (append-nil (take n waiting)) ∙ (ap (λ l. take n waiting ++ l) (sym none) ∙ (take-append-drop n waiting ∙ e))
 
-module _ {C : Type 0} (coming gone : C → Option (List ℕ)) where
+module _ {C : Type 0} (arrived : C → Arrival) (gone : C → List ℕ) where
   -- nothing was done yet
-  pub exchange_rests : (b : Exchange C) → GoesOn coming gone b b
+  pub exchange_rests : (b : Exchange C) → GoesOn arrived gone b b
   exchange_rests b = record {
     asked = empties_none (gone b.stream) b.buffer;
     more = [];
-    came = Consumes-nil (coming b.stream);
+    came = receives_none (arrived b.stream);
     answer = sym (append-nil b.answer.items);
     behind = λ some. absurd (some refl);
   }
 
   -- a step more
-  pub exchange_on : (a b c : Exchange C) → GoesOn coming gone a b → GoesOn coming gone b c → GoesOn coming gone a c
+  pub exchange_on : (a b c : Exchange C) → GoesOn arrived gone a b → GoesOn arrived gone b c → GoesOn arrived gone a c
   exchange_on a b c h t = record {
     asked = empties_on _ _ _ _ _ _ h.asked t.asked;
     more = h.more ++ t.more;
-    came = Consumes-trans (coming a.stream) (coming b.stream) (coming c.stream) _ _ h.came t.came;
+    came = receives_on (arrived a.stream) (arrived b.stream) (arrived c.stream) _ _ h.came t.came;
     answer = t.answer ∙ (ap (λ l. l ++ t.more) h.answer ∙ append_assoc a.answer.items h.more t.more);
     behind = behind_on h.more t.more b.buffer.waiting c.buffer.waiting t.asked.count t.asked.moved.rest h.behind t.behind;
   }
@@ -96,60 +96,60 @@ module _ {C : Type 0} (coming gone : C → Option (List ℕ)) where
 
   -- all that was to be asked went out, and more came
   pub step_heard : (a m b : Exchange C) (s : C) → m.stream ≡ a.stream → m.buffer ≡ a.buffer → m.answer ≡ a.answer → Empties (gone m.stream) (gone s) m.buffer b.buffer
-      → coming s ≡ coming m.stream → gone b.stream ≡ gone s → b.buffer.waiting ≡ [] → ComesBack (coming s) (coming b.stream) m.answer.items b.answer.items → GoesOn coming gone a b
+      → arrived s ≡ arrived m.stream → gone b.stream ≡ gone s → b.buffer.waiting ≡ [] → ComesBack (arrived s) (arrived b.stream) m.answer.items b.answer.items → GoesOn arrived gone a b
   step_heard a m b s stream buffer answer out unread unwritten all h = record {
     asked = asked_by a m b s stream buffer out unwritten;
     more = h.bytes;
-    came = subst (λ x. Consumes x (coming b.stream) h.bytes) (unread ∙ ap coming stream) h.came;
+    came = subst (λ x. Receives x (arrived b.stream) h.bytes) (unread ∙ ap arrived stream) h.came;
     answer = h.behind ∙ ap (λ v. v.items ++ h.bytes) answer;
     behind = λ _. all;
   }
 
   -- all that was to be asked went out, and the exchange fails while more comes
   pub step_broken : (a m b : Exchange C) (s : C) → m.stream ≡ a.stream → m.buffer ≡ a.buffer → m.answer ≡ a.answer → Empties (gone m.stream) (gone s) m.buffer b.buffer
-      → coming s ≡ coming m.stream → gone b.stream ≡ gone s → b.buffer.waiting ≡ [] → BreaksOff (coming s) (coming b.stream) m.answer.items b.answer.items → Fails coming gone a b
+      → arrived s ≡ arrived m.stream → gone b.stream ≡ gone s → b.buffer.waiting ≡ [] → BreaksOff (arrived s) (arrived b.stream) m.answer.items b.answer.items → Fails arrived gone a b
   step_broken a m b s stream buffer answer out unread unwritten all h = record {
     asked = asked_by a m b s stream buffer out unwritten;
     more = h.bytes;
     dropped = h.dropped;
-    came = subst (λ x. Consumes x (coming b.stream) (h.bytes ++ h.dropped)) (unread ∙ ap coming stream) h.came;
+    came = subst (λ x. Receives x (arrived b.stream) (h.bytes ++ h.dropped)) (unread ∙ ap arrived stream) h.came;
     answer = h.behind ∙ ap (λ v. v.items ++ h.bytes) answer;
     behind = λ _. all;
   }
 
   -- nothing is read yet
   pub step_asked : (a m b : Exchange C) → m.stream ≡ a.stream → m.buffer ≡ a.buffer → b.answer ≡ a.answer → Empties (gone m.stream) (gone b.stream) m.buffer b.buffer
-      → coming b.stream ≡ coming m.stream → GoesOn coming gone a b
+      → arrived b.stream ≡ arrived m.stream → GoesOn arrived gone a b
   step_asked a m b stream buffer answer out unread = record {
     asked = asked_by a m b b.stream stream buffer out refl;
     more = [];
-    came = subst (λ x. Consumes x (coming b.stream) []) (unread ∙ ap coming stream) (Consumes-nil (coming b.stream));
+    came = subst (λ x. Receives x (arrived b.stream) []) (unread ∙ ap arrived stream) (receives_none (arrived b.stream));
     answer = ap (λ v. v.items) answer ∙ sym (append-nil a.answer.items);
     behind = λ some. absurd (some refl);
   }
 
   -- nothing was dropped where it fails
-  pub fails_whole : (a b : Exchange C) → GoesOn coming gone a b → Fails coming gone a b
+  pub fails_whole : (a b : Exchange C) → GoesOn arrived gone a b → Fails arrived gone a b
   fails_whole a b h =
       let same : h.more ++ [] ≡ h.more = append-nil h.more in
       record {
         asked = h.asked;
         more = h.more;
         dropped = [];
-        came = subst (Consumes (coming a.stream) (coming b.stream)) (sym same) h.came;
+        came = subst (Receives (arrived a.stream) (arrived b.stream)) (sym same) h.came;
         answer = h.answer;
         behind = λ some. h.behind (λ e. some (same ∙ e));
       }
 
   -- a step that fails
-  pub exchange_fails : (a b c : Exchange C) → GoesOn coming gone a b → Fails coming gone b c → Fails coming gone a c
+  pub exchange_fails : (a b c : Exchange C) → GoesOn arrived gone a b → Fails arrived gone b c → Fails arrived gone a c
   exchange_fails a b c h t =
       let same : (h.more ++ t.more) ++ t.dropped ≡ h.more ++ (t.more ++ t.dropped) = append_assoc h.more t.more t.dropped in
       record {
         asked = empties_on _ _ _ _ _ _ h.asked t.asked;
         more = h.more ++ t.more;
         dropped = t.dropped;
-        came = subst (Consumes (coming a.stream) (coming c.stream)) (sym same) (Consumes-trans (coming a.stream) (coming b.stream) (coming c.stream) _ _ h.came t.came);
+        came = subst (Receives (arrived a.stream) (arrived c.stream)) (sym same) (receives_on (arrived a.stream) (arrived b.stream) (arrived c.stream) _ _ h.came t.came);
         answer = t.answer ∙ (ap (λ l. l ++ t.more) h.answer ∙ append_assoc a.answer.items h.more t.more);
         behind = λ some. behind_on h.more (t.more ++ t.dropped) b.buffer.waiting c.buffer.waiting t.asked.count t.asked.moved.rest h.behind t.behind (λ e. some (same ∙ e));
       }
@@ -158,30 +158,31 @@ module _ {C : Type 0} (coming gone : C → Option (List ℕ)) where
     -- what is said of an exchange with a peer, and of what stands there then
     abbrev Driven : S → S → Option (Exchange C) → Option (Exchange C) → Type 0
     Driven s s' was then = MatchOption was ((then ≡ None) × (s' ≡ s))
-        (λ before. (begun : Exchange C) → GoesOn coming gone begun before → IsHeard coming gone answers loses room peer begun s s' then)
+        (λ before. (begun : Exchange C) → GoesOn arrived gone begun before → IsHeard arrived gone answers loses room peer begun s s' then)
 
     -- all of an exchange is told, from its beginning on
-    tells_whole : (begun a : Exchange C) (s s' : S) → GoesOn coming gone begun a → a.buffer.waiting ≡ [] → (0 < room → IsAtEnd (coming a.stream)) → answers s peer a.answer.items s'
-        → IsTold coming gone answers loses room peer begun s s' a
+    tells_whole : (begun a : Exchange C) (s s' : S) → GoesOn arrived gone begun a → a.buffer.waiting ≡ [] → (0 < room → HasEnded (arrived a.stream)) → answers s peer a.answer.items s'
+        → IsTold arrived gone answers loses room peer begun s s' a
     tells_whole begun a s s' h asked ended told = record {
       asked = asked;
       ended = ended;
       told = told;
-      question = λ bytes b. subst (Appends (gone begun.stream) (gone a.stream)) (taken_all h.asked.count begun.buffer.waiting bytes b.waiting (sym h.asked.moved.rest ∙ asked)) h.asked.written;
-      answer = λ bytes b. subst (Consumes (coming begun.stream) (coming a.stream)) (sym (h.answer ∙ ap (λ l. l ++ h.more) b.silent)) h.came;
+      question = λ bytes b. h.asked.written ∙ (ap (λ l. l ++ take h.asked.count begun.buffer.waiting) b.silent.unwritten
+          ∙ taken_all h.asked.count begun.buffer.waiting bytes b.waiting (sym h.asked.moved.rest ∙ asked));
+      answer = λ bytes b. h.answer ∙ (ap (λ l. l ++ h.more) b.unanswered ∙ sym (h.came ∙ ap (λ l. l ++ h.more) b.silent.unread));
     }
 
     -- it goes on
     pub driven_on : (s : S) (was then : Option (Exchange C)) → IsSome was → IsSome then
-        → IfSome was (λ before. IfSome then (GoesOn coming gone before)) → Driven s s was then
+        → IfSome was (λ before. IfSome then (GoesOn arrived gone before)) → Driven s s was then
     driven_on s None then is there went = absurd (false≢true is)
     driven_on s (Some b) None is there went = absurd (false≢true there)
     driven_on s (Some b) (Some a) is there went = λ begun since. (a, inl (exchange_on begun b a since went, refl, refl))
 
     -- it has ended
     pub driven_told : (s s' : S) (was mid then : Option (Exchange C)) → IsSome was → IsSome mid
-        → IfSome was (λ before. IfSome mid (GoesOn coming gone before)) → IfSome mid (λ after. after.buffer.waiting ≡ [])
-        → IfSome mid (λ after. 0 < room → IsAtEnd (coming after.stream)) → IfSome mid (λ after. answers s peer after.answer.items s') → then ≡ None → Driven s s' was then
+        → IfSome was (λ before. IfSome mid (GoesOn arrived gone before)) → IfSome mid (λ after. after.buffer.waiting ≡ [])
+        → IfSome mid (λ after. 0 < room → HasEnded (arrived after.stream)) → IfSome mid (λ after. answers s peer after.answer.items s') → then ≡ None → Driven s s' was then
     driven_told s s' None mid then is there went asked ended told none = absurd (false≢true is)
     driven_told s s' (Some b) None then is there went asked ended told none = absurd (false≢true there)
     driven_told s s' (Some b) (Some a) then is there went asked ended told none =
@@ -189,7 +190,7 @@ module _ {C : Type 0} (coming gone : C → Option (List ℕ)) where
 
     -- it has failed
     pub driven_lost : (s s' : S) (fault : LinkFault) (was mid then : Option (Exchange C)) → IsSome was → IsSome mid
-        → IfSome was (λ before. IfSome mid (Fails coming gone before)) → loses s peer fault s' → then ≡ None → Driven s s' was then
+        → IfSome was (λ before. IfSome mid (Fails arrived gone before)) → loses s peer fault s' → then ≡ None → Driven s s' was then
     driven_lost s s' fault None mid then is there went lost none = absurd (false≢true is)
     driven_lost s s' fault (Some b) None then is there went lost none = absurd (false≢true there)
     driven_lost s s' fault (Some b) (Some a) then is there went lost none =
@@ -202,12 +203,12 @@ module _ {C : Type 0} (coming gone : C → Option (List ℕ)) where
 
   -- what the exchanges are matters by the one with the peer alone
   pub same_driven : {S : Type 0} (answers : S → ℕ → List ℕ → S → Type 0) (loses : S → ℕ → LinkFault → S → Type 0) (room peer : ℕ) (s : S) (l n : Exchanges C) (s' : S) (l' : Exchanges C)
-      → exchange_with n peer ≡ exchange_with l peer → IsDriven coming gone answers loses room peer s n s' l' → IsDriven coming gone answers loses room peer s l s' l'
+      → exchange_with n peer ≡ exchange_with l peer → IsDriven arrived gone answers loses room peer s n s' l' → IsDriven arrived gone answers loses room peer s l s' l'
   same_driven answers loses room peer s l n s' l' e driven = subst (λ o. Driven answers loses room peer s s' o (exchange_with l' peer)) e driven
 
   -- with as much room
   pub driven_room : {S : Type 0} (answers : S → ℕ → List ℕ → S → Type 0) (loses : S → ℕ → LinkFault → S → Type 0) (room as_much peer : ℕ) (s : S) (l : Exchanges C) (s' : S) (l' : Exchanges C)
-      → room ≡ as_much → IsDriven coming gone answers loses room peer s l s' l' → IsDriven coming gone answers loses as_much peer s l s' l'
+      → room ≡ as_much → IsDriven arrived gone answers loses room peer s l s' l' → IsDriven arrived gone answers loses as_much peer s l s' l'
   driven_room answers loses room as_much peer s l s' l' e driven = subst (λ n. Driven answers loses n peer s s' (exchange_with l peer) (exchange_with l' peer)) e driven
 
 module _ {C S : Type 0} where

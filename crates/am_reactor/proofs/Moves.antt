@@ -7,16 +7,17 @@ use Rattle.am_reactor.specs.declared.link.Link.{Link}
 use Rattle.am_reactor.specs.declared.links.Links.{Links}
 use Rattle.am_reactor.specs.Links.{HearsOn, IsMoved, KeepsLinks, Moves, link_to}
 use Rattle.am_reactor.specs.SendBuffer.{Empties}
+use Rattle.am_reactor.specs.Streams.{Arrival}
 
-module _ {S C : Type 0} (coming gone : C → Option (List ℕ)) (loses : S → ℕ → LinkFault → S → Type 0) (gives : S → ℕ → List ℕ → Option (List ℕ) → S → Type 0) where
+module _ {S C : Type 0} (arrived : C → Arrival) (gone : C → List ℕ) (loses : S → ℕ → LinkFault → S → Type 0) (gives : S → ℕ → List ℕ → Option (List ℕ) → S → Type 0) where
   -- what was heard of a link that is the same
   heard_by : (peer : ℕ) (was is : Option (Link C)) (mid : Links C) → was ≡ is
-      → IfSome was (λ before. IfSome (link_to mid peer) (HearsOn coming gone mid.awaited before))
-      → IfSome is (λ before. IfSome (link_to mid peer) (HearsOn coming gone mid.awaited before))
-  heard_by peer was is mid e heard = subst (λ (o : Option (Link C)). IfSome o (λ before. IfSome (link_to mid peer) (HearsOn coming gone mid.awaited before))) e heard
+      → IfSome was (λ before. IfSome (link_to mid peer) (HearsOn arrived gone mid.awaited before))
+      → IfSome is (λ before. IfSome (link_to mid peer) (HearsOn arrived gone mid.awaited before))
+  heard_by peer was is mid e heard = subst (λ (o : Option (Link C)). IfSome o (λ before. IfSome (link_to mid peer) (HearsOn arrived gone mid.awaited before))) e heard
 
   -- what the links are matters by the one to the peer alone
-  same_moved : (peer : ℕ) (s : S) (l n : Links C) (s' : S) (l' : Links C) → link_to n peer ≡ link_to l peer → IsMoved coming gone loses gives peer s n s' l' → IsMoved coming gone loses gives peer s l s' l'
+  same_moved : (peer : ℕ) (s : S) (l n : Links C) (s' : S) (l' : Links C) → link_to n peer ≡ link_to l peer → IsMoved arrived gone loses gives peer s n s' l' → IsMoved arrived gone loses gives peer s l s' l'
   same_moved peer s l n s' l' e (inl none) = inl (sym e ∙ none.0, none.1, none.2)
   same_moved peer s l n s' l' e (inr (inl pushed)) = inr (inl (
     subst (λ (o : Option (Link C)). IsSome o) e pushed.0,
@@ -36,25 +37,25 @@ module _ {S C : Type 0} (coming gone : C → Option (List ℕ)) (loses : S → �
   ))
   same_moved peer s l n s' l' e (inr (inr lost)) = inr (inr lost)
 
-  moves_on : (peers : List ℕ) (peer : ℕ) (s : S) (l : Links C) (m : S) (n k : Links C) (s' : S) (l' : Links C) → Moves coming gone loses gives peers s l m n
-      → ((other : ℕ) → link_to k other ≡ link_to n other) → KeepsLinks peer k l' → IsMoved coming gone loses gives peer m k s' l' → Moves coming gone loses gives (peers ++ peer ∷ []) s l s' l'
+  moves_on : (peers : List ℕ) (peer : ℕ) (s : S) (l : Links C) (m : S) (n k : Links C) (s' : S) (l' : Links C) → Moves arrived gone loses gives peers s l m n
+      → ((other : ℕ) → link_to k other ≡ link_to n other) → KeepsLinks peer k l' → IsMoved arrived gone loses gives peer m k s' l' → Moves arrived gone loses gives (peers ++ peer ∷ []) s l s' l'
   moves_on [] peer s l m n k s' l' none e others moved = (
     s',
     l',
     λ other ne. others other ne ∙ (e other ∙ none.1 other),
-    subst (λ (x : S). IsMoved coming gone loses gives peer x l s' l') none.0 (same_moved peer m l k s' l' (e peer ∙ none.1 peer) moved),
+    subst (λ (x : S). IsMoved arrived gone loses gives peer x l s' l') none.0 (same_moved peer m l k s' l' (e peer ∙ none.1 peer) moved),
     (refl, λ _. refl),
   )
   moves_on (first ∷ peers) peer s l m n k s' l' moves e others moved =
       (moves.0, moves.1, moves.2, moves.3, moves_on peers peer moves.0 moves.1 m n k s' l' moves.4 e others moved)
 
   -- nothing is done yet
-  pub moves_none : (s : S) (l : Links C) → (peers : List ℕ) × Moves coming gone loses gives peers s l s l
+  pub moves_none : (s : S) (l : Links C) → (peers : List ℕ) × Moves arrived gone loses gives peers s l s l
   moves_none s l = ([], (refl, λ _. refl))
 
   -- one link more
-  pub moves_more : (peer : ℕ) (s : S) (l : Links C) (m : S) (n k : Links C) (s' : S) (l' : Links C) → ((peers : List ℕ) × Moves coming gone loses gives peers s l m n)
-      → ((other : ℕ) → link_to k other ≡ link_to n other) → KeepsLinks peer k l' → IsMoved coming gone loses gives peer m k s' l' → (peers : List ℕ) × Moves coming gone loses gives peers s l s' l'
+  pub moves_more : (peer : ℕ) (s : S) (l : Links C) (m : S) (n k : Links C) (s' : S) (l' : Links C) → ((peers : List ℕ) × Moves arrived gone loses gives peers s l m n)
+      → ((other : ℕ) → link_to k other ≡ link_to n other) → KeepsLinks peer k l' → IsMoved arrived gone loses gives peer m k s' l' → (peers : List ℕ) × Moves arrived gone loses gives peers s l s' l'
   moves_more peer s l m n k s' l' moves e others moved = (moves.0 ++ peer ∷ [], moves_on moves.0 peer s l m n k s' l' moves.1 e others moved)
 
 -- nothing stands anywhere, nor with one more nothing behind it

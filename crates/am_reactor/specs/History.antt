@@ -1,6 +1,5 @@
 -- The calls that a loop made.
 use Rattle.std.specs.Prelude.{◌≡◌, ◌⊎◌, ◌≢◌, ◌==◌, ℕ, zero, suc, Bool, true, false, List, [], ◌∷◌, ◌++◌, Option, None, Some, option_map, if◌then◌else◌}
-use Rattle.std.specs.Io.KnownBytes.{Appends, Consumes}
 use Rattle.slab.specs.Slab.{Slab, get}
 use Rattle.am_reactor.specs.declared.connection.Connection.{Connection}
 use Rattle.am_reactor.specs.declared.connection.Phase.{Phase}
@@ -9,6 +8,7 @@ use Rattle.am_reactor.specs.declared.fault.LinkFault.{LinkFault}
 use Rattle.am_reactor.specs.Deeds.{Deed, Did}
 use Rattle.am_reactor.specs.Deeds.Deed.{Fed, Sent}
 use Rattle.am_reactor.specs.Sending.{IsFirstPart}
+use Rattle.am_reactor.specs.Streams.{Appends, Arrival, IsSilent, Receives}
 
 -- a connection as its service sees it: a session, its stream, and whether it is let go
 pub record Line (T C : Type 0) : Type 0 where
@@ -46,23 +46,23 @@ abbrev pub Closes : {T C : Type 0} → (ℕ → Option (Line T C)) → (ℕ → 
 Closes old new = (key : ℕ) → (new key ≡ old key) ⊎ (new key ≡ None)
 
 -- a connection is let go, and what comes of it is thrown away
-pub record Throws {T C : Type 0} (coming gone : C → Option (List ℕ)) (bytes : List ℕ) (line line' : Line T C) : Type 0 where
+pub record Throws {T C : Type 0} (arrived : C → Arrival) (gone : C → List ℕ) (bytes : List ℕ) (line line' : Line T C) : Type 0 where
   pub session : line'.session ≡ line.session
-  pub came : Consumes (coming line.stream) (coming line'.stream) bytes
+  pub came : Receives (arrived line.stream) (arrived line'.stream) bytes
   pub unwritten : gone line'.stream ≡ gone line.stream
   pub leaves : line'.leaves ≡ true
 
 -- nothing came or went over a connection, and the session is the same
-pub record Stays {T C : Type 0} (coming gone : C → Option (List ℕ)) (line line' : Line T C) : Type 0 where
+pub record Stays {T C : Type 0} (arrived : C → Arrival) (gone : C → List ℕ) (line line' : Line T C) : Type 0 where
   pub session : line'.session ≡ line.session
-  pub unread : coming line'.stream ≡ coming line.stream
+  pub unread : arrived line'.stream ≡ arrived line.stream
   pub unwritten : gone line'.stream ≡ gone line.stream
   pub leaves : line'.leaves ≡ line.leaves
 
 -- the same holds of the connection under a key, if there is one, and the others are as they were
-abbrev pub StaysUnder : {T C : Type 0} → (C → Option (List ℕ)) → (C → Option (List ℕ)) → ℕ → (ℕ → Option (Line T C)) → (ℕ → Option (Line T C)) → Type 0
-StaysUnder {T} {C} coming gone key old new =
-    AreSame new old ⊎ ((line : Line T C) × (line' : Line T C) × (old key ≡ Some line) × Stays coming gone line line' × AreSame new (with_line key (Some line') old))
+abbrev pub StaysUnder : {T C : Type 0} → (C → Arrival) → (C → List ℕ) → ℕ → (ℕ → Option (Line T C)) → (ℕ → Option (Line T C)) → Type 0
+StaysUnder {T} {C} arrived gone key old new =
+    AreSame new old ⊎ ((line : Line T C) × (line' : Line T C) × (old key ≡ Some line) × Stays arrived gone line line' × AreSame new (with_line key (Some line') old))
 
 -- all the bytes that calls feed
 abbrev pub fed_in : List Deed → List ℕ
@@ -88,7 +88,7 @@ IsCall acts loses answers gives offers asks service service' = acts service serv
     ⊎ (((peer : ℕ) × (bytes : List ℕ) × offers service peer bytes service')
     ⊎ ((peer : ℕ) × (bytes : List ℕ) × asks service peer bytes service')))))
 
--- An event in a loop: a connection comes, under a key that is free; one is turned away because there is no place for it; calls are
+-- An event in a loop: a connection comes, under a key that is free, and nothing has passed over its stream; one is turned away because there is no place for it; calls are
 -- made for the session under a key, one after the other; bytes come of a connection that is let go, and are thrown away;
 -- connections are closed; or calls are made that are for no session.
 pub data Happening : Type 0 where
@@ -109,12 +109,12 @@ abbrev pub ActsOn : {S : Type 0} → (S → S → Type 0) → S → S → Type 0
 ActsOn {S} acts service service' = (first : S) → ((count : ℕ) × Acts acts count first service) → (count : ℕ) × Acts acts count first service'
 
 module _ {S T C : Type 0} (does : S → T → Deed → S → T → Type 0) (begins : S → T → S → Type 0) (acts : S → S → Type 0)
-    (pending : T → List ℕ) (coming gone : C → Option (List ℕ)) where
+    (pending : T → List ℕ) (arrived : C → Arrival) (gone : C → List ℕ) where
   -- Calls are made for the session of a connection: the bytes that they feed came over its own stream, which isn't let go, and the
   -- bytes that they report as sent went out over it, the first of those that waited.
   pub record Calls (deeds : List Deed) (service : S) (line : Line T C) (service' : S) (line' : Line T C) : Type 0 where
     pub did : Did does service line.session deeds service' line'.session
-    pub came : Consumes (coming line.stream) (coming line'.stream) (fed_in deeds)
+    pub came : Receives (arrived line.stream) (arrived line'.stream) (fed_in deeds)
     pub heard : fed_in deeds ≢ [] → line.leaves ≡ false
     pub went : Appends (gone line.stream) (gone line'.stream) (out_in deeds)
     pub first : IsFirstPart (out_in deeds) (pending line.session)
@@ -123,12 +123,13 @@ module _ {S T C : Type 0} (does : S → T → Deed → S → T → Type 0) (begi
   -- a happening leads from one service and its connections to others
   abbrev pub Makes : S → (ℕ → Option (Line T C)) → Happening → S → (ℕ → Option (Line T C)) → Type 0
   Makes service old (Came key) service' new =
-      (line : Line T C) × (old key ≡ None) × begins service line.session service' × (line.leaves ≡ false) × AreSame new (with_line key (Some line) old)
+      (line : Line T C) × (old key ≡ None) × begins service line.session service' × (line.leaves ≡ false) × IsSilent (arrived line.stream) (gone line.stream)
+      × AreSame new (with_line key (Some line) old)
   Makes service old TurnedAway service' new = ((session : T) × begins service session service') × AreSame new old
   Makes service old (Called key deeds) service' new =
       (line : Line T C) × (line' : Line T C) × (old key ≡ Some line) × Calls deeds service line service' line' × AreSame new (with_line key (Some line') old)
   Makes service old (Thrown key bytes) service' new =
-      (line : Line T C) × (line' : Line T C) × (old key ≡ Some line) × Throws coming gone bytes line line' × (service' ≡ service)
+      (line : Line T C) × (line' : Line T C) × (old key ≡ Some line) × Throws arrived gone bytes line line' × (service' ≡ service)
       × AreSame new (with_line key (Some line') old)
   Makes service old Closed service' new = (service' ≡ service) × Closes old new
   Makes service old (Acted count) service' new = Acts acts count service service' × AreSame new old

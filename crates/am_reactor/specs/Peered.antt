@@ -1,14 +1,15 @@
 -- The steps that a loop takes with its links to peers and its exchanges with them, beside what happens to its connections.
 use Rattle.std.specs.Prelude.{◌≡◌, ◌⊎◌, ℕ, List, [], ◌∷◌, Option}
-use Rattle.mio.specs.declared.net.stream.TcpStream.{TcpStream}
 use Rattle.am_reactor.specs.declared.exchanges.Exchanges.{Exchanges}
 use Rattle.am_reactor.specs.declared.fault.LinkFault.{LinkFault}
 use Rattle.am_reactor.specs.declared.links.Links.{Links}
+use Rattle.am_reactor.specs.declared.noted_stream.NotedStream.{NotedStream}
 use Rattle.am_reactor.specs.declared.reactor.Reactor.{Reactor}
 use Rattle.am_reactor.specs.Deeds.{Deed}
 use Rattle.am_reactor.specs.Exchanges.{HasNoExchange, IsAskedOf, IsDriven, IsTimedOut, KeepsExchanges, exchange_with}
 use Rattle.am_reactor.specs.History.{Leads, Line, lines, no_lines}
 use Rattle.am_reactor.specs.Links.{HasNoLink, IsHanded, IsMoved, KeepsLinks, link_to}
+use Rattle.am_reactor.specs.Streams.{Arrival}
 
 -- the state of a loop: its connections, as they are to the service, its links and its exchanges
 pub record Held (T C : Type 0) : Type 0 where
@@ -21,7 +22,7 @@ abbrev pub held : {T C : Type 0} → (ℕ → Option (Line T C)) → Links C →
 held connections links exchanges = record { connections = connections; links = links; exchanges = exchanges }
 
 -- the state of a loop
-abbrev pub held_by : {T : Type 0} → Reactor T → Held T TcpStream
+abbrev pub held_by : {T : Type 0} → Reactor T → Held T NotedStream
 held_by reactor = held (lines reactor.connections.table) reactor.links reactor.exchanges
 
 -- A step of a loop: the service gives bytes for a peer, and they are handed to the link to it; what waits in the link to a peer
@@ -36,21 +37,21 @@ pub data PeerStep : Type 0 where
   Apart : PeerStep
 
 module _ {S T C : Type 0} (does : S → T → Deed → S → T → Type 0) (begins : S → T → S → Type 0) (acts : S → S → Type 0)
-    (pending : T → List ℕ) (coming gone : C → Option (List ℕ)) (loses : S → ℕ → LinkFault → S → Type 0) (answers : S → ℕ → List ℕ → S → Type 0)
+    (pending : T → List ℕ) (arrived : C → Arrival) (gone : C → List ℕ) (loses : S → ℕ → LinkFault → S → Type 0) (answers : S → ℕ → List ℕ → S → Type 0)
     (gives : S → ℕ → List ℕ → Option (List ℕ) → S → Type 0) (offers asks : S → ℕ → List ℕ → S → Type 0) where
   -- a step leads from one service and loop state to others
   abbrev pub Steps : S → Held T C → PeerStep → S → Held T C → Type 0
   Steps service old (Handed peer bytes) service' new = (mid : S) × offers service peer bytes mid × KeepsLinks peer old.links new.links
-      × IsHanded loses peer bytes mid old.links service' new.links × (new.connections ≡ old.connections) × (new.exchanges ≡ old.exchanges)
-  Steps service old (Moved peer) service' new = KeepsLinks peer old.links new.links × IsMoved coming gone loses gives peer service old.links service' new.links
+      × IsHanded arrived gone loses peer bytes mid old.links service' new.links × (new.connections ≡ old.connections) × (new.exchanges ≡ old.exchanges)
+  Steps service old (Moved peer) service' new = KeepsLinks peer old.links new.links × IsMoved arrived gone loses gives peer service old.links service' new.links
       × (new.connections ≡ old.connections) × (new.exchanges ≡ old.exchanges)
   Steps service old (Asked peer bytes) service' new = (mid : S) × asks service peer bytes mid × KeepsExchanges peer old.exchanges new.exchanges
-      × IsAskedOf loses peer bytes mid old.exchanges service' new.exchanges × (new.connections ≡ old.connections) × (new.links ≡ old.links)
+      × IsAskedOf arrived gone loses peer bytes mid old.exchanges service' new.exchanges × (new.connections ≡ old.connections) × (new.links ≡ old.links)
   Steps service old (Heard peer) service' new = (room : ℕ) × KeepsExchanges peer old.exchanges new.exchanges
-      × IsDriven coming gone answers loses room peer service old.exchanges service' new.exchanges × (new.connections ≡ old.connections) × (new.links ≡ old.links)
+      × IsDriven arrived gone answers loses room peer service old.exchanges service' new.exchanges × (new.connections ≡ old.connections) × (new.links ≡ old.links)
   Steps service old (TimedOut peer) service' new = KeepsExchanges peer old.exchanges new.exchanges × IsTimedOut loses peer service old.exchanges service' new.exchanges
       × (new.connections ≡ old.connections) × (new.links ≡ old.links)
-  Steps service old Apart service' new = Leads does begins acts pending coming gone service old.connections service' new.connections
+  Steps service old Apart service' new = Leads does begins acts pending arrived gone service old.connections service' new.connections
       × ((peer : ℕ) → link_to new.links peer ≡ link_to old.links peer) × ((peer : ℕ) → exchange_with new.exchanges peer ≡ exchange_with old.exchanges peer)
 
   -- steps, one after the other, lead from one service and loop state to others

@@ -1,6 +1,6 @@
 -- The bytes that go over a link.
-use Rattle.std.specs.Prelude.{◌≡◌, ℕ, ◌+◌, ◌-◌, ◌≤◌, List, ◌++◌, length, take, drop, Option}
-use Rattle.std.specs.Io.KnownBytes.{Appends}
+use Rattle.std.specs.Prelude.{◌≡◌, ℕ, ◌+◌, ◌-◌, ◌≤◌, List, ◌++◌, length, take, drop}
+use Rattle.am_reactor.specs.Streams.{Appends}
 
 -- the bytes that went out, and those that wait behind them
 pub record Outgo : Type 0 where
@@ -22,7 +22,7 @@ pub record Advances (count : ℕ) (before after : Outgo) : Type 0 where
   pub rest : after.waiting ≡ drop count before.waiting
 
 -- bytes that waited went to a writer, and just these are gone
-pub record Empties (old new : Option (List ℕ)) (before after : Outgo) : Type 0 where
+pub record Empties (old new : List ℕ) (before after : Outgo) : Type 0 where
   pub count : ℕ
   pub written : Appends old new (take count before.waiting)
   pub moved : Advances count before after

@@ -7,6 +7,7 @@ use Rattle.am_reactor.specs.declared.fault.Failure.{Failure}
 use Rattle.am_reactor.specs.Deeds.{Deed}
 use Rattle.am_reactor.specs.Reading.{Hears}
 use Rattle.am_reactor.specs.Sending.{SendsOn}
+use Rattle.am_reactor.specs.Streams.{Arrival}
 
 -- the report of how far a connection has come, and why it is broken off
 abbrev pub broken_at : {T C : Type 0} → Connection T C → Failure → Broken
@@ -26,12 +27,12 @@ pub record IsDone {T : Type 0} (over : T → Type 0) (pending : T → List ℕ) 
   pub undeferred : due session None
   pub written : pending session ≡ []
 
-module _ {S T C : Type 0} (does : S → T → Deed → S → T → Type 0) (pending : T → List ℕ) (coming gone : C → Option (List ℕ)) where
+module _ {S T C : Type 0} (does : S → T → Deed → S → T → Type 0) (pending : T → List ℕ) (arrived : C → Arrival) (gone : C → List ℕ) where
   -- The first bytes that wait in the session of a connection went out over its own stream, and nothing is read.
   pub record Tells (service : S) (connection : Connection T C) (service' : S) (connection' : Connection T C) : Type 0 where
     pub sent : SendsOn does pending service connection.session service' connection'.session (gone connection.stream) (gone connection'.stream)
         connection.written connection'.written
-    pub unread : coming connection'.stream ≡ coming connection.stream
+    pub unread : arrived connection'.stream ≡ arrived connection.stream
     pub read : connection'.read ≡ connection.read
     pub ended : connection'.ended ≡ connection.ended
     pub phase : connection'.phase ≡ connection.phase
@@ -40,5 +41,5 @@ module _ {S T C : Type 0} (does : S → T → Deed → S → T → Type 0) (pend
   pub record Exchanges (room : ℕ) (service : S) (connection : Connection T C) (service' : S) (connection' : Connection T C) : Type 0 where
     pub mid : S
     pub at : Connection T C
-    pub heard : Hears does coming gone room service connection mid at
+    pub heard : Hears does arrived gone room service connection mid at
     pub told : Tells mid at service' connection'

@@ -24,7 +24,7 @@ pub fn hear_awaited<C: Stream>(
     stream: &mut C,
     awaited: usize,
 ) -> Result<Progress, LinkFault>
-    ensures came { OnOk result (ComesBack (C.coming stream.old) (C.coming stream.new) answer.old.items answer.new.items) }
+    ensures came { OnOk result (ComesBack (C.arrived stream.old) (C.arrived stream.new) answer.old.items answer.new.items) }
     ensures done { result ≡ Ok Progress.Done → awaited ≤ length answer.new.items }
     ensures within { length answer.old.items ≤ awaited → length answer.new.items ≤ awaited }
     ensures gone { C.gone stream.new ≡ C.gone stream.old }

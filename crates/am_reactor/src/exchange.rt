@@ -1,13 +1,14 @@
 //! A connection over which a peer is asked and answers.
 
 ghost use Rattle.std.specs.Prelude.{◌≡◌, ◌<◌, ◌≤◌, [], length, Ok, IfOk, OnErr, OnOk};
-ghost use Rattle.std.specs.Io.KnownBytes.{IsAtEnd};
 ghost use Rattle.am_reactor.specs.Exchanges.{Fails, GoesOn, IsBegun};
+ghost use Rattle.am_reactor.specs.Streams.{HasEnded, arrived_over, gone_over};
 
 use crate::connection::Readiness;
 use crate::fault::LinkFault;
 use crate::inbox::hear_on;
 use crate::link::stands;
+use crate::noted_stream::NotedStream;
 use crate::send_buffer::{Progress, SendBuffer};
 use crate::stream::Stream;
 use mio::net::TcpStream;
@@ -38,7 +39,7 @@ impl<C: Drop> Drop for Exchange<C> {
     }
 }
 
-impl Exchange<TcpStream> {
+impl Exchange<NotedStream> {
     /// Begins to connect to an address, to send it a question.
     ///
     /// # Errors
@@ -50,13 +51,13 @@ impl Exchange<TcpStream> {
         address: SocketAddr,
         request: &[u8],
         end: Instant,
-    ) -> Result<Exchange<TcpStream>, LinkFault>
-        ensures { IfOk result (λ exchange. IsBegun exchange request.now) }
+    ) -> Result<Exchange<NotedStream>, LinkFault>
+        ensures { IfOk result (λ exchange. IsBegun arrived_over gone_over exchange request.now) }
     {
         let buffer = SendBuffer::new(alloc, &[], request)?;
         match TcpStream::connect(rt, address) {
-            Ok(stream) => Ok(Exchange {
-                stream,
+            Ok(socket) => Ok(Exchange {
+                stream: NotedStream::new(socket),
                 buffer,
                 answer: Vec::new(alloc),
                 end,
@@ -89,10 +90,10 @@ impl<C: Stream + Drop> Exchange<C> {
     ///
     /// [`LinkFault::Connect`], [`LinkFault::Write`], [`LinkFault::Read`], [`LinkFault::TooLong`] and [`LinkFault::Memory`].
     pub fn advance(&mut self, piece: &mut [u8], most: usize) -> Result<Progress, LinkFault>
-        ensures went { OnOk result (GoesOn C.coming C.gone self.old self.new) }
-        ensures failed { OnErr result (Fails C.coming C.gone self.old self.new) }
+        ensures went { OnOk result (GoesOn C.arrived C.gone self.old self.new) }
+        ensures failed { OnErr result (Fails C.arrived C.gone self.old self.new) }
         ensures done { result ≡ Ok Progress.Done → self.new.buffer.waiting ≡ [] }
-        ensures ended { result ≡ Ok Progress.Done → 0 < length piece.old → IsAtEnd (C.coming self.new.stream) }
+        ensures ended { result ≡ Ok Progress.Done → 0 < length piece.old → HasEnded (C.arrived self.new.stream) }
         ensures within { length self.old.answer.items ≤ most → length self.new.answer.items ≤ most }
     {
         if !self.connected()? {

@@ -3,17 +3,18 @@
 ghost use Rattle.std.specs.Prelude.{◌≡◌, [], ℕ, List, None, false, length, IfOk, IfSome, IsTrue, Ok, OnErr, OnOk};
 ghost use Rattle.std.specs.Option.{IsSome};
 ghost use Rattle.am_reactor.specs.Exchanges.{Fails, Goes, GoesOn, HasNoExchange, IsAsked, IsAskedOf, IsBegun, IsDriven, IsEnded, IsTimedOut, KeepsExchanges, OneByOne, exchange_with};
+ghost use Rattle.am_reactor.specs.Streams.{arrived_over, gone_over};
 
 use crate::connection::Readiness;
 use crate::exchange::Exchange;
 use crate::fault::LinkFault;
+use crate::noted_stream::NotedStream;
 use crate::peers::{address_of, vacant};
 use crate::queues::PeerQueues;
 use crate::send_buffer::Progress;
 use crate::service::{PeerBytes, Service};
 use crate::source::Source;
 use crate::stream::Stream;
-use mio::net::TcpStream;
 use mio::{Interest, Registry};
 use std::alloc::{AllocError, Global};
 use std::mem;
@@ -114,10 +115,10 @@ impl<C: Stream + Drop> Exchanges<C> {
     fn advance(&mut self, peer: usize, piece: &mut [u8]) -> Result<Progress, LinkFault>
         requires { IsSome (exchange_with self.old peer) }
         ensures open { IsSome (exchange_with self.new peer) }
-        ensures went { OnOk result (Goes (GoesOn C.coming C.gone) self.old self.new peer) }
-        ensures failed { OnErr result (Goes (Fails C.coming C.gone) self.old self.new peer) }
+        ensures went { OnOk result (Goes (GoesOn C.arrived C.gone) self.old self.new peer) }
+        ensures failed { OnErr result (Goes (Fails C.arrived C.gone) self.old self.new peer) }
         ensures done { result ≡ Ok Progress.Done → IsAsked self.new peer }
-        ensures ended { result ≡ Ok Progress.Done → IsEnded C.coming (length piece.old) self.new peer }
+        ensures ended { result ≡ Ok Progress.Done → IsEnded C.arrived (length piece.old) self.new peer }
         ensures others { KeepsExchanges peer self.old self.new }
     {
         let most = self.most;
@@ -141,7 +142,7 @@ impl<C: Stream + Drop> Exchanges<C> {
     }
 }
 
-impl Exchanges<TcpStream> {
+impl Exchanges<NotedStream> {
     /// Begins an exchange with a peer, whose time is over at `end`.
     ///
     /// # Errors
@@ -157,7 +158,7 @@ impl Exchanges<TcpStream> {
     ) -> Result<(), LinkFault>
         ensures none { OnOk result (exchange_with self.old asked.now.peer ≡ None) }
         ensures open { OnOk result (IsSome (exchange_with self.new asked.now.peer)) }
-        ensures begun { OnOk result (IfSome (exchange_with self.new asked.now.peer) (λ exchange. IsBegun exchange asked.now.bytes.items)) }
+        ensures begun { OnOk result (IfSome (exchange_with self.new asked.now.peer) (λ exchange. IsBegun arrived_over gone_over exchange asked.now.bytes.items)) }
         ensures kept { OnErr result (exchange_with self.new asked.now.peer ≡ exchange_with self.old asked.now.peer) }
         ensures others { KeepsExchanges asked.now.peer self.old self.new }
     {
@@ -183,8 +184,8 @@ impl Exchanges<TcpStream> {
         peer: usize,
         request: &[u8],
         end: Instant,
-    ) -> Result<Exchange<TcpStream>, LinkFault>
-        ensures { IfOk result (λ exchange. IsBegun exchange request.now) }
+    ) -> Result<Exchange<NotedStream>, LinkFault>
+        ensures { IfOk result (λ exchange. IsBegun arrived_over gone_over exchange request.now) }
     {
         let Some((address, place)) = address_of(&self.addresses, peer) else {
             return Err(LinkFault::NoPeer);
@@ -204,7 +205,7 @@ impl Exchanges<TcpStream> {
 
 /// Asks a peer, until its time is over at `end`, or tells the service why the question is lost.
 pub fn ask<S: Service, R: Net>(
-    exchanges: &mut Exchanges<TcpStream>,
+    exchanges: &mut Exchanges<NotedStream>,
     service: &mut S,
     rt: &R,
     registry: &Registry,
@@ -212,7 +213,7 @@ pub fn ask<S: Service, R: Net>(
     end: Instant,
 )
     ensures others { KeepsExchanges asked.now.peer exchanges.old exchanges.new }
-    ensures asked { IsAskedOf S.loses asked.now.peer asked.now.bytes.items service.old exchanges.old service.new exchanges.new }
+    ensures asked { IsAskedOf arrived_over gone_over S.loses asked.now.peer asked.now.bytes.items service.old exchanges.old service.new exchanges.new }
 {
     if let Err(fault) = exchanges.begin(rt, registry, asked, end) {
         service.lost(asked.peer, fault);
@@ -261,7 +262,7 @@ pub fn drive_exchange<S: Service, C: Stream + Drop>(
 )
     ensures others { KeepsExchanges peer exchanges.old exchanges.new }
     // PROMISE: What a peer answered is told once, whole, once all was asked of it; or it is told that it is lost.
-    ensures heard { IsDriven C.coming C.gone S.answers S.loses (length piece.old) peer service.old exchanges.old service.new exchanges.new }
+    ensures heard { IsDriven C.arrived C.gone S.answers S.loses (length piece.old) peer service.old exchanges.old service.new exchanges.new }
 {
     if !exchanges.is_open(peer) {
         return;
@@ -280,7 +281,7 @@ pub fn hear_all<S: Service, C: Stream + Drop>(
     service: &mut S,
     piece: &mut [u8],
 )
-    ensures { (peers : List ℕ) × OneByOne (IsDriven C.coming C.gone S.answers S.loses (length piece.old)) peers
+    ensures { (peers : List ℕ) × OneByOne (IsDriven C.arrived C.gone S.answers S.loses (length piece.old)) peers
         service.old exchanges.old service.new exchanges.new }
 {
     for _ in 0..exchanges.queues.busy.len() {

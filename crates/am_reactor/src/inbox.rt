@@ -1,8 +1,8 @@
 //! The bytes that come back over an exchange.
 
 ghost use Rattle.std.specs.Prelude.{◌≡◌, ◌++◌, ◌<◌, ◌≤◌, Ok, length, IsErrOf, OnErr, OnOk};
-ghost use Rattle.std.specs.Io.KnownBytes.{Consumes, IsAtEnd};
 ghost use Rattle.am_reactor.specs.Exchanges.{BreaksOff, ComesBack, IsTooMuch};
+ghost use Rattle.am_reactor.specs.Streams.{Receives, HasEnded};
 
 use crate::connection::Readiness;
 use crate::fault::LinkFault;
@@ -21,13 +21,13 @@ pub fn read_piece<C: Stream>(
     piece: &mut [u8],
     most: usize,
 ) -> Result<ReadResult, LinkFault>
-    ensures came { OnOk result (ComesBack (C.coming stream.old) (C.coming stream.new) answer.old.items answer.new.items) }
+    ensures came { OnOk result (ComesBack (C.arrived stream.old) (C.arrived stream.new) answer.old.items answer.new.items) }
     ensures kept { OnErr result (answer.new.items ≡ answer.old.items) }
-    ensures dropped { OnErr result ((bytes : _) × Consumes (C.coming stream.old) (C.coming stream.new) bytes) }
+    ensures dropped { OnErr result ((bytes : _) × Receives (C.arrived stream.old) (C.arrived stream.new) bytes) }
     ensures too_long { IsErrOf result LinkFault.TooLong
-        → IsTooMuch most (C.coming stream.old) (C.coming stream.new) answer.old.items }
+        → IsTooMuch most (C.arrived stream.old) (C.arrived stream.new) answer.old.items }
     ensures within { length answer.old.items ≤ most → length answer.new.items ≤ most }
-    ensures ended { result ≡ Ok ReadResult.End → 0 < length piece.old → IsAtEnd (C.coming stream.new) }
+    ensures ended { result ≡ Ok ReadResult.End → 0 < length piece.old → HasEnded (C.arrived stream.new) }
     ensures gone { C.gone stream.new ≡ C.gone stream.old }
 {
     let brought = read_once(stream, piece);
@@ -52,11 +52,11 @@ pub fn hear_on<C: Stream>(
     most: usize,
 ) -> Result<Progress, LinkFault>
     // PROMISE: An answer is all that came over its own stream, up to its end and within its limit.
-    ensures came { OnOk result (ComesBack (C.coming stream.old) (C.coming stream.new) answer.old.items answer.new.items) }
-    ensures failed { OnErr result (BreaksOff (C.coming stream.old) (C.coming stream.new) answer.old.items answer.new.items) }
+    ensures came { OnOk result (ComesBack (C.arrived stream.old) (C.arrived stream.new) answer.old.items answer.new.items) }
+    ensures failed { OnErr result (BreaksOff (C.arrived stream.old) (C.arrived stream.new) answer.old.items answer.new.items) }
     ensures longer { (more : _) × (answer.new.items ≡ answer.old.items ++ more) }
     ensures within { length answer.old.items ≤ most → length answer.new.items ≤ most }
-    ensures ended { result ≡ Ok Progress.Done → 0 < length piece.old → IsAtEnd (C.coming stream.new) }
+    ensures ended { result ≡ Ok Progress.Done → 0 < length piece.old → HasEnded (C.arrived stream.new) }
     ensures gone { C.gone stream.new ≡ C.gone stream.old }
 {
     for _ in 0..PIECES {

@@ -21,7 +21,7 @@ pub fn shutdown_write<T, C: Stream>(connection: &mut Connection<T, C>, now: Inst
     ensures session { connection.new.session ≡ connection.old.session }
     ensures unwritten { C.gone connection.new.stream ≡ C.gone connection.old.stream }
     ensures kept { result ≡ false → connection.new.phase ≡ connection.old.phase }
-    ensures unread { C.coming connection.new.stream ≡ C.coming connection.old.stream }
+    ensures unread { C.arrived connection.new.stream ≡ C.arrived connection.old.stream }
     ensures leaves { IsTrue result → connection.new.phase ≢ Phase.Open }
 {
     if connection.ended || !connection.stream.finish() {
@@ -40,7 +40,7 @@ pub fn drain<T, C: Stream>(
     requires { connection.old.phase ≢ Phase.Open }
     ensures session { connection.new.session ≡ connection.old.session }
     ensures unwritten { C.gone connection.new.stream ≡ C.gone connection.old.stream }
-    ensures thrown { (bytes : _) × Throws C.coming C.gone bytes (line_of connection.old) (line_of connection.new) }
+    ensures thrown { (bytes : _) × Throws C.arrived C.gone bytes (line_of connection.old) (line_of connection.new) }
 {
     for _ in 0..PIECES {
         match read_once(&mut connection.stream, piece) {

@@ -1,10 +1,10 @@
 //! The bytes that come over a connection.
 
 ghost use Rattle.std.specs.Prelude.{◌≡◌, length, take};
-ghost use Rattle.std.specs.Io.KnownBytes.{Consumes};
 ghost use Rattle.am_reactor.specs.Deeds.{Did};
 ghost use Rattle.am_reactor.specs.Reading.{EndsWith, FitsPiece, Hears, brought_by, told_of};
 ghost use Rattle.am_reactor.specs.Sending.{counted};
+ghost use Rattle.am_reactor.specs.Streams.{Receives};
 
 use crate::connection::{Connection, Readiness, count_on};
 use crate::fault::Failure;
@@ -32,8 +32,8 @@ pub enum ReadResult {
 /// Reads once.
 pub fn read_once<C: Stream>(stream: &mut C, piece: &mut [u8]) -> ReadResult
     ensures fits { FitsPiece piece.new result }
-    ensures came { Consumes (C.coming stream.old) (C.coming stream.new) (take (brought_by result) piece.new) }
-    ensures ended { EndsWith (C.coming stream.new) piece.new result }
+    ensures came { Receives (C.arrived stream.old) (C.arrived stream.new) (take (brought_by result) piece.new) }
+    ensures ended { EndsWith (C.arrived stream.new) piece.new result }
     ensures gone { C.gone stream.new ≡ C.gone stream.old }
 {
     match stream.read(piece) {
@@ -56,8 +56,8 @@ fn read_piece<S: Service, C: Stream>(
     read: &mut u64,
 ) -> ReadResult
     requires { ¬ S.over session.old }
-    ensures came { Consumes (C.coming stream.old) (C.coming stream.new) (take (brought_by result) piece.new) }
-    ensures ended { EndsWith (C.coming stream.new) piece.new result }
+    ensures came { Receives (C.arrived stream.old) (C.arrived stream.new) (take (brought_by result) piece.new) }
+    ensures ended { EndsWith (C.arrived stream.new) piece.new result }
     ensures gone { C.gone stream.new ≡ C.gone stream.old }
     ensures did { Did S.does service.old session.old (told_of piece.new result) service.new session.new }
     ensures count { read.new ≡ counted read.old (brought_by result) }
@@ -87,7 +87,7 @@ pub fn read_available<S: Service, C: Stream>(
     piece: &mut [u8],
 ) -> Result<Readiness, Failure>
     // PROMISE: The bytes of a connection reach its own session, in order, each once.
-    ensures heard { Hears S.does C.coming C.gone (length piece.old) service.old connection.old service.new connection.new }
+    ensures heard { Hears S.does C.arrived C.gone (length piece.old) service.old connection.old service.new connection.new }
 {
     for _ in 0..PIECES {
         if connection.ended || service.is_over(&connection.session) {

@@ -96,7 +96,7 @@ impl SendBuffer {
     fn write_once<C: Stream>(&mut self, stream: &mut C) -> WriteResult
         ensures out { Empties (C.gone stream.old) (C.gone stream.new) self.old self.new }
         ensures all { (result ≡ WriteResult.All) ↔ (self.old.waiting ≡ []) }
-        ensures unread { C.coming stream.new ≡ C.coming stream.old }
+        ensures unread { C.arrived stream.new ≡ C.arrived stream.old }
     {
         let wrote = write_once(stream, &self.bytes[self.written..]);
         if let WriteResult::Part(count) = wrote {
@@ -113,7 +113,7 @@ impl SendBuffer {
     pub fn send_on<C: Stream>(&mut self, stream: &mut C) -> Result<Progress, LinkFault>
         ensures out { Empties (C.gone stream.old) (C.gone stream.new) self.old self.new }
         ensures done { result ≡ Ok Progress.Done → self.new.waiting ≡ [] }
-        ensures unread { C.coming stream.new ≡ C.coming stream.old }
+        ensures unread { C.arrived stream.new ≡ C.arrived stream.old }
         ensures failed { IfErr result (λ fault. (kind : _) × (fault ≡ LinkFault.Write (length self.new.gone) kind)) }
     {
         for _ in 0..WRITES {
