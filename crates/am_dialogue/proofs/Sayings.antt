@@ -12,14 +12,13 @@ use Rattle.am_api_silences.specs.declared.replies.ReplyBytes.{ReplyBytes}
 use Rattle.am_api_silences.specs.declared.replies.ReplyBytes.TheVariants.{Own, Fixed}
 use Rattle.am_http.specs.Hosts.{line_of_foreign}
 use Rattle.am_http.specs.Lines.{RefusalLine, line_of, line_seen, told_to}
-use Rattle.am_http.specs.Sessions.{Standing}
 use Rattle.am_http.specs.declared.cause.Cause.TheVariants.{BadFilter}
 use Rattle.am_http.specs.declared.hosts.Foreign.{Foreign}
 use Rattle.am_http.specs.declared.hosts.Foreign.TheVariants.{Host, Origin}
 use Rattle.am_http.specs.declared.refusal.Refusal.{Refusal}
 use Rattle.am_instance.specs.InstanceStates.{InstanceState}
 use Rattle.am_dialogue.proofs.Resting.{stays_same}
-use Rattle.am_dialogue.specs.Talks.{IsClosed, IsLine, IsOwed, IsOwnLine, IsScreenedBy, OwnCause, IsReplyTo, Keeps, KeepsBy, KeepsGone, Lasts, Owed, Rests, Saying, Stays, Talk, WaitsNoMore, gone_of, own_line, said_next}
+use Rattle.am_dialogue.specs.Talks.{IsClosed, IsLine, IsOwed, IsOwnLine, OwnCause, IsReplyTo, Keeps, KeepsBy, KeepsGone, Lasts, Owed, Rests, Saying, Stays, Talk, WaitsNoMore, gone_of, own_line, said_next}
 use Rattle.am_dialogue.specs.Talks.Owed.{Line, Reply, Other}
 use Rattle.am_dialogue.specs.Talks.OwnCause.{IsForeign, NotReady, StateTooLarge, FilterTooLarge, PatternTooLarge, NotKept, OutOfMemory}
 use Rattle.am_silence.specs.declared.error.SilenceError.TheVariants.{BadPattern}
@@ -83,11 +82,10 @@ pub headed_own : (cause : OwnCause) (method : List ℕ) (given told : RefusalLin
 headed_own cause method given told is to =
     (cause, subst (λ (l : RefusalLine). record l { bare = false } ≡ own_line cause) (sym to) (subst (λ (l : RefusalLine). record l { bare = false } ≡ own_line cause) (sym is) (own_whole cause)))
 
--- the line of a request that is screened out
-pub screened_own : (session : Standing) (piece : List ℕ) (names : List (List ℕ)) (told : RefusalLine) → IsScreenedBy session piece names told → IsOwnLine told
-screened_own session piece names told (inl foreign) =
-    (IsForeign foreign.0, subst (λ (l : RefusalLine). record l { bare = false } ≡ line_of_foreign foreign.0 false) (sym foreign.3) (foreign_whole foreign.0 foreign.1))
-screened_own session piece names told (inr is) = told_own OutOfMemory told is
+-- the line of a request that names something foreign
+pub foreign_own : (what : Foreign) (to_head : Bool) (told : RefusalLine) → told ≡ line_of_foreign what to_head → IsOwnLine told
+foreign_own what to_head told is =
+    (IsForeign what, subst (λ (l : RefusalLine). record l { bare = false } ≡ line_of_foreign what false) (sym is) (foreign_whole what to_head))
 
 -- the line of a request whose patterns take too much
 pub patterns_own : (told : RefusalLine) → (told ≡ line_of BadFilter) ⊎ (told ≡ refused_line BadPattern) → IsOwnLine told

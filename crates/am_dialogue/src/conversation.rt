@@ -194,6 +194,7 @@ impl Conversation {
         ensures same { talk_of self.new ≡ talk_of self.old }
         // PROMISE: A request is turned away as foreign only if it names a host or an origin that isn't the member's.
         ensures refused { IfSome result (λ refusal. IsScreenedBy self.old.session piece.now (texts hosts.now) (line_seen refusal)) }
+        ensures own { IfSome result (λ refusal. IsOwnLine (line_seen refusal)) }
     {
         if self.is_screened {
             return None;

@@ -4,6 +4,7 @@
 
 mod conversation;
 mod counting;
+mod refusals;
 mod room;
 mod share;
 mod timers;
@@ -13,6 +14,7 @@ pub use conversation::{
     CallProgress, Conversation, Deliberation, Work, ends_pull, is_nothing, may_change,
 };
 pub use counting::{Account, Census, asked_of_itself, request_of};
+pub use refusals::{out_of_memory, patterns_too_large, state_too_large};
 pub use room::{frame_bytes, log_said, post_bytes, request_bytes, silences_said};
 pub use share::Share;
 pub use timers::{Intervals, Timers};

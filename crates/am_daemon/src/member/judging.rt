@@ -9,8 +9,9 @@ ghost use Rattle.am_dialogue.specs.Talks.{IsClosed, IsOwnLine, IsRequest, talk_o
 
 use super::desk::Desk;
 use am_api_silences::{Read, Refusal};
-use am_dialogue::{Conversation, is_call, post_bytes};
-use am_http::Cause;
+use am_dialogue::{
+    Conversation, is_call, out_of_memory, patterns_too_large, post_bytes, state_too_large,
+};
 use am_http::session::SessionOutput;
 use am_instance::Instance;
 use am_member::{Judged, Judging};
@@ -42,8 +43,8 @@ fn is_judged(judging: &mut Judging) -> Result<bool, Refusal>
     match judging.go_on() {
         Ok(Judged::More) => Ok(false),
         Ok(Judged::Done) => Ok(true),
-        Ok(Judged::TooMuch) => Err(judging.refusal()),
-        Err(_) => Err(Cause::Memory.refusal()),
+        Ok(Judged::TooMuch) => Err(patterns_too_large(judging)),
+        Err(_) => Err(out_of_memory()),
     }
 }
 
@@ -76,7 +77,7 @@ impl<U: Keeper> Desk<'_, U> {
     {
         match post_bytes(said) {
             Some(bytes) if !self.upkeep.has_room_for_post(instance, bytes) => {
-                dialogue.refuse(self.alloc, &Refusal::new(500, "state too large"));
+                dialogue.refuse(self.alloc, &state_too_large());
                 true
             }
             _ => false,
@@ -96,7 +97,7 @@ impl<U: Keeper> Desk<'_, U> {
         match judging_of(alloc, instance, &said) {
             Ok(Some(judging)) => dialogue.judge_later(said, judging),
             Ok(None) => self.answer(instance, dialogue, said),
-            Err(_) => dialogue.refuse(alloc, &Cause::Memory.refusal()),
+            Err(_) => dialogue.refuse(alloc, &out_of_memory()),
         }
     }
 

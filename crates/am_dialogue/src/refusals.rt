@@ -1,0 +1,28 @@
+//! The refusals that a member makes by itself, in place of a step's reply.
+
+ghost use Rattle.am_http.specs.Lines.{line_seen};
+ghost use Rattle.am_dialogue.specs.Talks.{IsOwnLine};
+
+use am_http::{Cause, Refusal};
+use am_member::Judging;
+
+/// Returns the refusal of a post for which there is no room.
+pub fn state_too_large() -> Refusal
+    ensures { IsOwnLine (line_seen result) }
+{
+    Refusal::new(500, "state too large")
+}
+
+/// Returns the refusal of a request for which there is no memory.
+pub fn out_of_memory() -> Refusal
+    ensures { IsOwnLine (line_seen result) }
+{
+    Cause::Memory.refusal()
+}
+
+/// Returns the refusal of a request whose patterns take too much.
+pub fn patterns_too_large(judging: &Judging) -> Refusal
+    ensures { IsOwnLine (line_seen result) }
+{
+    judging.refusal()
+}
