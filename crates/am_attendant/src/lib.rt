@@ -1,12 +1,12 @@
 //! A member that a loop serves, whoever attends to it.
 #![tactic(auto)]
 
-ghost use Rattle.std.specs.Prelude.{ℕ, Option};
+ghost use Rattle.std.specs.Prelude.{[], ℕ, Option};
 ghost use Rattle.am_dialogue.specs.Talks.{talk_of};
 ghost use Rattle.am_reactor.specs.History.{IsCall, Leads, Line, no_lines};
 ghost use Rattle.am_reactor.specs.Peered.{LoopGoesFromNone};
 ghost use Rattle.am_reactor.specs.Streams.{arrived_over, gone_over};
-ghost use Rattle.am_living.specs.Living.{IsLived};
+ghost use Rattle.am_living.specs.Living.{IsAlwaysLived};
 ghost use Rattle.am_living.specs.Talking.{IsInAccord, IsReplied};
 
 mod member;
@@ -32,12 +32,15 @@ pub fn live<'a, A: Attendant, R: Net + Clock + Input>(
     member: &mut Member<'a, A>,
     limits: Limits,
 ) -> io::Result<()>
-    // PROMISE: What the program's member holds comes of one life of its connections; and over each just one reply goes out, behind its challenge where frames are sealed: that of its own request's step, the line of a refusal with a status from 400 on, or one that isn't about silences.
+    // PROMISE: At each moment, what the program's member holds comes of one life of its connections; and over the stream of each just one reply goes out, behind its challenge where frames are sealed: that of its own request's step, the line of a refusal with a status from 400 on, or one that isn't about silences.
     ensures lived { (left : ℕ → Option (Line Conversation NotedStream))
         × (history : Leads ⟦<Member<'a, A> as Service>⟧.does ⟦<Member<'a, A> as Service>⟧.begins (IsCall ⟦<Member<'a, A> as Service>⟧.acts ⟦<Member<'a, A> as Service>⟧.loses
         ⟦<Member<'a, A> as Service>⟧.answers ⟦<Member<'a, A> as Service>⟧.gives ⟦<Member<'a, A> as Service>⟧.offers ⟦<Member<'a, A> as Service>⟧.asks)
         ⟦<Member<'a, A> as Service>⟧.pending arrived_over gone_over member.old no_lines member.new left)
-        × IsLived (λ (m : Member A). m.instance) (λ (dialogue : Conversation). IsInAccord (talk_of dialogue)) IsReplied member.old history.happenings member.new left }
+        × IsAlwaysLived ⟦<Member<'a, A> as Service>⟧.does ⟦<Member<'a, A> as Service>⟧.begins (IsCall ⟦<Member<'a, A> as Service>⟧.acts ⟦<Member<'a, A> as Service>⟧.loses
+        ⟦<Member<'a, A> as Service>⟧.answers ⟦<Member<'a, A> as Service>⟧.gives ⟦<Member<'a, A> as Service>⟧.offers ⟦<Member<'a, A> as Service>⟧.asks)
+        ⟦<Member<'a, A> as Service>⟧.pending arrived_over gone_over (λ (m : Member A). m.instance) (λ (dialogue : Conversation). IsInAccord (talk_of dialogue)) IsReplied
+        member.old [] member.old no_lines history.happenings member.new left history.happens }
     // (for the links to its peers and the exchanges with them, by what its attendant says of the bytes that it gives)
     ensures peered { LoopGoesFromNone ⟦<Member<'a, A> as Service>⟧.does ⟦<Member<'a, A> as Service>⟧.begins ⟦<Member<'a, A> as Service>⟧.acts ⟦<Member<'a, A> as Service>⟧.pending
         arrived_over gone_over ⟦<Member<'a, A> as Service>⟧.loses ⟦<Member<'a, A> as Service>⟧.answers ⟦<Member<'a, A> as Service>⟧.gives

@@ -1,6 +1,7 @@
 -- A loop's history, happening by happening, as a life.
-use Rattle.std.proofs.Common.{◌≡◌, ◌≢◌, ◌⊎◌, ◌∙◌, ◌==◌, ◌+◌, ℕ, zero, suc, Bool, true, false, List, [], ◌∷◌, ◌++◌, Option, Some, ap, sym, subst, refl, inl, inr, arith, append-nil, append_assoc, if◌then◌else◌}
+use Rattle.std.proofs.Common.{◌≡◌, ◌≢◌, ◌⊎◌, ◌∙◌, ◌==◌, ◌+◌, ℕ, zero, suc, Bool, true, false, List, [], ◌∷◌, ◌++◌, Option, Some, ap, sym, subst, refl, length, inl, inr, arith, append-nil, append_assoc, if◌then◌else◌}
 use Rattle.std.proofs.lemmas.Bool.Decides.{nat_tests}
+use Rattle.std.proofs.lemmas.Bool.{false≢true}
 use Rattle.std.proofs.lemmas.Option.{none-some}
 use Rattle.am_http.specs.Sessions.{Standing, fresh}
 use Rattle.am_instance.specs.InstanceStates.{InstanceState}
@@ -8,10 +9,11 @@ use Rattle.am_member.specs.Lives.{Deed as LifeDeed, IsLife, Turn, standings_afte
 use Rattle.am_member.specs.Lives.Deed.{Served, Own}
 use Rattle.am_reactor.specs.Deeds.{Deed, Did}
 use Rattle.am_reactor.specs.Deeds.Deed.{Fed, Ended, Sent, Resumed, Released, CameDue, Hurried, BrokenOff}
-use Rattle.am_reactor.specs.History.{Acts, AreSame, Happening, Happens, Line, Makes, fed_in, no_lines, out_in, with_line}
+use Rattle.am_reactor.specs.History.{Acts, AreSame, Calls, Happening, Happens, Line, Makes, Throws, fed_in, no_lines, out_in, with_line}
 use Rattle.am_reactor.specs.History.Happening.{Came, TurnedAway, Called, Thrown, Closed, Acted}
-use Rattle.am_reactor.specs.Streams.{Arrival}
-use Rattle.am_living.specs.Living.{Accords, ActsAlone, AreOf, AreOwn, BeginsFresh, DoesForOne, IsLived, LivesOn, OwnsItsOwn, Passed, StandsUnder, count_after, count_by, nothing_passed, numbers_after, numbers_by, passed_after, passed_by, passed_on}
+use Rattle.am_reactor.specs.Streams.{Appends, Arrival, IsSilent, Receives}
+use Rattle.am_reactor.proofs.Histories.{happens_more, happens_same}
+use Rattle.am_living.specs.Living.{Accords, ActsAlone, AreOf, AreOwn, BeginsFresh, DoesForOne, IsAlwaysLived, IsCarried, IsLived, LivesOn, OwnsItsOwn, Passed, StandsUnder, count_after, count_by, nothing_passed, numbers_after, numbers_by, passed_after, passed_by, passed_on}
 
 -- ---- lives one after the other
 
@@ -179,15 +181,17 @@ module _ {S T : Type 0} (instance_of : S → InstanceState) (accords : T → Pas
 
 -- ---- how connections stand behind one happening more
 
-module _ {T C : Type 0} (accords : T → Passed → Standing → List Turn → Type 0) (is_so : Passed → Standing → List Turn → Type 0) where
+module _ {T C : Type 0} (arrived : C → Arrival) (gone : C → List ℕ) (accords : T → Passed → Standing → List Turn → Type 0) (is_so : Passed → Standing → List Turn → Type 0) where
   -- where each session that is there was there, and nothing of the life changed
   accords_still : (count : ℕ) (numbers : ℕ → ℕ) (passed : ℕ → Passed) (standings standings' : ℕ → Standing) (turns turns' : ℕ → List Turn) (old new : ℕ → Option (Line T C))
-      → ((key : ℕ) (line' : Line T C) → new key ≡ Some line' → (line : Line T C) × (old key ≡ Some line) × (line.session ≡ line'.session))
+      → ((key : ℕ) (line' : Line T C) → new key ≡ Some line' → (line : Line T C) × (old key ≡ Some line) × (line.session ≡ line'.session)
+      × ((p : Passed) → IsCarried arrived gone p line → IsCarried arrived gone p line'))
       → ((n : ℕ) → standings' n ≡ standings n) → ((n : ℕ) → turns' n ≡ turns n)
-      → Accords accords is_so count numbers passed standings turns old → Accords accords is_so count numbers passed standings' turns' new
+      → Accords arrived gone accords is_so count numbers passed standings turns old → Accords arrived gone accords is_so count numbers passed standings' turns' new
   accords_still count numbers passed standings standings' turns turns' old new was stays kept a = record {
     each = λ key line e. let w = was key line e in
         accord_at accords _ _ _ _ _ _ _ _ w.2 refl (sym (stays (numbers key))) (sym (kept (numbers key))) (a.each key w.0 w.1);
+    carried = λ key line e. let w = was key line e in w.3 (passed (numbers key)) (a.carried key w.0 w.1);
     given = λ key s. a.given key (let w = was key s.0 s.1 in (w.0, w.1));
     apart = λ one other s t e. a.apart one other (let w = was one s.0 s.1 in (w.0, w.1)) (let w = was other t.0 t.1 in (w.0, w.1)) e;
     unused = λ n below. let u = a.unused n below in (u.0, stays n ∙ u.1, kept n ∙ u.2);
@@ -196,6 +200,45 @@ module _ {T C : Type 0} (accords : T → Passed → Standing → List Turn → T
 
 some_same : {A : Type 0} (x y : A) → Some x ≡ Some y → x ≡ y
 some_same x y e = cc
+
+-- ---- what a stream carried
+
+some_item : (x : ℕ) (xs : List ℕ) → x ∷ xs ≢ []
+some_item x xs e = omega (arith, ap length e)
+
+-- what came behind what was thrown away: nothing, or else nothing was thrown away
+carried_behind : (fed thrown more : List ℕ) → (more ≢ [] → thrown ≡ []) → (fed ++ thrown) ++ more ≡ (fed ++ more) ++ thrown
+carried_behind fed thrown [] none = append-nil (fed ++ thrown) ∙ ap (λ l. l ++ thrown) (sym (append-nil fed))
+carried_behind fed thrown (x ∷ xs) none = let e = none (some_item x xs) in
+    ap (λ l. l ++ x ∷ xs) (ap (λ l. fed ++ l) e ∙ append-nil fed) ∙ (sym (append-nil (fed ++ x ∷ xs)) ∙ ap (λ l. (fed ++ x ∷ xs) ++ l) (sym e))
+
+module _ {T C : Type 0} (arrived : C → Arrival) (gone : C → List ℕ) where
+  carried_at : (line line' : Line T C) (p p' : Passed) → line ≡ line' → p ≡ p' → IsCarried arrived gone p line → IsCarried arrived gone p' line'
+  carried_at line line' p p' el ep c = subst (λ x. IsCarried arrived gone x line') ep (subst (IsCarried arrived gone p) el c)
+
+  -- a new connection
+  carried_none : (line : Line T C) → IsSilent (arrived line.stream) (gone line.stream) → IsCarried arrived gone nothing_passed line
+  carried_none line silent = record { went = silent.unwritten; thrown = []; came = silent.unread; whole = λ _. refl }
+
+  -- calls for it
+  carried_on : (p : Passed) (line line' : Line T C) (deeds : List Deed) → Receives (arrived line.stream) (arrived line'.stream) (fed_in deeds)
+      → (fed_in deeds ≢ [] → line.leaves ≡ false) → Appends (gone line.stream) (gone line'.stream) (out_in deeds) → line'.leaves ≡ line.leaves
+      → IsCarried arrived gone p line → IsCarried arrived gone (passed_on p deeds) line'
+  carried_on p line line' deeds came heard went leaves c = record {
+    went = went ∙ ap (λ l. l ++ out_in deeds) c.went;
+    thrown = c.thrown;
+    came = came ∙ (ap (λ l. l ++ fed_in deeds) c.came ∙ carried_behind p.fed c.thrown (fed_in deeds) (λ some. c.whole (heard some)));
+    whole = λ stays. c.whole (sym leaves ∙ stays);
+  }
+
+  -- bytes of it that are thrown away
+  carried_thrown : (bytes : List ℕ) (p : Passed) (line line' : Line T C) → Throws arrived gone bytes line line' → IsCarried arrived gone p line → IsCarried arrived gone p line'
+  carried_thrown bytes p line line' throws c = record {
+    went = throws.unwritten ∙ c.went;
+    thrown = c.thrown ++ bytes;
+    came = throws.came ∙ (ap (λ l. l ++ bytes) c.came ∙ append_assoc p.fed c.thrown bytes);
+    whole = λ stays. absurd (false≢true (sym stays ∙ throws.leaves));
+  }
 
 -- what one happening is in a life
 module _ {S T C : Type 0} (instance_of : S → InstanceState) (accords : T → Passed → Standing → List Turn → Type 0) (is_so : Passed → Standing → List Turn → Type 0)
@@ -211,12 +254,13 @@ module _ {S T C : Type 0} (instance_of : S → InstanceState) (accords : T → P
     deeds : List LifeDeed
     life : IsLife standings (instance_of s) deeds (instance_of s')
     own : OwnsItsOwn deeds
-    accord : Accords accords is_so count numbers passed (standings_in standings deeds) (λ n. turns n ++ turns_of n deeds) new
+    accord : Accords arrived gone accords is_so count numbers passed (standings_in standings deeds) (λ n. turns n ++ turns_of n deeds) new
 
   came_on : (key count : ℕ) (numbers : ℕ → ℕ) (passed : ℕ → Passed) (standings : ℕ → Standing) (turns : ℕ → List Turn) (line : Line T C) (old new : ℕ → Option (Line T C))
-      → accords line.session nothing_passed fresh [] → AreSame new (with_line key (Some line) old) → Accords accords is_so count numbers passed standings turns old
-      → Accords accords is_so (count + 1) (numbers_after count numbers (Came key)) passed standings (λ n. turns n ++ []) new
-  came_on key count numbers passed standings turns line old new begun same a =
+      → accords line.session nothing_passed fresh [] → IsSilent (arrived line.stream) (gone line.stream) → AreSame new (with_line key (Some line) old)
+      → Accords arrived gone accords is_so count numbers passed standings turns old
+      → Accords arrived gone accords is_so (count + 1) (numbers_after count numbers (Came key)) passed standings (λ n. turns n ++ []) new
+  came_on key count numbers passed standings turns line old new begun silent same a =
       let was : (k : ℕ) (x : Line T C) → k ≢ key → new k ≡ Some x → old k ≡ Some x = λ k x away e. sym (chosen_not k key (Some line) (old k) away) ∙ (sym (same k) ∙ e) in
       let number_here : (k : ℕ) → k ≡ key → numbers_after count numbers (Came key) k ≡ count = λ k e. chosen_is k key count (numbers k) e in
       let number_there : (k : ℕ) → k ≢ key → numbers_after count numbers (Came key) k ≡ numbers k = λ k e. chosen_not k key count (numbers k) e in
@@ -227,6 +271,11 @@ module _ {S T C : Type 0} (instance_of : S → InstanceState) (accords : T → P
               (sym (ap passed (number_here k p.0) ∙ none.0)) (sym (ap standings (number_here k p.0) ∙ none.1)) (sym (append-nil _ ∙ (ap turns (number_here k p.0) ∙ none.2))) begun
           | inr p ↦ accord_at accords x.session x.session (passed (numbers k)) _ (standings (numbers k)) _ (turns (numbers k)) _ refl
               (sym (ap passed (number_there k p.0))) (sym (ap standings (number_there k p.0))) (sym (append-nil _ ∙ ap turns (number_there k p.0))) (a.each k x (was k x p.0 e))
+        ];
+        carried = λ k x e. elim (chosen k key (Some line) (old k)) [
+          | inl p ↦ carried_at arrived gone line x nothing_passed _ (some_same line x (sym p.1 ∙ (sym (same k) ∙ e))) (sym (ap passed (number_here k p.0) ∙ none.0))
+              (carried_none arrived gone line silent)
+          | inr p ↦ carried_at arrived gone x x (passed (numbers k)) _ refl (sym (ap passed (number_there k p.0))) (a.carried k x (was k x p.0 e))
         ];
         given = λ k s. elim (chosen k key (Some line) (old k)) [
           | inl p ↦ omega (arith, number_here k p.0)
@@ -247,11 +296,11 @@ module _ {S T C : Type 0} (instance_of : S → InstanceState) (accords : T → P
       }
 
   called_on : (key : ℕ) (deeds : List Deed) (count : ℕ) (numbers : ℕ → ℕ) (passed : ℕ → Passed) (standings : ℕ → Standing) (turns : ℕ → List Turn) (s s' : S) (line line' : Line T C)
-      (old new : ℕ → Option (Line T C)) → old key ≡ Some line → Did does s line.session deeds s' line'.session → AreSame new (with_line key (Some line') old)
-      → Accords accords is_so count numbers passed standings turns old → GoesOn count numbers (passed_after numbers passed (Called key deeds)) standings turns s s' new
-  called_on key deeds count numbers passed standings turns s s' line line' old new here did same a =
+      (old new : ℕ → Option (Line T C)) → old key ≡ Some line → Calls does begins acts pending arrived gone deeds s line s' line' → AreSame new (with_line key (Some line') old)
+      → Accords arrived gone accords is_so count numbers passed standings turns old → GoesOn count numbers (passed_after numbers passed (Called key deeds)) standings turns s s' new
+  called_on key deeds count numbers passed standings turns s s' line line' old new here calls same a =
       let at : ℕ = numbers key in
-      let l = lives_calls instance_of accords does does_so deeds s line.session s' line'.session did at standings (passed at) (turns at) (a.each key line here) in
+      let l = lives_calls instance_of accords does does_so deeds s line.session s' line'.session calls.did at standings (passed at) (turns at) (a.each key line here) in
       let was : (k : ℕ) (x : Line T C) → k ≢ key → new k ≡ Some x → old k ≡ Some x = λ k x away e. sym (chosen_not k key (Some line') (old k) away) ∙ (sym (same k) ∙ e) in
       let stood_there : (k : ℕ) → StandsUnder new k → StandsUnder old k = λ k s. elim (chosen k key (Some line') (old k)) [
         | inl p ↦ (line, ap old p.0 ∙ here)
@@ -276,6 +325,13 @@ module _ {S T C : Type 0} (instance_of : S → InstanceState) (accords : T → P
                 accord_at accords x.session x.session (passed (numbers k)) _ (standings (numbers k)) _ (turns (numbers k)) _ refl
                 (sym (passed_there (numbers k) away)) (sym o.0) (sym o.1) (a.each k x (was k x p.0 e))
           ];
+          carried = λ k x e. elim (chosen k key (Some line') (old k)) [
+            | inl p ↦ carried_at arrived gone line' x (passed_on (passed at) deeds) _ (some_same line' x (sym p.1 ∙ (sym (same k) ∙ e)))
+                (sym (passed_here (numbers k) (ap numbers p.0)))
+                (carried_on arrived gone (passed at) line line' deeds calls.came calls.heard calls.went calls.leaves (a.carried key line here))
+            | inr p ↦ let away = apart_from k p.0 (x, e) in
+                carried_at arrived gone x x (passed (numbers k)) _ refl (sym (passed_there (numbers k) away)) (a.carried k x (was k x p.0 e))
+          ];
           given = λ k s. a.given k (stood_there k s);
           apart = λ one other s t e. a.apart one other (stood_there one s) (stood_there other t) e;
           unused = λ n below. let away : n ≢ at = λ e. absurd (omega (arith, e, a.given key (line, here))) in let o = others n away in let u = a.unused n below in
@@ -289,27 +345,28 @@ module _ {S T C : Type 0} (instance_of : S → InstanceState) (accords : T → P
       }
 
   happening_on : (h : Happening) (count : ℕ) (numbers : ℕ → ℕ) (passed : ℕ → Passed) (standings : ℕ → Standing) (turns : ℕ → List Turn) (s s' : S) (old new : ℕ → Option (Line T C))
-      → Makes does begins acts pending arrived gone s old h s' new → Accords accords is_so count numbers passed standings turns old
+      → Makes does begins acts pending arrived gone s old h s' new → Accords arrived gone accords is_so count numbers passed standings turns old
       → GoesOn (count_after count h) (numbers_after count numbers h) (passed_after numbers passed h) standings turns s s' new
   happening_on (Came key) count numbers passed standings turns s s' old new m a =
       let b = begins_so s m.0.session s' m.2 in
-      record { deeds = []; life = b.same; own = tt; accord = came_on key count numbers passed standings turns m.0 old new b.accord m.5 a }
+      record { deeds = []; life = b.same; own = tt; accord = came_on key count numbers passed standings turns m.0 old new b.accord m.4 m.5 a }
   happening_on TurnedAway count numbers passed standings turns s s' old new m a = record {
     deeds = [];
     life = (begins_so s m.0.0 s' m.0.1).same;
     own = tt;
-    accord = accords_still accords is_so count numbers passed standings standings turns _ old new (λ k x e. (x, sym (m.1 k) ∙ e, refl)) (λ n. refl) (λ n. append-nil (turns n)) a;
+    accord = accords_still arrived gone accords is_so count numbers passed standings standings turns _ old new (λ k x e. (x, sym (m.1 k) ∙ e, refl, λ p c. c)) (λ n. refl) (λ n. append-nil (turns n)) a;
   }
   happening_on (Called key deeds) count numbers passed standings turns s s' old new m a =
-      called_on key deeds count numbers passed standings turns s s' m.0 m.1 old new m.2 m.3.did m.4 a
+      called_on key deeds count numbers passed standings turns s s' m.0 m.1 old new m.2 m.3 m.4 a
   happening_on (Thrown key bytes) count numbers passed standings turns s s' old new m a = record {
     deeds = [];
     life = ap instance_of m.4;
     own = tt;
-    accord = accords_still accords is_so count numbers passed standings standings turns _ old new
+    accord = accords_still arrived gone accords is_so count numbers passed standings standings turns _ old new
         (λ k x e. elim (chosen k key (Some m.1) (old k)) [
-          | inl p ↦ (m.0, ap old p.0 ∙ m.2, sym m.3.session ∙ ap (λ (l : Line T C). l.session) (some_same m.1 x (sym p.1 ∙ (sym (m.5 k) ∙ e))))
-          | inr p ↦ (x, sym p.1 ∙ (sym (m.5 k) ∙ e), refl)
+          | inl p ↦ let is = some_same m.1 x (sym p.1 ∙ (sym (m.5 k) ∙ e)) in
+              (m.0, ap old p.0 ∙ m.2, sym m.3.session ∙ ap (λ (l : Line T C). l.session) is, λ q c. subst (IsCarried arrived gone q) is (carried_thrown arrived gone bytes q m.0 m.1 m.3 c))
+          | inr p ↦ (x, sym p.1 ∙ (sym (m.5 k) ∙ e), refl, λ q c. c)
         ])
         (λ n. refl) (λ n. append-nil (turns n)) a;
   }
@@ -317,9 +374,9 @@ module _ {S T C : Type 0} (instance_of : S → InstanceState) (accords : T → P
     deeds = [];
     life = ap instance_of m.0;
     own = tt;
-    accord = accords_still accords is_so count numbers passed standings standings turns _ old new
+    accord = accords_still arrived gone accords is_so count numbers passed standings standings turns _ old new
         (λ k x e. elim (m.1 k) [
-          | inl p ↦ (x, sym p ∙ e, refl)
+          | inl p ↦ (x, sym p ∙ e, refl, λ q c. c)
           | inr p ↦ absurd (none-some x (sym p ∙ e))
         ])
         (λ n. refl) (λ n. append-nil (turns n)) a;
@@ -329,18 +386,18 @@ module _ {S T C : Type 0} (instance_of : S → InstanceState) (accords : T → P
         deeds = l.0;
         life = l.2 standings;
         own = own_owns l.0 l.1;
-        accord = accords_still accords is_so count numbers passed standings _ turns _ old new (λ k x e. (x, sym (m.1 k) ∙ e, refl))
+        accord = accords_still arrived gone accords is_so count numbers passed standings _ turns _ old new (λ k x e. (x, sym (m.1 k) ∙ e, refl, λ p c. c))
             (λ n. (own_stay n l.0 standings l.1).0) (λ n. ap (λ x. turns n ++ x) (own_stay n l.0 standings l.1).1 ∙ append-nil (turns n)) a;
       }
 
   happenings_on : (hs : List Happening) (count : ℕ) (numbers : ℕ → ℕ) (passed : ℕ → Passed) (standings : ℕ → Standing) (turns : ℕ → List Turn) (s s' : S)
-      (old new : ℕ → Option (Line T C)) → Happens does begins acts pending arrived gone s old hs s' new → Accords accords is_so count numbers passed standings turns old
+      (old new : ℕ → Option (Line T C)) → Happens does begins acts pending arrived gone s old hs s' new → Accords arrived gone accords is_so count numbers passed standings turns old
       → GoesOn (count_by count hs) (numbers_by count numbers hs) (passed_by count numbers passed hs) standings turns s s' new
   happenings_on [] count numbers passed standings turns s s' old new happens a = record {
     deeds = [];
     life = ap instance_of happens.0;
     own = tt;
-    accord = accords_still accords is_so count numbers passed standings standings turns _ old new (λ k x e. (x, sym (happens.1 k) ∙ e, refl)) (λ n. refl) (λ n. append-nil (turns n)) a;
+    accord = accords_still arrived gone accords is_so count numbers passed standings standings turns _ old new (λ k x e. (x, sym (happens.1 k) ∙ e, refl, λ p c. c)) (λ n. refl) (λ n. append-nil (turns n)) a;
   }
   happenings_on (h ∷ hs) count numbers passed standings turns s s' old new happens a =
       let first = happening_on h count numbers passed standings turns s happens.0 old happens.1 happens.2 a in
@@ -349,22 +406,40 @@ module _ {S T C : Type 0} (instance_of : S → InstanceState) (accords : T → P
         deeds = first.deeds ++ rest.deeds;
         life = life_append first.deeds rest.deeds standings (instance_of s) (instance_of happens.0) (instance_of s') first.life rest.life;
         own = owns_append first.deeds rest.deeds first.own rest.own;
-        accord = accords_still accords is_so _ _ _ _ _ _ _ new new (λ k x e. (x, e, refl))
+        accord = accords_still arrived gone accords is_so _ _ _ _ _ _ _ new new (λ k x e. (x, e, refl, λ p c. c))
             (λ n. ap (λ (f : ℕ → Standing). f n) (standings_append first.deeds rest.deeds standings))
             (λ n. ap (λ x. turns n ++ x) (turns_append n first.deeds rest.deeds) ∙ sym (append_assoc (turns n) (turns_of n first.deeds) (turns_of n rest.deeds)))
             rest.accord;
       }
 
   -- what happened from the beginning on is a life
-  pub history_lived : (hs : List Happening) (s s' : S) (new : ℕ → Option (Line T C)) → Happens does begins acts pending arrived gone s no_lines hs s' new
-      → IsLived instance_of accords is_so s hs s' new
+  history_lived : (hs : List Happening) (s s' : S) (new : ℕ → Option (Line T C)) → Happens does begins acts pending arrived gone s no_lines hs s' new
+      → IsLived arrived gone instance_of accords is_so s hs s' new
   history_lived hs s s' new happens =
       let all = happenings_on hs 0 (λ _. 0) (λ _. nothing_passed) (λ _. fresh) (λ _. []) s s' no_lines new happens
       (record {
         each = λ k x e. absurd (none-some x e);
+        carried = λ k x e. absurd (none-some x e);
         given = λ k s. absurd (none-some s.0 s.1);
         apart = λ one other s t e. absurd (none-some s.0 s.1);
         unused = λ n below. (refl, refl, refl);
         ever = λ n. so_of_none;
       }) in
       record { deeds = all.deeds; life = all.life; own = all.own; accord = all.accord }
+
+  -- at each moment of it
+  always_on : (before hs : List Happening) (first s s' : S) (old new : ℕ → Option (Line T C)) (begun : Happens does begins acts pending arrived gone first no_lines before s old)
+      (happens : Happens does begins acts pending arrived gone s old hs s' new)
+      → IsAlwaysLived does begins acts pending arrived gone instance_of accords is_so first before s old hs s' new happens
+  always_on before [] first s s' old new begun same =
+      history_lived before first s' new (subst (λ (x : S). Happens does begins acts pending arrived gone first no_lines before x new) (sym same.0)
+      (happens_same does begins acts pending arrived gone before first no_lines s old new same.1 begun))
+  always_on before (h ∷ hs) first s s' old new begun happens = (
+    history_lived before first s old begun,
+    always_on (before ++ h ∷ []) hs first happens.0 s' happens.1 new
+        (happens_more does begins acts pending arrived gone before h first no_lines s old happens.0 happens.1 begun happens.2) happens.3,
+  )
+
+  pub history_always_lived : (hs : List Happening) (s s' : S) (new : ℕ → Option (Line T C)) (happens : Happens does begins acts pending arrived gone s no_lines hs s' new)
+      → IsAlwaysLived does begins acts pending arrived gone instance_of accords is_so s [] s no_lines hs s' new happens
+  history_always_lived hs s s' new happens = always_on [] hs s s s' no_lines new (refl, λ _. refl) happens

@@ -1,12 +1,13 @@
 -- The history of a loop, as a member's life.
-use Rattle.std.specs.Prelude.{◌≡◌, ◌⊎◌, ◌==◌, ℕ, ◌+◌, ◌<◌, ◌≤◌, List, [], ◌∷◌, ◌++◌, Option, Some, ⊤, if◌then◌else◌}
+use Rattle.std.specs.Prelude.{◌≡◌, ◌⊎◌, ◌==◌, ℕ, ◌+◌, ◌<◌, ◌≤◌, false, List, [], ◌∷◌, ◌++◌, Option, Some, ⊤, if◌then◌else◌}
 use Rattle.am_http.specs.Sessions.{Standing, fresh}
 use Rattle.am_instance.specs.InstanceStates.{InstanceState}
 use Rattle.am_member.specs.Lives.{Deed as LifeDeed, IsLife, IsOwnEvent, IsPagingEvent, Turn, standings_in, turns_of}
 use Rattle.am_member.specs.Lives.Deed.{Served, Own}
 use Rattle.am_reactor.specs.Deeds.{Deed}
-use Rattle.am_reactor.specs.History.{Happening, Line, fed_in, out_in}
+use Rattle.am_reactor.specs.History.{Happening, Happens, Line, fed_in, no_lines, out_in}
 use Rattle.am_reactor.specs.History.Happening.{Came, Called}
+use Rattle.am_reactor.specs.Streams.{Arrival}
 
 -- ---- connections, each with a number that is never used again
 
@@ -101,13 +102,22 @@ module _ {S T : Type 0} (instance_of : S → InstanceState) (accords : T → Pas
 abbrev pub StandsUnder : {T C : Type 0} → (ℕ → Option (Line T C)) → ℕ → Type 0
 StandsUnder {T} {C} lines key = (line : Line T C) × (lines key ≡ Some line)
 
+-- The bytes that passed over a connection are those of its stream: just the bytes that are told as sent went out over it, and just
+-- those that were fed came over it, in their order, and behind them those that were thrown away once the connection was let go.
+pub record IsCarried {T C : Type 0} (arrived : C → Arrival) (gone : C → List ℕ) (passed : Passed) (line : Line T C) : Type 0 where
+  pub went : gone line.stream ≡ passed.gone
+  pub thrown : List ℕ
+  pub came : (arrived line.stream).bytes ≡ passed.fed ++ thrown
+  pub whole : line.leaves ≡ false → thrown ≡ []
+
 -- The connections accord with a life: each session accords with the bytes that passed over its connection, and with its turns, by
--- its number. No two have the same number, and each number was already given; nothing passed over connections whose number
--- wasn't. For each connection that ever came, `is_so` holds of the bytes that passed over it, of how far it came and of its
--- turns.
-pub record Accords {T C : Type 0} (accords : T → Passed → Standing → List Turn → Type 0) (is_so : Passed → Standing → List Turn → Type 0) (count : ℕ) (numbers : ℕ → ℕ)
+-- its number, and these bytes are those of its stream. No two have the same number, and each number was already given; nothing
+-- passed over connections whose number wasn't. For each connection that ever came, `is_so` holds of the bytes that passed over
+-- it, of how far it came and of its turns.
+pub record Accords {T C : Type 0} (arrived : C → Arrival) (gone : C → List ℕ) (accords : T → Passed → Standing → List Turn → Type 0) (is_so : Passed → Standing → List Turn → Type 0) (count : ℕ) (numbers : ℕ → ℕ)
     (passed : ℕ → Passed) (standings : ℕ → Standing) (turns : ℕ → List Turn) (lines : ℕ → Option (Line T C)) : Type 0 where
   pub each : (key : ℕ) (line : Line T C) → lines key ≡ Some line → accords line.session (passed (numbers key)) (standings (numbers key)) (turns (numbers key))
+  pub carried : (key : ℕ) (line : Line T C) → lines key ≡ Some line → IsCarried arrived gone (passed (numbers key)) line
   pub given : (key : ℕ) → StandsUnder lines key → numbers key < count
   pub apart : (one other : ℕ) → StandsUnder lines one → StandsUnder lines other → numbers one ≡ numbers other → one ≡ other
   pub unused : (number : ℕ) → count ≤ number → (passed number ≡ nothing_passed) × (standings number ≡ fresh) × (turns number ≡ [])
@@ -120,10 +130,20 @@ count_by count (happening ∷ happenings) = count_by (count_after count happenin
 
 -- The history of a loop is the life of a member: turns of its connections, each by its number, and steps that the member made by
 -- itself or for a program that sends pages, lead its instance from where it stood to where it stands.
-pub record IsLived {S T C : Type 0} (instance_of : S → InstanceState) (accords : T → Passed → Standing → List Turn → Type 0) (is_so : Passed → Standing → List Turn → Type 0)
-    (first : S) (happenings : List Happening) (service : S) (lines : ℕ → Option (Line T C)) : Type 0 where
+pub record IsLived {S T C : Type 0} (arrived : C → Arrival) (gone : C → List ℕ) (instance_of : S → InstanceState)
+    (accords : T → Passed → Standing → List Turn → Type 0) (is_so : Passed → Standing → List Turn → Type 0) (first : S) (happenings : List Happening) (service : S) (lines : ℕ → Option (Line T C)) : Type 0 where
   pub deeds : List LifeDeed
   pub life : IsLife (λ _. fresh) (instance_of first) deeds (instance_of service)
   pub own : OwnsItsOwn deeds
-  pub accord : Accords accords is_so (count_by 0 happenings) (numbers_by 0 (λ _. 0) happenings) (passed_by 0 (λ _. 0) (λ _. nothing_passed) happenings)
+  pub accord : Accords arrived gone accords is_so (count_by 0 happenings) (numbers_by 0 (λ _. 0) happenings) (passed_by 0 (λ _. 0) (λ _. nothing_passed) happenings)
       (standings_in (λ _. fresh) deeds) (λ connection. turns_of connection deeds) lines
+
+module _ {S T C : Type 0} (does : S → T → Deed → S → T → Type 0) (begins : S → T → S → Type 0) (acts : S → S → Type 0) (pending : T → List ℕ)
+    (arrived : C → Arrival) (gone : C → List ℕ) (instance_of : S → InstanceState) (accords : T → Passed → Standing → List Turn → Type 0)
+    (is_so : Passed → Standing → List Turn → Type 0) (first : S) where
+  -- At each moment of a history, behind what had happened before, that is the life of a member.
+  abbrev pub IsAlwaysLived : (before : List Happening) (service : S) (lines : ℕ → Option (Line T C)) (happenings : List Happening) (service' : S)
+      (lines' : ℕ → Option (Line T C)) → Happens does begins acts pending arrived gone service lines happenings service' lines' → Type 0
+  IsAlwaysLived before service lines [] service' lines' happens = IsLived arrived gone instance_of accords is_so first before service' lines'
+  IsAlwaysLived before service lines (happening ∷ happenings) service' lines' happens = IsLived arrived gone instance_of accords is_so first before service lines
+      × IsAlwaysLived (before ++ happening ∷ []) happens.0 happens.1 happenings service' lines' happens.3

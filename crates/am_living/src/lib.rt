@@ -10,7 +10,7 @@ ghost use Rattle.am_reactor.specs.Deeds.{Deed};
 ghost use Rattle.am_reactor.specs.History.{IsCall, Leads, Line, no_lines};
 ghost use Rattle.am_reactor.specs.Peered.{LoopGoesFromNone};
 ghost use Rattle.am_reactor.specs.Streams.{arrived_over, gone_over};
-ghost use Rattle.am_living.specs.Living.{ActsAlone, BeginsFresh, DoesForOne, IsLived, Passed, nothing_passed};
+ghost use Rattle.am_living.specs.Living.{ActsAlone, BeginsFresh, DoesForOne, IsAlwaysLived, Passed, nothing_passed};
 
 use am_reactor::{Entrances, Limits, NotedStream, Peers, Service};
 use std::alloc::Global;
@@ -63,11 +63,11 @@ pub fn run<S: Living, R: Net + Clock + Input>(
     service: &mut S,
     limits: Limits,
 ) -> io::Result<()>
-    // PROMISE: A member that the loop runs has lived a life: one list of steps, each connection's own bytes in order.
+    // PROMISE: At each moment, a member that the loop runs has lived a life: one list of steps, of just the bytes that each connection's own stream brought, in order; and just what its session sent has gone out over that stream, each byte once.
     ensures lived { (left : ℕ → Option (Line S.Session NotedStream))
-        × (history : Leads S.does S.begins (IsCall S.acts S.loses S.answers S.gives S.offers S.asks) S.pending arrived_over gone_over
-        service.old no_lines service.new left)
-        × IsLived S.instance_of S.accords S.is_so service.old history.happenings service.new left }
+        × (history : Leads S.does S.begins (IsCall S.acts S.loses S.answers S.gives S.offers S.asks) S.pending arrived_over gone_over service.old no_lines service.new left)
+        × IsAlwaysLived S.does S.begins (IsCall S.acts S.loses S.answers S.gives S.offers S.asks) S.pending arrived_over gone_over
+        S.instance_of S.accords S.is_so service.old [] service.old no_lines history.happenings service.new left history.happens }
     ensures peered { LoopGoesFromNone S.does S.begins S.acts S.pending arrived_over gone_over S.loses S.answers S.gives S.offers S.asks service.old service.new }
 {
     am_reactor::run(alloc, rt, entrances, peers, service, limits)
