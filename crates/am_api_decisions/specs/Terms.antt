@@ -12,11 +12,11 @@ use Rattle.am_api_decisions.specs.declared.terms.Terms.{Terms}
 abbrev pub repeat_in : List ℕ → Option ℕ
 repeat_in query = number_or 14400 1 9223372036 (word_in (codes "repeat") query)
 
--- whether the receiver is told of resolved alerts
+-- true if the receiver is told of resolved alerts
 abbrev pub resolved_in : List ℕ → Option Bool
 resolved_in query = truth_or (word_in (codes "resolved") query)
 
--- whether the reply waits for the member's turn
+-- true if the reply waits for the member's turn
 abbrev pub wait_in : List ℕ → Option Bool
 wait_in query = truth_or (word_in (codes "wait") query)
 

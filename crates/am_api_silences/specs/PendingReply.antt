@@ -17,7 +17,7 @@ IsMadeOf (makings.List list) reply = Says (IsListReply list.rows) reply
 abbrev pub Makes : (ReplyBytes → Type 0) → PendingReply → Type 0
 Makes IsSuch making = (reply : ReplyBytes) → IsMadeOf making reply → IsSuch reply
 
--- whether no silence is left to be written
+-- true if no silence is left to be written
 abbrev pub is_whole : PendingReply → Bool
 is_whole (makings.Whole whole) = true
 is_whole (makings.List list) = list.left == 0

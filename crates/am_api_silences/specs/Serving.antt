@@ -54,7 +54,7 @@ IsReadBy input left (Err (faults.Write written)) = ⊥
 
 -- ---- answering
 
--- what was read is answered: a request by what it means, anything else by the reason why it is refused
+-- the input that was read is answered: a request by what it means, anything else by the reason why it is refused
 abbrev pub IsAnswerTo : Read → InstanceState → ℕ → ℕ → Answered → InstanceState → Type 0
 IsAnswerTo (Whole request) old bits now answered new = IsRequestAnswer old request bits now answered new
 IsAnswerTo (Refused refusal) old bits now answered new = IsRefusalAnswer refusal old answered new

@@ -1,4 +1,4 @@
--- What comes of a stretch of work on the answer of an Alertmanager.
+-- The outcome of a stretch of work on the answer of an Alertmanager.
 use Rattle.std.specs.Prelude.{ℕ, Option, Some, None}
 use Rattle.am_gossip.specs.declared.frame.Frame.{Frame as FrameOf}
 use Rattle.am_beside.specs.declared.replicas.Came.{Came}

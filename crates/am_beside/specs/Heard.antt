@@ -24,6 +24,6 @@ is_unasked Asked = false
 is_unasked Nothing = true
 is_unasked Told = true
 
--- whether a replica is to be asked after it was wanted: it is, unless it is just being asked or has answered
+-- true if a replica is to be asked after it was wanted: it is, unless it is just being asked or has answered
 abbrev pub is_due_then : Replica → Bool
 is_due_then replica = replica.is_due || (is_unasked replica.way && is_none replica.answer)

@@ -15,8 +15,8 @@ use Rattle.am_wire.specs.declared.reader.RowPosition.TheVariants.{Before}
 abbrev pub IsGreatest : {K X : Type 0} → (X → Version K) → List X → K → Option X → Type 0
 IsGreatest {K} {X} seen set key found = MatchOption found ((v : X) → Contains set v → (seen v).key ≢ key) (λ v. ((seen v).key ≡ key) × IsBest seen set v)
 
--- What was read since the start is a row of versions, whatever follows; the reader is at its end, and at each key the map holds
--- the greatest of these versions.
+-- The bytes that were read since the start are a row of versions, whatever follows; the reader is at its end, and at each key
+-- the map holds the greatest of these versions.
 pub record IsReadFrom {K X : Type 0} (reads : ℕ → List ℕ → Result X WireError) (seen : X → Version K) (cmp : K → K → Ordering)
     (start now : Option (List ℕ)) (standing : RowPosition) (map_read : List X) : Type 0 where
   pub bytes : List ℕ

@@ -42,7 +42,7 @@ pub record IsDelivered (old : World) (number now line : ℕ) (result : Result Re
   -- the frame has this place among all that were ever sent
   pub index : ℕ
   pub index_is : flight.number ≡ index + 1
-  -- what the frame brings is done at its addressee
+  -- the step that the frame asks for is made at its addressee
   pub done : (replica : Replica) → replica_at old flight.addressee ≡ Some replica →
       IsDone old flight.addressee replica (delivery flight index) now line result new
 

@@ -8,7 +8,7 @@ use Rattle.am_runs.specs.Steps.{RunStep, EachStep, delivered_in, moment}
 use Rattle.am_runs.specs.Steps.RunStep.{Took, Ticked, Back, Refused, Saved, Stopped, Started}
 use Rattle.am_runs.specs.Timely.{HasCaughtUp, IsOnward, IsSwift}
 
--- whether a step starts a member
+-- true if a step starts a member
 abbrev pub starts : {X : Type 0} → ℕ → RunStep X → Bool
 starts q (Took place now source versions frames) = false
 starts q (Ticked place now) = false
@@ -18,7 +18,7 @@ starts q (Saved place) = false
 starts q (Stopped place) = false
 starts q (Started place now) = place == q
 
--- whether a step saves a member
+-- true if a step saves a member
 abbrev pub saves : {X : Type 0} → ℕ → RunStep X → Bool
 saves q (Took place now source versions frames) = false
 saves q (Ticked place now) = false

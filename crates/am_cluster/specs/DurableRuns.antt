@@ -26,7 +26,7 @@ module _ {K X : Type 0} (run : RunOf K X) where
   abbrev pub came_in : World → ℕ → List X
   came_in world place = came place (run.steps world)
 
-  -- what came live to a durable member by some moment is in its bare set at every later one
+  -- a version that came live to a durable member by some moment is in its bare set at every later one
   abbrev pub LoseNothing : World → World → Type 0
   LoseNothing earlier later = (place : ℕ) (rest : List (RunStep X)) → run.steps later ≡ run.steps earlier ++ rest →
       IsDurable run.state.seen place (run.steps later) →

@@ -8,7 +8,7 @@ use Rattle.am_runs.specs.Steps.RunStep.{Took}
 use Rattle.am_cluster.specs.Durable.{saves, starts}
 
 module _ {K X : Type 0} (seen : X → Version K) where
-  -- whether a step brings a member something live
+  -- true if a step brings a member something live
   abbrev pub brings_live : ℕ → RunStep X → Bool
   brings_live q (Took place now source versions frames) = place == q && list_any (λ v. is_live now (seen v)) versions
   brings_live q _ = false
@@ -17,7 +17,7 @@ module _ {K X : Type 0} (seen : X → Version K) where
   abbrev pub saved_after : ℕ → Bool → RunStep X → Bool
   saved_after q saved step = saves q step || (saved && not (brings_live q step))
 
-  -- whether such a save stands behind each of them at every start in these steps; `saved` says whether it does at first
+  -- true if such a save stands behind each of them at every start in these steps; `saved` says whether it does at first
   abbrev pub durable_from : ℕ → Bool → List (RunStep X) → Bool
   durable_from q saved [] = true
   durable_from q saved (step ∷ steps) = not (starts q step && not saved) && durable_from q (saved_after q saved step) steps

@@ -19,7 +19,7 @@ use Rattle.am_cluster.specs.declared.error.ClusterError.TheVariants as errors
 use Rattle.am_cluster.specs.Refusals.{IsUnmade}
 use Rattle.am_cluster.specs.Worlds.{Replica, World, with_flights, with_replica, written}
 
--- whether the frames that come out of a step are dropped: those of a member that takes the maps of another are
+-- true if the frames that come out of a step are dropped: those of a member that takes the maps of another are
 abbrev pub drops : Source → Bool
 drops (Lent lender) = true
 drops _ = false

@@ -27,7 +27,7 @@ asks asked = events.Decide asked.group_key asked.receiver asked.firing asked.res
 abbrev pub key_of : Question → LogKey
 key_of asked = record { group_key = asked.group_key; receiver = asked.receiver }
 
--- whether some alert of the group fires
+-- true if some alert of the group fires
 abbrev pub something_fires : Question → Bool
 something_fires asked = not (has_none (set_of asked.firing))
 

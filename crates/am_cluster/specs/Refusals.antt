@@ -11,7 +11,7 @@ use Rattle.am_cluster.specs.declared.journal.mark.Mark.TheVariants as marks
 use Rattle.am_cluster.specs.Marks.{step_of_mark}
 use Rattle.am_cluster.specs.Worlds.{Replica, World, written}
 
--- whether what is asked names no peer, or one that is another member
+-- true if what is asked names no peer, or one that is another member
 abbrev pub names_peer : Settings → Asked → Bool
 names_peer config (asked.Event event source) = knows_peer config (peer_of event)
 names_peer config asked.Start = true

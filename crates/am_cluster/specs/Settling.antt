@@ -118,7 +118,7 @@ HasStopped replicas = Any (λ replica. replica.runs ≡ false) replicas
 abbrev pub HasLate : ℕ → List Replica → Type 0
 HasLate now replicas = Any (λ replica. now < replica.stand.last) replicas
 
--- whether the last moment of a member, if there is one, is after this one
+-- true if the last moment of a member, if there is one, is after this one
 abbrev pub is_late : ℕ → Option Replica → Bool
 is_late now None = false
 is_late now (Some replica) = nat_lt now replica.stand.last

@@ -42,7 +42,7 @@ pub record IsNamed (world : World) (name : List ℕ) (place : ℕ) (replica : Re
 
 -- The outcome of a step of a schedule: `old` is the cluster before it, `new` the one after it, and `result` the answer.
 pub record IsStepped (old : World) (action : Action) (line : ℕ) (result : Result Reply ClusterError) (new : World) : Type 0 where
-  -- what a line asks of the member of a name is done there
+  -- the event that a line asks of the member of a name is done there
   pub event : (at : ℕ) (name : List ℕ) (event : LineEvent) (place : ℕ) (replica : Replica) → action ≡ actions.Event at name event →
       IsNamed old name place replica → IsDone old place replica (asked_by replica.stand.config event) at line result new
   -- if no member has the name, it is refused as that of an unknown peer, and that is recorded

@@ -1,4 +1,4 @@
--- What is told of the differences of sources, and what went out where that stopped.
+-- Reports of the differences of sources, and the bytes that went out if one stopped.
 -- X is the type of versions, S that of sources, as where sources are read; `begins`, `told` and `more` are the words of lines, `by`
 -- says by what one version is less than another, and `key_data`, `name` and `value` are the values of JSON, as where
 -- differences are told; `contents` is what a writer holds.

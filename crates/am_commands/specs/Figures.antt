@@ -14,7 +14,7 @@ use Rattle.am_snapshot.specs.declared.error.SnapshotError.{SnapshotError}
 use Rattle.am_snapshot.specs.declared.error.SnapshotError.TheVariants.{Write, Memory}
 
 module _ {K X : Type 0} (seen : X → Version K) (cmp : K → K → Ordering) (compared : Compared) (now : ℕ) where
-  -- whether the sources differ at any key
+  -- true if the sources differ at any key
   pub record IsFound (sources : List (Source X)) (found : Bool) : Type 0 where
     pub differences : List (Difference K X)
     pub all : AreDifferences seen cmp compared now sources differences

@@ -1,4 +1,4 @@
--- What sources come to when they are folded.
+-- The map of sources that are folded.
 -- X is the type of versions, and `seen` is what the merge sees of one.
 use Rattle.std.specs.Prelude.{◌≡◌, ℕ, List, Option, None, fold}
 use Rattle.std.specs.declared.cmp.Ordering.{Ordering}

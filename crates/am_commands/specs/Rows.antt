@@ -1,4 +1,4 @@
--- What an opened source gives, and where reading it stops.
+-- The versions that an opened source gives, and the fault at which reading it stops.
 -- X is the type of versions, R that of readers, `seen` is what the merge sees of a version, `reads` what reading one gives, and
 -- `remaining` what a reader has to give. An input has at most `limit` bytes.
 use Rattle.std.specs.Prelude.{◌≡◌, ℕ, List, [], Option, Some, None, IfSome, Result, ⊤}

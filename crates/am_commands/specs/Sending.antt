@@ -1,4 +1,4 @@
--- What is sent to a running replica.
+-- The versions that are sent to a running replica.
 -- X is the type of versions, and `seen` is what the merge sees of one.
 use Rattle.std.specs.Prelude.{ℕ, Bool, List, nat_le, ◌&&◌, Some}
 use Rattle.std.specs.declared.cmp.Ordering.{Ordering}

@@ -1,4 +1,4 @@
--- What a command shows of a source, and what went out where it stopped.
+-- Views of a source that a command shows, and the bytes that went out if one stopped.
 -- X is the type of versions, S that of sources; `gives` says which map reading a source may give, and `stops` with which fault it
 -- may stop; `contents` is what a writer holds.
 use Rattle.std.specs.Prelude.{◌≡◌, ℕ, List, Option}

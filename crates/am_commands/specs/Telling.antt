@@ -1,4 +1,4 @@
--- What a command tells of its sources, and what went out where it stopped.
+-- Reports of a command on its sources, and the bytes that went out if one stopped.
 -- X is the type of versions, S that of sources, as where sources are read; `IsText` says which bytes are told of sources, and
 -- `contents` is what a writer holds.
 use Rattle.std.specs.Prelude.{◌≡◌, ℕ, ◌<◌, List, length, take, Option, ⊤}

@@ -41,9 +41,9 @@ came_of (byte ∷ bytes) = Fed (byte ∷ bytes)
 
 -- the effects with those of more steps added
 pub record AddsAll (more before after : StepEffects) : Type 0 where
-  -- what the steps send
+  -- the frames that the steps send
   pub sent : Gathers more.outbox before.outbox after.outbox
-  -- whether a Tick was among them
+  -- true if a Tick was among them
   pub ticked : after.ticked ≡ (before.ticked || more.ticked)
 
 -- a reply goes out, or exactly as many of its first bytes as are counted if a write failed; if there is no reply, nothing goes out

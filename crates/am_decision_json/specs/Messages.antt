@@ -28,7 +28,7 @@ labels_in d = option_and_then labels_of (option_and_then as_object (get (codes "
 
 -- ---- alerts
 
--- whether an alert with this status fires; otherwise it is resolved
+-- true if an alert with this status fires; otherwise it is resolved
 unfoldable pub firing_of : List ℕ → Option Bool
 firing_of status =
     if bytes_eq status (codes "firing") then Some true else if bytes_eq status (codes "resolved") then Some false else None
@@ -75,7 +75,7 @@ alerts_in d = do
 
 -- ---- messages
 
--- what a message says
+-- the content of a message
 pub record Said : Type 0 where
   pub group_key : List ℕ
   pub receiver : List ℕ
@@ -84,7 +84,7 @@ pub record Said : Type 0 where
 abbrev pub said : Message → Said
 said m = record { group_key = m.group_key; receiver = m.receiver; alerts = m.alerts.items }
 
--- what an object says, or the key of its first fault
+-- the content of an object, or the key of its first fault
 unfoldable pub message_of : Data → Result Said MessageKey
 message_of d = do
   group_key ← ok_or (text_in (codes "groupKey") d) keys.GroupKey

@@ -3,7 +3,7 @@ use Rattle.std.specs.Prelude.{List, [], ◌∷◌, Result, Ok, Err}
 use Rattle.serde_json.specs.Data.{Data, Items, no_items, item}
 use Rattle.am_decision_json.specs.declared.key.MessageKey.{MessageKey}
 
--- what follows a step that may fail
+-- the step that follows one that may fail
 infixl 10 ◌>>=◌
 abbrev pub ◌>>=◌ : {A B : Type 0} → Result A MessageKey → (A → Result B MessageKey) → Result B MessageKey
 (Ok x) >>= f = f x

@@ -16,7 +16,7 @@ Hashes = FinSet nat_cmp
 abbrev pub set_of : List ℕ → Hashes
 set_of hashes = from_list hashes
 
--- whether a set of hashes is empty
+-- true if a set of hashes is empty
 abbrev pub has_none : Hashes → Bool
 has_none hashes = len hashes == 0
 

@@ -62,7 +62,7 @@ pub record IsTaken (said : Spoken) (old : InstanceState) (talk : Talk) (new : In
   pub waiting : WaitsNoMore talk talk'
   pub saying : SaysBy answer.reply talk.saying talk'.saying
 
--- What was said waits: it is a request, and nothing was done.
+-- A request waits, and nothing was done.
 pub record IsKept (said : Spoken) (old : InstanceState) (talk : Talk) (new : InstanceState) (talk' : Talk) : Type 0 where
   pub request : IsRequest said
   pub same : new ≡ old
@@ -73,7 +73,7 @@ pub record IsRefused (old : InstanceState) (saying : Saying) (new : InstanceStat
   pub same : new ≡ old
   pub line : Keeps saying saying'
 
--- It is a request that isn't about silences: nothing was done but steps for a program that sends pages, and nothing more went out.
+-- A request isn't about silences: nothing was done but steps for a program that sends pages, and nothing more went out.
 pub record IsElsewhereDone (said : Spoken) (old : InstanceState) (saying : Saying) (new : InstanceState) (saying' : Saying) : Type 0 where
   pub elsewhere : IsElsewhere said
   pub steps : ForPages old new
@@ -84,6 +84,6 @@ pub record IsLeft (said : Spoken) (old : InstanceState) (talk : Talk) (new : Ins
   pub closes : Closes talk talk'
   pub done : IsRefused old talk.saying new talk'.saying ⊎ IsElsewhereDone said old talk.saying new talk'.saying
 
--- What was said is taken, kept, or left.
+-- A whole input is taken, kept, or left.
 abbrev pub IsAnswered : Spoken → InstanceState → Talk → InstanceState → Talk → Type 0
 IsAnswered said old talk new talk' = IsTaken said old talk new talk' ⊎ (IsKept said old talk new talk' ⊎ IsLeft said old talk new talk')

@@ -22,7 +22,7 @@ use Rattle.am_dialogue.specs.declared.conversation.Work.TheVariants as works
 
 -- ---- what is replied
 
--- what is replied to a connection: nothing yet; a reply that a step has begun, which is being made; a reply to a request that
+-- the reply to a connection: nothing yet; a reply that a step has begun, which is being made; a reply to a request that
 -- isn't about silences, which is being made; a whole reply, which waits for the next commit; or one of which this many bytes went
 -- out
 pub data Saying : Type 0 where
@@ -41,12 +41,12 @@ abbrev pub pending_of : Saying → List ℕ
 pending_of (Out reply written) = drop written (bytes_of reply)
 pending_of _ = []
 
--- what is replied, after `count` more bytes went out
+-- the reply after `count` more bytes went out
 abbrev pub sent_on : ℕ → Saying → Saying
 sent_on count (Out reply written) = Out reply (written + count)
 sent_on count saying = saying
 
--- what is replied, once it waits for no commit any more
+-- the reply once it waits for no commit any more
 abbrev pub released : Saying → Saying
 released (Held reply) = Out reply 0
 released saying = saying
@@ -92,8 +92,8 @@ IsScreenedBy session piece names told =
     ((what : Foreign) × (to_head : Bool) × Screens session piece names (ForeignTo what to_head) × (told ≡ line_of_foreign what to_head))
     ⊎ (told ≡ line_of Memory)
 
--- what a connection is owed: nothing but such a line; the reply that its step has begun, or a line; or any reply to a request
--- that isn't about silences
+-- the reply that a connection is owed: nothing but such a line; the reply that its step has begun, or a line; or any reply to a
+-- request that isn't about silences
 pub data Owed : Type 0 where
   Line : Owed
   Reply : PendingReply → Owed
@@ -117,12 +117,12 @@ IsOwed owed (Out reply written) = IsReplyTo owed reply
 abbrev pub KeepsGone : Saying → Saying → Type 0
 KeepsGone old new = gone_of new ≡ gone_of old
 
--- What is replied stays what it was owed to be, or is such a line, and nothing more went out.
+-- The reply stays the one that was owed, or is such a line, and nothing more went out.
 pub record Keeps (old new : Saying) : Type 0 where
   pub owed : (owed : Owed) → IsOwed owed old → IsOwed owed new
   pub gone : KeepsGone old new
 
--- What is replied is finished from this, or stays what it was owed to be, and nothing more went out.
+-- The reply is finished from this, or stays the one that was owed, and nothing more went out.
 pub record KeepsBy (making : PendingReply) (old new : Saying) : Type 0 where
   pub owed : (owed : Owed) → IsOwed owed old → Makes (IsReplyTo owed) making → IsOwed owed new
   pub gone : KeepsGone old new
@@ -135,13 +135,13 @@ pub record Talk : Type 0 where
   pub waiting : Option Spoken
   pub saying : Saying
 
--- what was said that waits whole, if something does
+-- the whole input that waits, if one does
 abbrev pub waiting_in : Work → Option Spoken
 waiting_in (works.Request said) = Some (spoken said)
 waiting_in (works.Judging said judging) = Some (spoken said)
 waiting_in _ = None
 
--- what is replied, by the work that is left to do
+-- the reply, by the work that is left to do
 abbrev pub saying_in : Work → Saying
 saying_in works.Nothing = Silent
 saying_in (works.Request said) = Silent

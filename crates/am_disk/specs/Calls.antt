@@ -3,7 +3,7 @@ use Rattle.std.specs.Prelude.{ℕ, zero, suc, ◌==◌, Bool, List, [], ◌∷�
 use Rattle.std.specs.List.{flat_map}
 
 pub data Call : Type 0 where
-  -- what is at a path is removed
+  -- the file at a path is removed
   Remove : (path : List ℕ) → Call
   -- a new file is created at a path where there is nothing
   Make : (path : List ℕ) → Call
@@ -13,7 +13,7 @@ pub data Call : Type 0 where
   Write : (bytes : List ℕ) → Call
   -- the new file, to which all these bytes were written, is synced to the disk
   Sync : (bytes : Option (List ℕ)) → Call
-  -- what is at one path takes the place of what is at another
+  -- the file at one path takes the place of the one at another
   Rename : (from to : List ℕ) → Call
   -- the names in a directory are synced to the disk
   SyncDirectory : (path : List ℕ) → Call

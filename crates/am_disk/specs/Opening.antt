@@ -13,7 +13,7 @@ abbrev pub is_missing : ErrorKind → Result Bool FileFault
 is_missing NotFound = Ok false
 is_missing kind = Err (file_fault_of kind)
 
--- whether a file is there; anything other than a file is a fault, and so is any error but that nothing is there
+-- true if a file is there; anything other than a file is a fault, and so is any error but that nothing is there
 abbrev pub is_found : Result Bool Error → Result Bool FileFault
 is_found (Ok true) = Ok true
 is_found (Ok false) = Err NotAFile

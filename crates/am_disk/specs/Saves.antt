@@ -80,8 +80,8 @@ pub record IsLeft (fits : Type 0) (path row : List ℕ) (before after : List Eve
   pub calls : after ≡ before ++ replacing_until lack path row
   pub cause : IsLackOf fits row lack fault
 
--- how far a save came: there was no memory for the name FILE.new; no file was created there; it didn't take the place of FILE; or
--- it did, and that isn't synced to the disk
+-- the progress of a save that stopped: there was no memory for the name FILE.new; no file was created there; it didn't take the
+-- place of FILE; or it did, and that isn't synced to the disk
 pub data Stop : Type 0 where
   Unnamed : Stop
   Unmade : Stop
@@ -107,7 +107,7 @@ IsStopOf fits path row (Unsettled directory) fault = IsDirectoryOf path director
 -- a save stops: these are its calls, after those before, and this is why
 pub record IsStopped (fits : Type 0) (path row : List ℕ) (before after : List Event) (fault : FileFault) : Type 0 where
   pub stop : Stop
-  -- whether something was at FILE.new, and whether the file created there was removed
+  -- true if something was at FILE.new, and true if the file that was created there was removed
   pub stood : Bool
   pub removed : Bool
   pub calls : after ≡ before ++ saving_until stop stood removed path row

@@ -115,7 +115,7 @@ GreetsBy (Ok (Some hello)) lock challenge session bytes it way session' =
     IsGreeted lock challenge hello.0 session (take hello.1 bytes) (drop hello.1 bytes) it way session'
 GreetsBy (Err error) lock challenge session bytes it way session' = IsFailed error session it way session'
 
--- what the bytes behind the first byte of a sealed connection say, if this challenge is sent back
+-- the output for the bytes behind the first byte of a sealed connection, if this challenge is sent back
 abbrev pub Greets : Lock → List ℕ → Standing → List ℕ → Told → Way → Standing → Type 0
 Greets lock challenge session bytes it way session' =
     GreetsBy (hello_of bytes) lock challenge session bytes it way session' ⊎ IsFailed frame_errors.Memory session it way session'
@@ -143,7 +143,7 @@ pub record Begins (hears : Hears) (lock : Option Lock) (challenge : List ℕ) (f
   pub request : 32 ≤ first → Asks hears session (first ∷ behind) it way session'
   pub peer : first < 32 → Sends hears lock challenge first behind session it way session'
 
--- What a piece says of a connection of which this is heard, with the progress of the connection and its session then. If it is
+-- The output for a piece of a connection of which this is heard, with the progress of the connection and its session then. If it is
 -- greeted now, its frames have to answer this challenge.
 abbrev pub Passes : Hears → Option Lock → List ℕ → Way → Standing → List ℕ → Told → Way → Standing → Type 0
 Passes hears lock challenge before session [] it way session' = Waits before session it way session'
@@ -174,7 +174,7 @@ abbrev pub cut_at : List ℕ → Option GateFault
 cut_at [] = None
 cut_at (_ ∷ _) = Some gate_faults.Cut
 
--- what is heard, and the progress of the connection
+-- the kinds of input that are heard, and the progress of the connection
 pub record AtGate : Type 0 where
   pub hears : Hears
   pub way : Way

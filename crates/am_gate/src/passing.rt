@@ -1,4 +1,4 @@
-//! What passes to the session unchanged, and what is turned back.
+//! The input of a connection at its gate: what passes to the session unchanged, and what is turned back.
 
 ghost use Rattle.std.specs.Prelude.{◌≡◌, ◌+◌, ◌≤◌, drop, length};
 ghost use Rattle.am_http.specs.Sessions.{nothing};

@@ -48,7 +48,7 @@ IsBodyLength fields (Err BadContentLength) = (encodings fields ≡ []) × HasBad
 IsBodyLength fields (Err BodyTooLarge) = (encodings fields ≡ []) × (n : ℕ) × LengthIs (lengths fields) n × (1048576 < n)
 IsBodyLength fields (Err _) = ⊥
 
--- whether there is no value, one, or more
+-- counts values: none, one, or more
 abbrev pub NamedIn : List (List ℕ) → Named → Type 0
 NamedIn values Missing = values ≡ []
 NamedIn values (Once value) = values ≡ value.now ∷ []

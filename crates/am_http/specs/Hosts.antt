@@ -88,7 +88,7 @@ IsFirstForeign names head names_foreign.Host = may_ask names head ≡ false
 IsFirstForeign names head names_foreign.Origin =
     (may_ask names head ≡ true) × (all_known names_foreign.Origin names (fields_of head) ≡ false)
 
--- What the bytes of a request so far say about where it comes from: its first foreign field, and whether its method is HEAD; or
+-- The origin of a request, by its bytes so far: its first foreign field, and whether its method is HEAD; or
 -- that its head names nothing foreign, or is at fault; or that the head isn't whole.
 abbrev pub IsScreened : List (List ℕ) → List ℕ → Screened → Type 0
 IsScreened names bytes Open = (length bytes < 16384) × IsOpenHead bytes

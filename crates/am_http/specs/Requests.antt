@@ -1,4 +1,4 @@
--- What the bytes that have come say of a request.
+-- Requests, by the bytes of them that have come.
 use Rattle.std.specs.Prelude.{◌≡◌, ℕ, ◌+◌, ◌<◌, ◌≤◌, ◌⊎◌, Bool, List, [], length, take, drop, Err, IsTrue, string_bytes}
 use Rattle.httparse.specs.Grammar.{RequestHead, print_request}
 use Rattle.am_http.specs.Lines.{line_seen, line_of}

@@ -85,21 +85,21 @@ abbrev pub IsAsked : List ℕ → Read → Spoken → Standing → Type 0
 IsAsked bytes More said new = (said ≡ nothing) × (new ≡ InRequest bytes)
 IsAsked bytes read said new = (said ≡ asked read) × (new ≡ over None)
 
--- what all the bytes of a request so far say
+-- the output for all the bytes of a request so far
 abbrev pub Asks : List ℕ → Spoken → Standing → Type 0
 Asks bytes said new = (read : Read) × IsReadOf bytes false read × IsAsked bytes read said new
 
 -- ---- frames
 
--- What the frames say in the bytes that were taken, given the bytes beyond the limit: the stream goes on, or it ends at a byte
--- too many or at its fault. `count` is the number of bytes that came in all.
+-- The output for the frames in the bytes that were taken, given the bytes beyond the limit: the stream goes on, or it ends at a
+-- byte too many or at its fault. `count` is the number of bytes that came in all.
 abbrev pub IsHeard : List ℕ → ℕ → List Frame → Result (List ℕ) FrameError → List ℕ → Spoken → Standing → Type 0
 IsHeard name count frames (Ok rest) [] said new = (said ≡ heard frames None) × (new ≡ InFrames name count rest)
 IsHeard name count frames (Ok rest) (_ ∷ _) said new = (said ≡ heard frames (Some TooLarge)) × (new ≡ over (Some name))
 IsHeard name count frames (Err e) lost said new = (said ≡ heard frames (Some (InFrame e))) × (new ≡ over (Some name))
 
--- What a piece of a stream says if `rest` begins a frame and `count` bytes of the connection came before: as much of the piece is
--- taken as a connection may have.
+-- The output for a piece of a stream if `rest` begins a frame and `count` bytes of the connection came before: as much of the
+-- piece is taken as a connection may have.
 abbrev pub Hears : List ℕ → ℕ → List ℕ → List ℕ → Spoken → Standing → Type 0
 Hears name count rest piece said new =
     let took : List ℕ = take (most_bytes - count) piece in
@@ -113,7 +113,7 @@ IsGreeted bytes (Ok None) said new = (said ≡ nothing) × (new ≡ InGreeting b
 IsGreeted bytes (Ok (Some greeting)) said new = Hears greeting.0 greeting.1 [] (drop greeting.1 bytes) said new
 IsGreeted bytes (Err e) said new = (said ≡ heard [] (Some (InFrame e))) × (new ≡ over None)
 
--- what all the bytes of a connection of frames so far say
+-- the output for all the bytes of a connection of frames so far
 abbrev pub Greets : List ℕ → Spoken → Standing → Type 0
 Greets bytes said new = IsGreeted bytes (hello_of bytes) said new
 
@@ -124,7 +124,7 @@ pub record Begins (first : ℕ) (bytes : List ℕ) (said : Spoken) (new : Standi
   pub peer : first < 32 → Greets bytes said new
   pub request : 32 ≤ first → Asks bytes said new
 
--- What a piece says if there is memory for it, and how far the connection has come then.
+-- The output for a piece if there is memory for it, and the progress of the connection then.
 abbrev pub Says : Standing → List ℕ → Spoken → Standing → Type 0
 Says fresh [] said new = (said ≡ nothing) × (new ≡ fresh)
 Says fresh (first ∷ bytes) said new = Begins first (first ∷ bytes) said new
@@ -133,7 +133,7 @@ Says (InGreeting bytes) piece said new = Greets (bytes ++ piece) said new
 Says (InFrames name count rest) piece said new = Hears name count rest piece said new
 Says (over name) piece said new = (said ≡ nothing) × (new ≡ over name)
 
--- what pieces say that come one after the other
+-- the output for pieces that come one after the other
 abbrev pub SaysAll : Standing → List (List ℕ) → Spoken → Standing → Type 0
 SaysAll old [] said new = (said ≡ nothing) × (new ≡ old)
 SaysAll old (piece ∷ pieces) said new =
@@ -189,14 +189,14 @@ pub record IsCutShort (bytes : List ℕ) (said : Spoken) : Type 0 where
   pub line : line_seen refusal ≡ line_of EndedEarly
   pub read : IsReadOf bytes true (Refused refusal)
 
--- what the end of the input says: that a request is cut short, if it isn't whole; nothing otherwise
+-- the output for the end of the input: that a request is cut short, if it isn't whole; nothing otherwise
 abbrev pub SaysEnd : Standing → Spoken → Type 0
 SaysEnd (InRequest bytes) said = IsCutShort bytes said
 SaysEnd _ said = said ≡ nothing
 
 -- ---- where it comes from
 
--- what is known of that with the next piece, by the head of the request that its bytes begin
+-- the screening of a connection with the next piece, by the head of the request that its bytes begin
 abbrev pub Screens : Standing → List ℕ → List (List ℕ) → Screened → Type 0
 Screens fresh piece names result = IsScreened names piece result
 Screens (InRequest bytes) piece names result = IsScreened names (bytes ++ piece) result

@@ -8,7 +8,7 @@ use Rattle.std.specs.declared.cmp.Ordering.TheVariants.{Less}
 use Rattle.am_matcher.specs.declared.dialect.Dialect.{Dialect}
 use Rattle.am_wire.specs.declared.unknown.Unknown.{Unknown}
 
--- what contracts see of a configuration: the names of all members in the order of their bytes, the own place among them, how long
+-- a configuration, as contracts see it: the names of all members in the order of their bytes, the own place among them, how long
 -- versions are kept after their end and how long members wait for one another (both in nanoseconds), the dialect of regular
 -- expressions in patterns, and the policy for fields of versions that their readers don't know
 pub record Settings : Type 0 where

@@ -26,12 +26,12 @@ abbrev pub IsWhole : Unknown → Delivery → Type 0
 IsWhole unknown (OfSilence v) = StaysWhole without_unknown unknown v
 IsWhole unknown (OfEntry e) = StaysWhole entry_without_unknown unknown e
 
--- what a delivery is to the map of silences: a version of the other state is only a moment
+-- the event that a delivery is to the map of silences: a version of the other state is only a moment
 abbrev pub to_silences : Delivery → MapEvent Mesh
 to_silences (OfSilence v) = Delivered v
 to_silences (OfEntry e) = Passed
 
--- what a delivery is to the log
+-- the event that a delivery is to the log
 abbrev pub to_log : Delivery → MapEvent LogMesh
 to_log (OfSilence v) = Passed
 to_log (OfEntry e) = Delivered e
@@ -42,7 +42,7 @@ events_at of_delivery now ds = (Passed, now) ∷ map (λ d. (of_delivery d, now)
 
 -- ---- the rows of a frame
 
--- what was read before the first fault
+-- the values that were read before the first fault
 abbrev pub before_fault : {A E : Type 0} → List (Result A E) → List A
 before_fault [] = []
 before_fault (Ok x ∷ items) = x ∷ before_fault items

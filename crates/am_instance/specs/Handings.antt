@@ -19,7 +19,7 @@ use Rattle.am_instance.specs.declared.handing.HandedPart.{HandedPart}
 use Rattle.am_instance.specs.declared.handing.Handout.{Handout}
 use Rattle.am_instance.specs.declared.handing.Handout.TheVariants.{Silences, Log}
 
--- what is left of a map: all of it, or the versions from a key on
+-- the rest of a map: all of it, or the versions from a key on
 abbrev pub left_of : {K X : Type 0} → (X → Version K) → (K → K → Ordering) → List X → Option K → List X
 left_of seen cmp map None = map
 left_of seen cmp map (Some key) = from_key seen cmp map key
@@ -52,8 +52,8 @@ GoesAlone seen most key left next state = (row : List ℕ) × IsPiece seen most 
 
 -- `most` is the maximum number of bytes in the rows of a part, unless a single version has more
 module _ (most : ℕ) where
-  -- What goes out if silences are left, and the whole log: the last part, if both fit it; otherwise the rest of the silences, if
-  -- it fits and nothing of the log went out with it; or a piece of them.
+  -- The part that goes out if silences are left, and the whole log: the last part, if both fit it; otherwise the rest of the
+  -- silences, if it fits and nothing of the log went out with it; or a piece of them.
   abbrev pub HandsSilences : List Mesh → List LogMesh → List Part → Option Handout → Type 0
   HandsSilences silences log state None =
       (state ≡ whole_state silences log)
@@ -65,7 +65,7 @@ module _ (most : ℕ) where
   HandsSilences silences log state (Some (Silences (Some key))) = GoesAlone mesh_version most Sil silences key state
   HandsSilences silences log state (Some _) = ⊥
 
-  -- What goes out if only entries of the log are left: the last part, if they fit it, and otherwise a piece of them.
+  -- The part that goes out if only entries of the log are left: the last part, if they fit it, and otherwise a piece of them.
   abbrev pub HandsLog : List LogMesh → List Part → Option Handout → Type 0
   HandsLog log state None =
       (state ≡ whole_state [] log)

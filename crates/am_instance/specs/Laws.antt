@@ -37,7 +37,7 @@ AreMade old (h ∷ hs) new =
     × IsLogLeftBy (kept_log old) (step_events to_log h.left.config.unknown h.event h.now h.answer) (kept_log h.left)
     × AreMade h.left hs new
 
--- what the steps are to one of the maps
+-- the events that steps are to one of the maps
 abbrev pub run_events : {X : Type 0} → (Delivery → MapEvent X) → List Happened → Events X
 run_events of_delivery hs = flat_map (λ h. step_events of_delivery h.left.config.unknown h.event h.now h.answer) hs
 

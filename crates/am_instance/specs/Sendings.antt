@@ -66,12 +66,12 @@ without_more before more = record {
   limit = capped (before.limit + more.limit);
 }
 
--- what another holds is added: its frames are kept, or there is no memory for them
+-- the frames of another are added: they are kept, or there is no memory for them
 abbrev pub Gathers : Sent → Sent → Sent → Type 0
 Gathers more before after = (after ≡ with_more before more) ⊎ (after ≡ without_more before more)
 
--- What becomes of a wanted frame: one that keeps its limit is handed out, unless there is no memory for it; any other is counted
--- as over its limit, however much memory there is.
+-- A wanted frame is handed out or counted: one that keeps its limit is handed out, unless there is no memory for it; any other
+-- is counted as over its limit, however much memory there is.
 pub record IsSent (wanted : ℕ × Frame) (old new : Sent) : Type 0 where
   pub fitting : fits wanted.1 ≡ true → (new ≡ handed_out wanted old) ⊎ (new ≡ no_memory old)
   pub too_long : fits wanted.1 ≡ false → new ≡ over_limit old
@@ -113,6 +113,6 @@ states_frame Answer parts = Pull parts
 abbrev pub deltas_of : {K X : Type 0} → (X → Version K) → StateKey → List ℕ → List X → List (ℕ × Frame)
 deltas_of seen key places vs = flat_map (λ v. addressed places (delta key (seen v).content)) vs
 
--- what an outcome sends
+-- the frames that an outcome sends, and the numbers of those that it doesn't
 abbrev pub sent_by : Outcome → Sent
 sent_by outcome = record { frames = outcome.frames.items; memory = outcome.unsent.memory; limit = outcome.unsent.limit }

@@ -144,8 +144,8 @@ made_here made = map OfSilence made.silences.items ++ map OfEntry (listed made.l
 abbrev pub delivers : Unknown → Event → Made → List Delivery
 delivers unknown event made = brought unknown event ++ made_here made
 
--- What a step is to one of the maps: a collection; or its moment followed by each version that it delivered. A step that memory
--- stopped delivered only the first ones, and one that was refused otherwise is nothing.
+-- The events that a step is to one of the maps: a collection; or its moment followed by each version that it delivered. A step
+-- that memory stopped delivered only the first ones, and one that was refused otherwise is nothing.
 abbrev pub step_events : {X : Type 0} → (Delivery → MapEvent X) → Unknown → Event → ℕ → Result Outcome StepError → Events X
 step_events of_delivery unknown event now (Ok outcome) =
     if collects event then (Collected, now) ∷ [] else events_at of_delivery now (delivers unknown event outcome.made)
@@ -159,7 +159,8 @@ abbrev pub origin : Settings → Event → ℕ
 origin config (events.Frame sender frame) = sender
 origin config _ = config.place
 
--- what is sent last: a Pull in answer to a Push, and a Push to a peer to be pulled from, with both maps as they are then
+-- the frames that are sent last: a Pull in answer to a Push, and a Push to a peer to be pulled from, with both maps as they are
+-- then
 abbrev pub last_wanted : Event → InstanceState → List (ℕ × GossipFrame)
 last_wanted (events.Frame sender (frames.Push parts)) new = (sender, frames.Pull (whole_state new.silences new.log)) ∷ []
 last_wanted (events.PullFrom place) new = (place, frames.Push (whole_state new.silences new.log)) ∷ []

@@ -17,25 +17,26 @@ changed zero at bytes file = file
 changed (suc zero) at bytes file = take at file ++ bytes ++ drop (at + length bytes) file
 changed (suc (suc _)) at bytes file = take at file
 
--- What a read would return after these calls, the newest first, on a file that held `start`. A call that fails has no visible
--- effect.
+-- The bytes that a read would return after these calls, the newest first, on a file that held `start`. A call that fails has no
+-- visible effect.
 abbrev pub seen_after : List ℕ → List Event → List ℕ
 seen_after start [] = start
 seen_after start (e ∷ earlier) = if e.2 then changed e.0 e.1 e.3 (seen_after start earlier) else seen_after start earlier
 
--- what a crash may leave of a call, other than what is visible then: a write or a cut may be half done, even one that fails
+-- the bytes that a crash may leave of a call, other than what is visible then: a write or a cut may be half done, even one that
+-- fails
 abbrev pub Leaves : ℕ → ℕ → Bool → List ℕ → (List ℕ → Type 0) → List ℕ → Type 0
 Leaves zero at true bytes earlier c = ⊥
 Leaves zero at false bytes earlier c = earlier c
 Leaves (suc zero) at ok bytes earlier c = (d : List ℕ) × earlier d × Torn at (length bytes) d c
 Leaves (suc (suc _)) at ok bytes earlier c = (d : List ℕ) × earlier d × Cut at d c
 
--- what a crash may leave after these calls
+-- the bytes that a crash may leave after these calls
 abbrev pub may_leave_after : List ℕ → List Event → List ℕ → Type 0
 may_leave_after start [] c = c ≡ start
 may_leave_after start (e ∷ earlier) c = (c ≡ seen_after start (e ∷ earlier)) ⊎ Leaves e.0 e.1 e.2 e.3 (may_leave_after start earlier) c
 
--- what a crash might have left since there were t calls
+-- the bytes that a crash might have left since there were t calls
 abbrev pub left_since : List ℕ → List Event → ℕ → List ℕ → Type 0
 left_since start [] t c = c ≡ start
 left_since start (e ∷ earlier) t c = may_leave_after start (e ∷ earlier) c ⊎ ((t ≤ length earlier) × left_since start earlier t c)

@@ -10,7 +10,7 @@ IsNext None left batch = ⊤
 IsNext (Some file) None batch = ⊥
 IsNext (Some file) (Some left) batch = recovered file ≡ batch ∷ recovered left
 
--- what was left has no batch, and this number of bytes
+-- a file that was left has no batch, and this number of bytes
 abbrev pub IsLast : Option (List ℕ) → ℕ → Type 0
 IsLast left bytes = IfSome left (λ file. (recovered file ≡ []) × (bytes ≡ length file))
 

@@ -31,7 +31,8 @@ AreFed before fed turns more = fed ≡ bytes_in turns ++ more
 AreFed passing fed turns more = fed ≡ bytes_in turns ++ more
 AreFed way_ fed turns more = ⊤
 
--- what a connection is owed by its turns: the reply that the last of them has begun, if one has, and otherwise at most a line
+-- the reply that a connection is owed by its turns: the one that the last of them has begun, if one has, and otherwise at most
+-- a line
 abbrev pub owed_after : Owed → Option PendingReply → Owed
 owed_after owed None = owed
 owed_after owed (Some begun) = Reply begun
@@ -88,8 +89,8 @@ pub record IsDone (talk : Talk) (fed : List ℕ) (standing : Standing) (turns : 
 abbrev pub BeginsSealed : List ℕ → Type 0
 BeginsSealed fed = (behind : List ℕ) × (fed ≡ 1 ∷ behind)
 
--- What went out before any reply is the beginning of a challenge, which only a sealed connection has, once it has greeted; if no
--- more is heard, it isn't known how much of it. Nothing was fed before anything came, unless no more is heard.
+-- The bytes that went out before any reply are the beginning of a challenge, which only a sealed connection has, once it has
+-- greeted; if no more is heard, it isn't known how much of it. Nothing was fed before anything came, unless no more is heard.
 abbrev pub IsFront : Way → Standing → List ℕ → List ℕ → Type 0
 IsFront before session fed front = (front ≡ []) × (session ≢ over (name_of session) → fed ≡ [])
 IsFront passing session fed front = front ≡ []
@@ -169,7 +170,7 @@ pub record IsSent (bytes : List ℕ) (old : InstanceState) (talk : Talk) (new : 
   pub first : IsFirstPart bytes (pending_in talk)
   pub sent : talk' ≡ sent_in (length bytes) talk
 
--- What waits is taken up, if something does.
+-- The input that waits is taken up, if there is one.
 abbrev pub IsTakenUp : Option Spoken → InstanceState → Talk → InstanceState → Talk → Type 0
 IsTakenUp None old talk new talk' = IsForPages old talk new talk'
 IsTakenUp (Some said) old talk new talk' = IsRequest said → IsAnswered said old (record talk { waiting = None }) new talk'

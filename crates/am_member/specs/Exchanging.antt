@@ -40,8 +40,8 @@ pub record IsReplied (IsSuch : Answered → Type 0) (answer : SessionAnswer) : T
   -- the connection is not at fault
   pub no_fault : answer.fault ≡ None
 
--- what was read is answered: a request by what it means, anything else by the reason why it is refused; nothing is answered if it
--- decides nothing yet
+-- the input that was read is answered: a request by what it means, anything else by the reason why it is refused; nothing is
+-- answered if it decides nothing yet
 abbrev pub IsReadAnswer : Read → ℕ → ℕ → InstanceState → InstanceState → SessionAnswer → Type 0
 IsReadAnswer (Whole request) bits now old new answer = IsReplied (λ answered. IsRequestAnswer old request bits now answered new) answer
 IsReadAnswer (Refused refusal) bits now old new answer = IsReplied (λ answered. IsRefusalAnswer refusal old answered new) answer
@@ -94,7 +94,7 @@ pub record IsSessionAnswer (name : Option (List ℕ)) (bits now : ℕ) (said : S
   -- otherwise the frames are stepped
   pub heard : said.request ≡ None → AreHeard name now said.frames said.fault old new answer
 
--- whether nothing more is heard of a connection, because its peer is unknown or a step of it was refused
+-- true if nothing more is heard of a connection, because its peer is unknown or a step of it was refused
 abbrev pub is_stopped : Option Fault → Bool
 is_stopped (Some UnknownName) = true
 is_stopped (Some (Step error)) = true
@@ -108,12 +108,12 @@ left_at _ standing = standing
 
 -- ---- expensive requests
 
--- whether a call is for a list
+-- true if a call is for a list
 abbrev pub is_list : Result Call Cause → Bool
 is_list (Ok (ListCall query)) = true
 is_list _ = false
 
--- whether what was read is a whole request for a list
+-- true if what was read is a whole request for a list
 abbrev pub IsListRequest : Read → Bool → Type 0
 IsListRequest (Whole request) dear = (call : Result Call Cause) × IsCall request call × (dear ≡ is_list call)
 IsListRequest _ dear = dear ≡ false

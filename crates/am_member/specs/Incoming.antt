@@ -25,9 +25,9 @@ so_far instance effects = record { instance = instance; effects = effects }
 
 -- the effects with those of one more step added
 pub record Adds (more : Sent) (ticks : Bool) (before after : StepEffects) : Type 0 where
-  -- what the step sends
+  -- the frames that the step sends
   pub sent : Gathers more before.outbox after.outbox
-  -- whether the step was a Tick
+  -- true if the step was a Tick
   pub ticked : after.ticked ≡ (before.ticked || ticks)
 
 -- the step of a frame that came from a peer is made

@@ -79,8 +79,8 @@ pub record Turn : Type 0 where
   pub answer : SessionAnswer
   pub left : InstanceState
 
--- What came is told by the connection's own session; what its frames ask for is left to the member's own steps, and the rest is
--- answered as the contract of `apply_session_output` says.
+-- The input is told by the connection's own session; the events that its frames ask for are left to the member's own steps, and
+-- the rest is answered as the contract of `apply_session_output` says.
 pub record IsTurn (standing : Standing) (old : InstanceState) (turn : Turn) : Type 0 where
   pub tells : Tells standing turn.came turn.said turn.heard
   pub answered : IsSessionAnswer (name_of turn.heard) turn.bits turn.now (spared turn.said) old turn.left turn.answer

@@ -4,17 +4,17 @@ use Rattle.am_gossip.specs.declared.frame.Frame.{Frame}
 use Rattle.am_gossip.specs.declared.frame.Frame.TheVariants.{Tick, Push, Pull}
 use Rattle.am_http.specs.Sessions.{Spoken}
 
--- whether a frame asks for all that is held at the member to which it comes
+-- true if a frame asks for all that is held at the member to which it comes
 abbrev pub is_push : Frame → Bool
 is_push (Push state) = true
 is_push _ = false
 
--- whether a frame asks for a collection
+-- true if a frame asks for a collection
 abbrev pub is_tick : Frame → Bool
 is_tick Tick = true
 is_tick _ = false
 
--- whether a frame brings something
+-- true if a frame brings something
 abbrev pub brings : Frame → Bool
 brings frame = not (is_tick frame)
 

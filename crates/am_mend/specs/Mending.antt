@@ -18,8 +18,8 @@ abbrev pub versions_of : {X : Type 0} → List (List X) → List X
 versions_of replicas = flat_map (λ held. held) replicas
 
 module _ {K X : Type 0} (seen : X → Version K) where
-  -- What an Alertmanager holds at a key after a version of it comes: a version past its expiry is dropped, and any other is held
-  -- if nothing was, or if it was updated later.
+  -- The version that an Alertmanager holds at a key after one of it comes: a version past its expiry is dropped, and any other
+  -- is held if nothing was, or if it was updated later.
   abbrev pub kept : ℕ → Option X → X → Option X
   kept now None v = if_live seen now (Some v)
   kept now (Some w) v = if is_live now (seen v) && nat_lt (seen w).updated (seen v).updated then Some v else Some w
@@ -29,7 +29,7 @@ module _ {K X : Type 0} (seen : X → Version K) where
   takes now None v = is_live now (seen v)
   takes now (Some w) v = is_live now (seen v) && nat_lt (seen w).updated (seen v).updated
 
-  -- what is held after a version comes, if one does
+  -- the version that is held after one comes, if one does
   abbrev pub kept_of : ℕ → Option X → Option X → Option X
   kept_of now old None = old
   kept_of now old (Some v) = kept now old v
@@ -58,6 +58,6 @@ module _ {K X : Type 0} (seen : X → Version K) where
     abbrev pub is_given : ℕ → List X → X → Bool
     is_given now held v = nat_le (seen v).updated now && takes now (at seen cmp held (seen v).key) v
 
-    -- what an Alertmanager holds at a key after these versions came, each with a key of its own
+    -- the version that an Alertmanager holds at a key after these versions came, each with a key of its own
     abbrev pub after : ℕ → List X → List X → K → Option X
     after now held sent key = kept_of now (at seen cmp held key) (at seen cmp sent key)

@@ -9,10 +9,10 @@ use Rattle.am_gossip.specs.Frames.{fits}
 abbrev pub greeting_text : List ℕ → List ℕ
 greeting_text name = 0 ∷ (shortest (length name) ++ name)
 
--- whether a greeting may have a name: it has 1 to 255 bytes
+-- true if a greeting may have a name: it has 1 to 255 bytes
 abbrev pub is_name : List ℕ → Bool
 is_name name = nat_lt 0 (length name) && nat_le (length name) 255
 
--- whether the payload of each frame keeps the limit of its kind
+-- true if the payload of each frame keeps the limit of its kind
 abbrev pub all_fit : List Frame → Bool
 all_fit frames = list_all fits frames

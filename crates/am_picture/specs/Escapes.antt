@@ -7,7 +7,7 @@ use Rattle.std.specs.List.{flat_map}
 abbrev pub is_plain : ℕ → Bool
 is_plain c = c == 9 || c == 10 || nat_le 32 c && not (c == 65534) && not (c == 65535)
 
--- what stands for a character that can't stand for itself: a reference (sections 4.1 and 4.6), or U+FFFD if XML doesn't have
+-- the text of a character that can't stand for itself: a reference (sections 4.1 and 4.6), or U+FFFD if XML doesn't have
 -- the character
 abbrev pub reference_of : ℕ → Option (List ℕ)
 reference_of c =

@@ -3,8 +3,9 @@ use Rattle.std.specs.Prelude.{◌≡◌, ℕ, Bool, true, false, List, [], ◌�
 use Rattle.std.specs.List.{flat_map}
 use Rattle.am_reactor.specs.declared.fault.Broken.{Broken}
 
--- A call for the session of one connection: these bytes came, or its input ended; these bytes of it went out; a stretch of
--- what waits is done; its commit is over, or its moment has come; what waits is done at once or given up; it is broken off.
+-- A call for the session of one connection: these bytes came, or its input ended; these bytes of it went out; a stretch of the
+-- work that waits is done; its commit is over, or its moment has come; what waits is done at once or given up; it is broken
+-- off.
 pub data Deed : Type 0 where
   Fed : List ℕ → Deed
   Ended : Deed

@@ -16,7 +16,7 @@ pub record Line (T C : Type 0) : Type 0 where
   pub stream : C
   pub leaves : Bool
 
--- whether a connection in this phase is let go
+-- true if a connection in this phase is let go
 abbrev pub leaves_in : Phase → Bool
 leaves_in Open = false
 leaves_in (Lingering end) = true
@@ -88,9 +88,9 @@ IsCall acts loses answers gives offers asks service service' = acts service serv
     ⊎ (((peer : ℕ) × (bytes : List ℕ) × offers service peer bytes service')
     ⊎ ((peer : ℕ) × (bytes : List ℕ) × asks service peer bytes service')))))
 
--- An event in a loop: a connection comes, under a key that is free, and nothing has passed over its stream; one is turned away because there is no place for it; calls are
--- made for the session under a key, one after the other; bytes come of a connection that is let go, and are thrown away;
--- connections are closed; or calls are made that are for no session.
+-- An event in a loop: a connection comes, under a key that is free, and nothing has passed over its stream; one is turned away
+-- because there is no place for it; calls are made for the session under a key, one after the other; bytes come of a connection
+-- that is let go, and are thrown away; connections are closed; or calls are made that are for no session.
 pub data Happening : Type 0 where
   Came : ℕ → Happening
   TurnedAway : Happening

@@ -37,7 +37,7 @@ module _ {S T C : Type 0} (does : S → T → Deed → S → T → Type 0) (pend
     pub ended : connection'.ended ≡ connection.ended
     pub phase : connection'.phase ≡ connection.phase
 
-  -- what came over a connection is told, and then what waits goes out
+  -- the input of a connection is told, and then the bytes that wait go out
   pub record Exchanges (room : ℕ) (service : S) (connection : Connection T C) (service' : S) (connection' : Connection T C) : Type 0 where
     pub mid : S
     pub at : Connection T C

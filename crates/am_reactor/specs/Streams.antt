@@ -1,4 +1,4 @@
--- What passes over a stream.
+-- The bytes that pass over a stream.
 use Rattle.std.specs.Prelude.{◌≡◌, ◌==◌, ◌&&◌, ◌||◌, nat_lt, ℕ, Bool, true, List, [], ◌++◌, Result, Ok, Err, take, length}
 use Rattle.am_reactor.specs.declared.noted_stream.NotedStream.{NotedStream}
 
@@ -7,14 +7,14 @@ pub record Arrival : Type 0 where
   pub bytes : List ℕ
   pub ended : Bool
 
--- what came, after a read into a piece: the bytes that it brought, if it didn't fail; it met the end if it brought none into a
--- piece that has room
+-- the bytes that came, after a read into a piece: those that it brought, if it didn't fail; it met the end if it brought none
+-- into a piece that has room
 abbrev pub after_read : {E : Type 0} → Arrival → Result ℕ E → List ℕ → Arrival
 after_read arrived (Ok count) piece =
     record { bytes = arrived.bytes ++ take count piece; ended = arrived.ended || (count == 0 && nat_lt 0 (length piece)) }
 after_read arrived (Err error) piece = arrived
 
--- what went out, after a write of bytes: those that it took, if it didn't fail
+-- the bytes that went out, after a write: those that it took, if it didn't fail
 abbrev pub after_write : {E : Type 0} → List ℕ → Result ℕ E → List ℕ → List ℕ
 after_write gone (Ok count) bytes = gone ++ take count bytes
 after_write gone (Err error) bytes = gone
@@ -36,10 +36,10 @@ Appends old new bytes = new ≡ old ++ bytes
 abbrev pub HasEnded : Arrival → Type 0
 HasEnded arrived = arrived.ended ≡ true
 
--- what came over a noted stream
+-- the bytes that came over a noted stream
 abbrev pub arrived_over : NotedStream → Arrival
 arrived_over stream = record { bytes = stream.came.bytes; ended = stream.ended }
 
--- what went out over a noted stream
+-- the bytes that went out over a noted stream
 abbrev pub gone_over : NotedStream → List ℕ
 gone_over stream = stream.went.bytes

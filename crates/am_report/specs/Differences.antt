@@ -17,7 +17,7 @@ pub record Difference (K X : Type 0) : Type 0 where
   pub holdings : List (Holding X)
 
 module _ {K X : Type 0} (seen : X → Version K) where
-  -- whether the order doesn't tell two versions apart, or there is none on either side
+  -- true if the order doesn't tell two versions apart, or there is none on either side
   abbrev pub is_same : Option X → Option X → Bool
   is_same None None = true
   is_same None (Some w) = false
@@ -29,7 +29,7 @@ module _ {K X : Type 0} (seen : X → Version K) where
   compared_of Shown now here = if_live seen now here
   compared_of Held now here = here
 
-  -- whether some of the others isn't the same as the first
+  -- true if some of the others isn't the same as the first
   abbrev pub is_different : Compared → ℕ → List (Holding X) → Bool
   is_different compared now [] = false
   is_different compared now (first ∷ others) =

@@ -24,7 +24,7 @@ word_of_numbers numbers = codes "fields " ++ numbers
 abbrev pub fields_word : {X : Type 0} → (X → UnknownFields) → X → X → List ℕ
 fields_word unknown v w = word_of_numbers (differing (unknown v) (unknown w))
 
--- whether two versions are the same apart from their unknown fields
+-- true if two versions are the same apart from their unknown fields
 abbrev pub is_same_known : {K X : Type 0} → (X → Version K) → (X → X) → X → X → Bool
 is_same_known seen known v w = bytes_eq (seen (known v)).content (seen (known w)).content
 

@@ -11,7 +11,7 @@ use Rattle.am_report.specs.Groups.{greatest_within}
 use Rattle.am_report.specs.Words.{listed_word_of}
 use Rattle.am_report.specs.Ranked.{ranked}
 
--- whether there is any difference
+-- true if there is any difference
 abbrev pub is_any : {D : Type 0} → List D → Bool
 is_any [] = false
 is_any (difference ∷ differences) = true

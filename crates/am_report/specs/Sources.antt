@@ -42,7 +42,7 @@ front_of None rest = []
 front_of (Some v) rest = v ∷ rest
 
 module _ {K X : Type 0} (seen : X → Version K) (cmp : K → K → Ordering) where
-  -- whether the first version has the key
+  -- true if the first version has the key
   abbrev pub begins_at : K → List X → Bool
   begins_at key [] = false
   begins_at key (v ∷ rest) = eq_by_cmp cmp (seen v).key key

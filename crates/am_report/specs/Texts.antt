@@ -21,7 +21,7 @@ clock_of place second = record {
   second = second % 60;
 }
 
--- whether a date of the calendar is at the place, this number of days after 1 January of the year -10000
+-- true if a date of the calendar is at the place, this number of days after 1 January of the year -10000
 abbrev pub is_date_of : ℕ → ℕ → Bool
 is_date_of days place =
     let clock = clock_of place 0 in

@@ -54,7 +54,7 @@ bytes_at number bytes = bytes_of number bytes (fields_in bytes)
 
 -- ---- differences
 
--- whether the fields of two versions that have the number are not the same bytes, inside or beside
+-- true if the fields of two versions that have the number are not the same bytes, inside or beside
 abbrev pub differs_at : UnknownFields → UnknownFields → ℕ → Bool
 differs_at one other number =
     not (bytes_eq (bytes_at number one.inner) (bytes_at number other.inner) && bytes_eq (bytes_at number one.outer) (bytes_at number other.outer))
@@ -70,7 +70,7 @@ named numbers true = numbers_word numbers ++ codes ",.."
 abbrev pub named_of : List ℕ → Bool → List ℕ
 named_of numbers are_left = named (take 16 numbers) (nat_lt 16 (length numbers) || are_left)
 
--- whether both have the same unknown fields
+-- true if both have the same unknown fields
 abbrev pub is_same_unknown : UnknownFields → UnknownFields → Bool
 is_same_unknown one other = bytes_eq one.inner other.inner && bytes_eq one.outer other.outer
 

@@ -4,15 +4,15 @@ use Rattle.std.specs.List.{flat_map}
 use Rattle.std.specs.Str.{bytes_eq}
 use Rattle.percent_encoding.specs.Percent.{percent_encode_byte, percent_decode}
 
--- whether a byte stands for itself in a word: `!` to `~`, but not `%`
+-- true if a byte stands for itself in a word: `!` to `~`, but not `%`
 abbrev pub is_plain : ℕ → Bool
 is_plain byte = nat_le 33 byte && nat_le byte 126 && not (byte == 37)
 
--- whether a byte stands for itself in a list, in which words have commas between them: a comma doesn't
+-- true if a byte stands for itself in a list, in which words have commas between them: a comma doesn't
 abbrev pub is_plain_in_list : ℕ → Bool
 is_plain_in_list byte = is_plain byte && not (byte == 44)
 
--- whether a byte stands for itself at the end of a line: a blank does, too
+-- true if a byte stands for itself at the end of a line: a blank does, too
 abbrev pub is_plain_at_end : ℕ → Bool
 is_plain_at_end byte = nat_le 32 byte && nat_le byte 126 && not (byte == 37)
 

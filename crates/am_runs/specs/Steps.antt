@@ -88,7 +88,7 @@ module _ {X : Type 0} where
   abbrev pub flights_of : List (RunStep X) → List (SentFrame X)
   flights_of steps = flat_map flights_by steps
 
-  -- whether the step is one of this member
+  -- true if the step is one of this member
   abbrev pub is_at : ℕ → RunStep X → Bool
   is_at q (Took place now source versions frames) = place == q
   is_at q (Ticked place now) = place == q
@@ -98,7 +98,7 @@ module _ {X : Type 0} where
   is_at q (Stopped place) = place == q
   is_at q (Started place now) = place == q
 
-  -- whether the step was refused to this member because its moment is before the member's last one
+  -- true if the step was refused to this member because its moment is before the member's last one
   abbrev pub is_back_at : ℕ → RunStep X → Bool
   is_back_at q (Took place now source versions frames) = false
   is_back_at q (Ticked place now) = false

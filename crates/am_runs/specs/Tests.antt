@@ -14,7 +14,7 @@ use Rattle.am_runs.specs.Steps.RunStep.{Took, Ticked, Back, Refused, Saved, Stop
 
 -- ---- whether a member runs
 
--- whether a member runs after a step, given whether it ran before
+-- true if a member runs after a step, given whether it ran before
 abbrev pub runs_after : {X : Type 0} → ℕ → Bool → RunStep X → Bool
 runs_after q runs (Took place now source versions frames) = runs
 runs_after q runs (Ticked place now) = runs
@@ -24,7 +24,7 @@ runs_after q runs (Saved place) = runs
 runs_after q runs (Stopped place) = if place == q then false else runs
 runs_after q runs (Started place now) = if place == q then true else runs
 
--- whether a member runs after steps, given whether it ran before
+-- true if a member runs after steps, given whether it ran before
 abbrev pub runs_from : {X : Type 0} → ℕ → Bool → List (RunStep X) → Bool
 runs_from q runs [] = runs
 runs_from q runs (step ∷ steps) = runs_from q (runs_after q runs step) steps
@@ -86,7 +86,7 @@ abbrev pub lasts_from : {X : Type 0} → ℕ → Lasts → List (RunStep X) → 
 lasts_from q l [] = l
 lasts_from q l (step ∷ steps) = lasts_from q (lasts_after q l step) steps
 
--- whether a collection had this moment or a later one
+-- true if a collection had this moment or a later one
 abbrev pub has_reached : Option ℕ → ℕ → Bool
 has_reached None moment = false
 has_reached (Some last) moment = nat_le moment last
@@ -96,7 +96,7 @@ abbrev pub last_in : {X : Type 0} → ℕ → List (RunStep X) → Option ℕ
 last_in q steps = (lasts_from q (record { last = None; saved = None }) steps).last
 
 module _ {K X : Type 0} (seen : X → Version K) where
-  -- whether a version comes in time, given the greatest version taken of its key and the last collection
+  -- true if a version comes in time, given the greatest version taken of its key and the last collection
   abbrev pub in_time : Option X → Option ℕ → ℕ → X → Bool
   in_time None last now v = true
   in_time (Some g) last now v = not (is_live now (seen v) && (is_below (seen v) (seen g) && has_reached last (seen g).expires))
@@ -130,7 +130,7 @@ module _ {K X : Type 0} (seen : X → Version K) (cmp : K → K → Ordering) wh
   abbrev pub top_in : ℕ → K → List (RunStep X) → Option X
   top_in q key steps = (tops_from q key (record { top = None; saved = None }) steps).top
 
-  -- whether a version of an event comes in time, after the steps before and the versions before it
+  -- true if a version of an event comes in time, after the steps before and the versions before it
   abbrev pub comes_in_time : ℕ → List (RunStep X) → ℕ → List X → X → Bool
   comes_in_time q before now done v = in_time seen (top_among (seen v).key (top_in q (seen v).key before) done) (last_in q before) now v
 
@@ -147,12 +147,12 @@ module _ {K X : Type 0} (seen : X → Version K) (cmp : K → K → Ordering) wh
 
 -- ---- whether the run is timely
 
--- whether a moment is not before the last one written
+-- true if a moment is not before the last one written
 abbrev pub is_monotone : ℕ → Option ℕ → Bool
 is_monotone clock None = true
 is_monotone clock (Some now) = nat_le clock now
 
--- whether the moments of steps never decrease
+-- true if the moments of steps never decrease
 abbrev pub are_monotone : {X : Type 0} → ℕ → List (RunStep X) → Bool
 are_monotone clock [] = true
 are_monotone clock (step ∷ steps) = is_monotone clock (moment step) && are_monotone (clock_after clock (moment step)) steps
@@ -163,7 +163,7 @@ sent_in number [] = None
 sent_in number (step ∷ steps) = if nat_lt number (length (flights_by step)) then moment step
     else sent_in (number - length (flights_by step)) steps
 
--- whether a delivery at `now` is within the flight time of its sending
+-- true if a delivery at `now` is within the flight time of its sending
 abbrev pub flies_short : ℕ → ℕ → Option ℕ → Bool
 flies_short flight now None = true
 flies_short flight now (Some sent) = nat_le now (sent + flight)
@@ -175,7 +175,7 @@ sent_at steps (Written sent) = Some sent
 sent_at steps (Arrived number) = sent_in number steps
 sent_at steps (Lent place) = None
 
--- whether the versions delivered by a step, one of all steps, came in time
+-- true if the versions delivered by a step, one of all steps, came in time
 abbrev pub arrived_in_time : {X : Type 0} → ℕ → List (RunStep X) → RunStep X → Bool
 arrived_in_time flight steps (Took place now source versions frames) = flies_short flight now (sent_at steps source)
 arrived_in_time flight steps (Ticked place now) = true
@@ -185,19 +185,19 @@ arrived_in_time flight steps (Saved place) = true
 arrived_in_time flight steps (Stopped place) = true
 arrived_in_time flight steps (Started place now) = true
 
--- whether a member runs, and whether its set, and its saved set, have a version or a greater one of its key
+-- a member and a version: true if the member runs, if its set has the version or a greater one of its key, and if its saved set has
 pub record Watched : Type 0 where
   pub runs : Bool
   pub has : Bool
   pub saved : Bool
 
--- whether a version is old enough to have come, and the member runs without it
+-- true if a version is old enough to have come, and the member runs without it
 abbrev pub is_wanting : ℕ → Watched → Option ℕ → Bool
 is_wanting due w None = false
 is_wanting due w (Some now) = nat_le due now && (w.runs && not w.has)
 
 module _ {K X : Type 0} (seen : X → Version K) (cmp : K → K → Ordering) where
-  -- whether a taken version is this one, or a greater one of its key
+  -- true if a taken version is this one, or a greater one of its key
   abbrev pub counts_for : X → X → Bool
   counts_for v taken = eq_by_cmp cmp (seen taken).key (seen v).key && not (is_below (seen taken) (seen v))
 
@@ -216,7 +216,7 @@ module _ {K X : Type 0} (seen : X → Version K) (cmp : K → K → Ordering) wh
   abbrev pub watch_after : ℕ → X → Watched → RunStep X → Watched
   watch_after q v w step = if is_at q step then watched v w step else w
 
-  -- whether the member never runs without the version at the beginning of a step by which it should have come
+  -- true if the member never runs without the version at the beginning of a step by which it should have come
   abbrev pub comes : ℕ → ℕ → X → Watched → List (RunStep X) → Bool
   comes spread q v w [] = true
   comes spread q v w (step ∷ steps) = not (is_wanting ((seen v).updated + spread) w (moment step))

@@ -33,7 +33,7 @@ cluster_parts words = do
   names ← or_fault Cluster (names_in (drop 3 words))
   Ok (record { names = names; retention = retention; peer_timeout = peer_timeout })
 
--- whether a line has the verb of a cluster line, and as many words as that needs
+-- true if a line has the verb of a cluster line, and as many words as that needs
 abbrev pub has_cluster_form : List (List ℕ) → Bool
 has_cluster_form words = has_word 0 (codes "cluster") words && (nat_le 4 (length words) && nat_le (length words) 19)
 

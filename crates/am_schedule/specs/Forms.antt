@@ -10,7 +10,7 @@ use Rattle.am_schedule.specs.Places.{has_word}
 use Rattle.am_schedule.specs.Rows.{has_count, is_line, event_row, verb_word, all_verbs, silence_row, log_row, stop_row}
 use Rattle.am_schedule.specs.Rows.{save_row, lose_row, timely_row, frames_row}
 
--- whether a line has a verb after a member's name, and as many words as that needs
+-- true if a line has a verb after a member's name, and as many words as that needs
 abbrev pub has_verb : Verb → List (List ℕ) → Bool
 has_verb verb words = has_word 3 (verb_word verb) words && has_count 4 (event_row verb) words
 
@@ -18,18 +18,18 @@ has_verb verb words = has_word 3 (verb_word verb) words && has_count 4 (event_ro
 unfoldable pub verb_in : List (List ℕ) → Option Verb
 verb_in words = find (λ verb. has_verb verb words) all_verbs
 
--- whether a line that begins with `at` has a known verb, and as many words as that needs
+-- true if a line that begins with `at` has a known verb, and as many words as that needs
 abbrev pub has_at_form : List (List ℕ) → Bool
 has_at_form words =
     if has_word 2 (codes "deliver") words then length words == 4 else
     if has_word 2 (codes "settle") words then length words == 3 else is_some (verb_in words)
 
--- whether a line of a form has as many words as its verb needs, if the form leaves that open
+-- true if a line of a form has as many words as its verb needs, if the form leaves that open
 abbrev pub has_line_form : LineForm → List (List ℕ) → Bool
 has_line_form lines.At words = has_at_form words
 has_line_form form words = true
 
--- whether a line is of a form, by its first word and the number of its words
+-- true if a line is of a form, by its first word and the number of its words
 abbrev pub is_of : Form → List (List ℕ) → Bool
 is_of Cluster words = has_word 0 (codes "cluster") words
 is_of (Version versions.Silence) words = is_line (codes "sil") 2 silence_row words
@@ -51,7 +51,7 @@ all_forms =
 unfoldable pub form_in : List (List ℕ) → Option Form
 form_in words = find (λ form. is_of form words) all_forms
 
--- whether a line after the cluster's has a known verb, and as many words as that needs
+-- true if a line after the cluster's has a known verb, and as many words as that needs
 abbrev pub has_form_by : Option Form → List (List ℕ) → Bool
 has_form_by None words = false
 has_form_by (Some Cluster) words = false

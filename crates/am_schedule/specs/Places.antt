@@ -17,6 +17,6 @@ text_at place words = text_in (word_at place words)
 abbrev pub member_at : List (List ℕ) → ℕ → List (List ℕ) → Result (List ℕ) FaultKind
 member_at names place words = member_in names (word_at place words)
 
--- whether a word stands in a place
+-- true if a word stands in a place
 abbrev pub has_word : ℕ → List ℕ → List (List ℕ) → Bool
 has_word place word words = bytes_eq (word_at place words) word

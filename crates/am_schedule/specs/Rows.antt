@@ -54,13 +54,13 @@ pub record Row (R : Type 0) : Type 0 where
 abbrev pub row : {R : Type 0} → (slots : List Slot) → (rest : Rest) → Makes slots rest R → Row R
 row slots rest makes = record { slots = slots; rest = rest; makes = makes }
 
--- whether a line has as many words as a row needs
+-- true if a line has as many words as a row needs
 abbrev pub is_count : Rest → ℕ → ℕ → Bool
 is_count nothing places count = count == places
 is_count labels places count = nat_le (places + 1) count
 is_count pairs places count = nat_le (places + 1) count
 
--- whether a line has as many words as a row needs, if the row's places begin at the word `first`
+-- true if a line has as many words as a row needs, if the row's places begin at the word `first`
 abbrev pub has_count : {R : Type 0} → ℕ → Row R → List (List ℕ) → Bool
 has_count first row words = is_count row.rest (first + length row.slots) (length words)
 

@@ -102,12 +102,12 @@ meaning before line =
     then (if is_passed_over line then Ok None else said_in (cluster_of before) (version_of before) (words_in line))
     else Err faults.NotUtf8
 
--- whether a line that isn't skipped has a known verb, and as many words as that needs; the first one is the cluster's
+-- true if a line that isn't skipped has a known verb, and as many words as that needs; the first one is the cluster's
 abbrev pub has_form : Option ClusterLine → List (List ℕ) → Bool
 has_form None words = has_cluster_form words
 has_form (Some cluster) words = has_form_by (form_in words) words
 
--- whether a line is UTF-8 with a known verb and as many words as that needs: no memory is taken for any other line
+-- true if a line is UTF-8 with a known verb and as many words as that needs: no memory is taken for any other line
 unfoldable pub is_formed : List (List ℕ) → List ℕ → Bool
 is_formed before line = is_utf8 line && has_form (cluster_of before) (words_in line)
 

@@ -12,7 +12,7 @@ use Rattle.am_silence.specs.Kinds.{is_regexp}
 use Rattle.am_silence.specs.Mesh.{Mesh}
 use Rattle.am_silence_json.specs.Written.{WritesMoment}
 
--- whether the label has to match: isEqual
+-- isEqual: true if the label has to match
 abbrev pub is_equal : MatcherKind → Bool
 is_equal kinds.Equal = true
 is_equal kinds.Regexp = true

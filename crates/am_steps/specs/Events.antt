@@ -84,7 +84,7 @@ brought_by _ = []
 abbrev pub IsFaultless : Event → Type 0
 IsFaultless event = (config : Settings) (now : ℕ) → fault_of config now event ≡ None
 
--- what is asked has no fault of its own
+-- the event that is asked for has no fault of its own
 abbrev pub IsSound : Asked → Type 0
 IsSound (asked.Event event source) = IsFaultless event
 IsSound asked.Start = Unit {0}

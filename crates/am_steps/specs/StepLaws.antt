@@ -84,7 +84,7 @@ module _ {K X : Type 0} (state : StateOf K X) where
       IsStep old event now answer new → AreInFlight answer frames →
       flights_of (before ++ event_step state old.config.unknown place now source event answer frames ∷ []) ≡ flights_of before ++ flights_in state old.config.unknown now frames
 
-  -- what a frame brings comes from its flight
+  -- the versions that a frame brings come from its flight
   abbrev pub FramesComeFromFlights : Type 0
   FramesComeFromFlights =
       (unknown : Unknown) (members now number sent : ℕ) (before : List (RunStep X)) (frame : Frame) →

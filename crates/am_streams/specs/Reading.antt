@@ -4,7 +4,7 @@ use Rattle.std.specs.Io.KnownBytes.{Consumes, IsAtEnd}
 use Rattle.am_streams.specs.declared.reading.Stop.{Stop}
 use Rattle.am_streams.specs.declared.reading.Stop.TheVariants.{Read, Memory}
 
--- what the reader gave is appended
+-- the bytes that the reader gave are appended
 pub record HasGrown (old new : Option (List ℕ)) (before after : List ℕ) : Type 0 where
   pub piece : List ℕ
   pub consumed : Consumes old new piece

@@ -64,7 +64,7 @@ item_fault table tests e = in_delimited (λ at bytes. faults_in table at bytes t
 
 -- ---- values
 
--- what `view` gives for the fields with this number, in order
+-- the values that `view` gives for the fields with this number, in order
 abbrev pub picked : {A : Type 0} → (FieldAt → List A) → ℕ → List FieldAt → List A
 picked view n es = flat_map (λ e. if e.number == n then view e else []) es
 

@@ -1,5 +1,5 @@
--- What is shown of a map at a moment, as one line of JSON. X is the type of versions, `seen` is what the merge sees of one, and `value` is
--- the value of one at a moment.
+-- The view of a map at a moment, as one line of JSON. X is the type of versions, `seen` is what the merge sees of one, and
+-- `value` is the value of one at a moment.
 use Rattle.std.specs.Prelude.{ℕ, List, ◌++◌, map, codes}
 use Rattle.serde_json.specs.Data.{Data, array}
 use Rattle.serde_json.specs.View.{items_of}

@@ -1,4 +1,4 @@
-//! What holds of what is told in JSON.
+//! Laws of the lines of JSON.
 
 ghost use Rattle.std.specs.Prelude.{◌≡◌, ℕ, Bool, List};
 ghost use Rattle.am_report.specs.Sources.{Source};

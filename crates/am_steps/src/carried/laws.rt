@@ -1,4 +1,4 @@
-//! What holds of the versions that frames carry.
+//! Laws of the versions that frames carry.
 
 ghost use Rattle.std.specs.Prelude.{◌≡◌, ◌≤◌, ◌∷◌, [], List, length, map, All, Ok, None, true};
 ghost use Rattle.am_wire.specs.Limits.{most};

@@ -1,4 +1,4 @@
-//! How the versions of a frame are read.
+//! Reading the versions of a frame.
 
 ghost use Rattle.std.specs.Prelude.{◌≡◌, ◌++◌, map, is_none, All, OnOk, IfOk};
 ghost use Rattle.am_wire.specs.Inputs.{messages_of};
