@@ -19,17 +19,21 @@ import sys
 import tempfile
 import threading
 import time
+from concurrent.futures import ThreadPoolExecutor
 
 from lib import members
 from lib.api import request, silence
 from lib.members import ALL_LINES, PATIENCE, begun, eventually, free_ports, parted, received, run, sent, write
 from lib.tally import check, compare, finish, try_each
-from lib.wire import PULL, PUSH, TICK, delimited, delta, field, frame, greeting, timestamp
+from lib.wire import DELTA, PULL, PUSH, TICK, delimited, delta, field, frame, greeting, timestamp
 
 TITLE = "members at several addresses"
 
 # How many bytes a challenge has.
 CHALLENGE = 32
+
+# The most bytes of a frame's payload.
+MOST_PAYLOAD = 64 << 20
 
 # Secrets, and whom they are of.
 SECRET, ANOTHER = b"sixteen bytes or more of it", b"sixteen bytes of another one"
@@ -140,6 +144,43 @@ def written(path, data, mode=0o600):
 def stop(*all_of):
     for member in all_of:
         member.kill()
+
+
+def slowest(member, look):
+    """How long the slowest of requests took, in seconds, that were made one after the other while something went on."""
+    slow = 0
+    while look():
+        start = time.monotonic()
+        compare("a request meanwhile", member.ask("GET", "/-/healthy")[0], 200)
+        slow = max(slow, time.monotonic() - start)
+    return slow
+
+
+def beside(member, deed):
+    """How long the slowest request took beside a deed, and what the deed gave."""
+    with ThreadPoolExecutor(1) as lane:
+        found = lane.submit(deed)
+        return slowest(member, lambda: not found.done()), found.result()
+
+
+def a_long_frame(folder):
+    """A sealed frame of 64 MiB is summed as it comes: at its end nobody waits for its sum, be it right or wrong."""
+    secret = written(f"{folder}/long", SECRET)
+    a, open_ = [Member(name, "127.0.0.2", free_ports(1)[0], [("p", word("127.0.0.9", 9))], folder, options)
+                for name, options in [("a", ["--secret", secret]), ("o", [])]]
+    begun(a), begun(open_)
+    text = frame(DELTA, bytes(MOST_PAYLOAD))
+    # (to the open one all but the last byte goes, so that nothing of the frame is read)
+    plain, _ = beside(open_, lambda: open_.send(greeting("p"), text[:-1]))
+    wrong = lambda challenge: [os.urandom(32), len(text).to_bytes(4, "big"), text]
+    slow, rest = beside(a, lambda: a.answer("p", wrong))
+    compare("nothing comes back", rest, b"")
+    check("a frame with a wrong sum is refused", a.told_of("am_tool: Seal Sum", "p"), a.whole_lines)
+    check("nobody waits for its sum", slow < max(0.1, 4 * plain), (slow, plain))
+    right, _ = beside(a, lambda: a.send_sealed("p", text))
+    check("with a right sum it is read", a.told_of("am_tool: Seal Text", "p"), a.whole_lines)
+    check("and nobody waits for that", right < max(0.1, 4 * plain), (right, plain))
+    stop(a, open_)
 
 
 def who_hears_whom(folder):
@@ -589,7 +630,7 @@ def words_that_are_refused(folder):
 def main():
     members.choose(TITLE, sys.argv[1:])
     with tempfile.TemporaryDirectory() as folder:
-        try_each([who_hears_whom, each_byte_counts, other_names, frames_in_their_order, challenges, repeats, peers_without_a_challenge,
+        try_each([who_hears_whom, a_long_frame, each_byte_counts, other_names, frames_in_their_order, challenges, repeats, peers_without_a_challenge,
                   a_member_that_restarts, a_member_that_ends, a_listener_for_frames, open_to_all, hosts,
                   an_address_that_others_reach, words_that_are_refused], folder)
     finish(TITLE)

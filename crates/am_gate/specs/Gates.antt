@@ -35,7 +35,7 @@ abbrev pub way_of : State → Way
 way_of states.Fresh = before
 way_of states.Open = passing
 way_of (states.Greeting bytes) = greeting bytes.items
-way_of (states.Sealed sealing) = sealed sealing.place sealing.out sealing.waiting.items
+way_of (states.Sealed sealing) = sealed sealing.place sealing.out sealing.waiting
 way_of states.Closed = shut
 
 -- the output, and why nothing more is heard after it

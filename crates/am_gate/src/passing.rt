@@ -6,7 +6,7 @@ ghost use Rattle.am_gate.specs.Gates.{IsTurnedBack, PassesOn, told, told_by, way
 
 use crate::fault::GateFault;
 use am_http::session::{Session, SessionOutput};
-use am_seal::Sequence;
+use am_seal::{Sequence, Waiting};
 use std::alloc::Global;
 
 /// The kinds of input that are heard at an entrance.
@@ -48,7 +48,7 @@ pub struct Sealing {
     /// The number of bytes of the challenge that were sent.
     pub out: usize,
     /// The bytes of a frame that isn't whole.
-    pub waiting: Vec<u8>,
+    pub waiting: Waiting,
 }
 
 impl Sealing {

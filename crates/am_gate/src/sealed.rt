@@ -7,13 +7,13 @@ use crate::fault::GateFault;
 use crate::passing::{Heard, Sealing, State, turn_back, wait};
 use am_gossip::{FrameError, read_hello};
 use am_http::session::{Session, SessionOutput};
-use am_seal::{CHALLENGE, Lock, Opened, Sequence, open_piece};
+use am_seal::{CHALLENGE, Lock, Opened, Sequence, Waiting, open_piece};
 use std::alloc::Global;
 
 /// Returns the opened frames. If one behind them wasn't accepted, nothing more is heard; otherwise `waiting` waits, and `out`
 /// bytes of the challenge were sent.
-fn keep(session: &mut Session, opened: Opened, out: usize, waiting: Vec<u8>) -> (Heard, State)
-    ensures { IsKept opened.frames.items opened.fault opened.next out waiting.items session.old (told_by result.0) (way_of result.1) session.new }
+fn keep(session: &mut Session, opened: Opened, out: usize, waiting: Waiting) -> (Heard, State)
+    ensures { IsKept opened.frames.items opened.fault opened.next out waiting session.old (told_by result.0) (way_of result.1) session.new }
 {
     let Opened {
         frames,
@@ -46,7 +46,7 @@ pub fn unseal(
     sealing: Sealing,
     piece: &[u8],
 ) -> (Heard, State)
-    ensures { Unseals lock.entry sealing.place sealing.out session.old (sealing.waiting.items ++ piece.now) (told_by result.0) (way_of result.1) session.new }
+    ensures { Unseals lock.entry sealing.place sealing.out session.old (sealing.waiting ++ piece.now) (told_by result.0) (way_of result.1) session.new }
 {
     let Sealing {
         place,
@@ -77,7 +77,7 @@ fn greeted(
     if said.fault.is_some() {
         return (Heard { said, fault: None }, State::Closed);
     }
-    let mut waiting = Vec::new(alloc);
+    let mut waiting = Waiting::new(alloc);
     let place = Sequence::new(challenge);
     let opened = open_piece(alloc, lock, name, place, &mut waiting, behind);
     keep(session, opened, 0, waiting)

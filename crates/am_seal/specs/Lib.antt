@@ -1,4 +1,5 @@
 pub mod Macs
 pub mod Sequences
 pub mod Seals
+pub mod Summings
 pub mod Openings

@@ -1,5 +1,5 @@
 -- The frames in sealed bytes, each after its length and a correct sum.
-use Rattle.std.specs.Prelude.{◌≡◌, ◌⊎◌, ℕ, ◌+◌, ◌^◌, ◌<◌, ◌≤◌, List, [], ◌∷◌, length, take, drop, Option, Some, None, Result, Ok, Err, ⊤}
+use Rattle.std.specs.Prelude.{◌≡◌, ◌⊎◌, ℕ, ◌+◌, ◌^◌, ◌<◌, ◌≤◌, List, [], ◌∷◌, length, take, drop, Option, Some, None, Result, Ok, Err, IfSome, ⊤}
 use Rattle.std.specs.Int.{w32, from_be_bytes}
 use Rattle.am_gossip.specs.declared.frame.Frame.{Frame}
 use Rattle.am_seal.specs.declared.opening.Front.{Front}
@@ -10,6 +10,7 @@ use Rattle.am_seal.specs.declared.seal.SealError.TheVariants.{Length, Sum, Text,
 use Rattle.am_seal.specs.declared.sequence.Sequence.{Sequence}
 use Rattle.am_seal.specs.Seals.{IsOnly, IsRight}
 use Rattle.am_seal.specs.Sequences.{next_in}
+use Rattle.am_seal.specs.Summings.{CoversIn}
 
 -- the sum at the front of the bytes; the length after it; the text of that length after both; and the bytes after all three
 abbrev pub sum_in : List ℕ → List ℕ
@@ -59,7 +60,7 @@ IsRefused lock sender place bytes Memory = ⊤
 -- the front of the bytes, as the code finds it
 abbrev pub StandsFirst : Lock → List ℕ → Sequence → List ℕ → Front → Type 0
 StandsFirst lock sender place bytes (Taken frame len next) = IsTaken lock sender place bytes frame × (len ≡ 36 + size_in bytes) × (next ≡ next_in place)
-StandsFirst lock sender place bytes Waits = IsShort bytes
+StandsFirst lock sender place bytes (Waits summing) = IsShort bytes × IfSome summing (CoversIn bytes)
 StandsFirst lock sender place bytes (Refused e) = IsRefused lock sender place bytes e
 
 -- no more is taken: the next frame isn't whole, and its bytes wait; or it is refused

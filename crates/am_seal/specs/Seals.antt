@@ -11,12 +11,15 @@ use Rattle.am_seal.specs.declared.sequence.Sequence.{Sequence}
 use Rattle.am_seal.specs.Macs.{hmac}
 use Rattle.am_seal.specs.Sequences.{next_in}
 
--- the message covered by a sum: the challenge of the connection; the number of the frame in it, in 8 bytes; the sender and the
--- addressee,
--- each after its length in 8 bytes; and the frame's bytes
+-- the front of the message that a sum covers: the challenge of the connection; the number of the frame in it, in 8 bytes; and
+-- the sender and the addressee, each after its length in 8 bytes
+abbrev pub message_front : Sequence → List ℕ → List ℕ → List ℕ
+message_front place sender addressee = place.challenge ++ to_be_bytes w64 place.number ++ to_be_bytes w64 (length sender) ++ sender
+    ++ to_be_bytes w64 (length addressee) ++ addressee
+
+-- the message that a sum covers: its front, and the frame's bytes
 abbrev pub sealed_message : Sequence → List ℕ → List ℕ → List ℕ → List ℕ
-sealed_message place sender addressee text = place.challenge ++ to_be_bytes w64 place.number ++ to_be_bytes w64 (length sender) ++ sender
-    ++ to_be_bytes w64 (length addressee) ++ addressee ++ text
+sealed_message place sender addressee text = message_front place sender addressee ++ text
 
 -- the sum of a frame's bytes at a place in its connection, from a sender to an addressee
 unfoldable pub seal_sum : List ℕ → Sequence → List ℕ → List ℕ → List ℕ → List ℕ

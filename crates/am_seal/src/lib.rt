@@ -9,9 +9,10 @@ mod opening;
 mod seal;
 mod secret;
 mod sequence;
+mod summing;
 
 pub use mac::{Mac, SUM, hmac_sha256};
-pub use opening::{MOST_TEXT, Opened, SEALED, open_piece};
-pub use seal::{Lock, SealError, open_frame, sealed_text, sum_of};
+pub use opening::{MOST_TEXT, Opened, SEALED, Waiting, open_piece};
+pub use seal::{Lock, SealError, sealed_text, sum_of};
 pub use secret::{Secret, SecretFault, read_secret};
 pub use sequence::{CHALLENGE, Sequence};

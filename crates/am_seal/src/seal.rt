@@ -1,11 +1,13 @@
 //! The seal of one frame.
 
-ghost use Rattle.std.specs.Prelude.{◌≡◌, ◌++◌, IfOk, IfErr, OnOk, length};
+ghost use Rattle.std.specs.Prelude.{◌≡◌, ◌++◌, IfOk, IfErr, IfSome, OnOk, length};
 ghost use Rattle.am_seal.specs.Seals.{IsNoFrame, IsOnly, IsRight, IsUntaken, seal_sum, sealed_frame, sealed_frames};
 ghost use Rattle.am_seal.specs.Sequences.{after};
+ghost use Rattle.am_seal.specs.Summings.{Covers};
 
 use crate::mac::{Mac, SUM, are_same};
 use crate::sequence::Sequence;
+use crate::summing::{Summing, whole_sum};
 use am_gossip::{Fed, Feeder, Frame, FrameError, encode_frame};
 use std::alloc::{AllocError, Global};
 use thiserror::Error;
@@ -92,27 +94,31 @@ fn only_frame(alloc: Global, text: &[u8]) -> Result<Frame, SealError>
     }
 }
 
-/// Returns the frame that stands after a sum, from a sender, at a place in a connection.
+/// Returns the frame that stands after a sum, from a sender, at a place in a connection. What `summing` covers of its text isn't
+/// summed again.
 ///
 /// # Errors
 ///
 /// Returns [`SealError::Sum`] if the sum isn't correct, before the text is read; [`SealError::Text`] if the text is not one frame;
-/// and
-/// [`SealError::Memory`] if memory runs out.
+/// and [`SealError::Memory`] if memory runs out.
 pub fn open_frame(
     alloc: Global,
     lock: Lock<'_>,
     sender: &str,
     place: Sequence,
+    summing: Option<Summing>,
     sum: &[u8; SUM],
     text: &[u8],
 ) -> Result<Frame, SealError>
+    requires covers { IfSome summing (λ s. Covers s text.now) }
+
     // PROMISE: A frame is taken only if its sum is right for the challenge of its connection, its number there, its sender, its addressee and its bytes.
     ensures right { IfOk result (λ _. IsRight lock.entry sender.now place sum.now text.now) }
     ensures frame { IfOk result (λ frame. IsOnly text.now frame) }
     ensures refused { IfErr result (IsUntaken lock.entry sender.now place sum.now text.now) }
 {
-    if !are_same(sum, &sum_of(lock.secret, place, sender, lock.name, text)) {
+    let correct = whole_sum(alloc, summing, lock, sender, place, text)?;
+    if !are_same(sum, &correct) {
         return Err(SealError::Sum);
     }
     only_frame(alloc, text)

@@ -3,7 +3,9 @@
 use crate::common::{Case, Fault, cut};
 use crate::parts::frames::print_frame;
 use crate::parts::requests;
-use am_seal::{CHALLENGE, Lock, Opened, SealError, Sequence, hmac_sha256, open_piece, sum_of};
+use am_seal::{
+    CHALLENGE, Lock, Opened, SealError, Sequence, Waiting, hmac_sha256, open_piece, sum_of,
+};
 
 /// Answers cases of seals: `hmac KEY | MESSAGE`, `seal SECRET | CHALLENGE | NUMBER | SENDER | ADDRESSEE | TEXT`, and `unseal
 /// SECRET | CHALLENGE | NUMBER | ADDRESSEE | SENDER | PIECE | PIECE ..`.
@@ -63,7 +65,7 @@ fn unseal(case: &Case, rest: &str) {
         secret: secret.as_slice(),
         name: name.trim(),
     };
-    let mut waiting = Vec::new(case.alloc);
+    let mut waiting = Waiting::new(case.alloc);
     for piece in pieces.split('|') {
         let piece = case.bytes(piece.trim());
         let opened = open_piece(

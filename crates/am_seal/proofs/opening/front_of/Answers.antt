@@ -1,4 +1,5 @@
-use Rattle.std.proofs.Common.{arith}
+use Rattle.std.proofs.Common.{ℕ, List, IfSome, drop, subst, ap, ◌∙◌, arith}
+use Rattle.am_seal.specs.Summings.{Covers}
 use Rattle.am_seal.proofs.Walked.{long_there, refused_there, short_there, taken_there}
 use Rattle.am_seal.proofs.opening.front_of.Goals as goal
 
@@ -23,5 +24,7 @@ returns-then-size-gt-MOST_TEXT c =
 pub returns-then-behind-size : goal.returns-then-behind-size
 returns-then-behind-size c =
     let one = c.in-Some-split_first_chunk.ensures.cases in
-    let two = c.in-Some-split_first_chunk-2.ensures.cases in
-    short_there _ _ _ _ _ _ one.0 one.1 one.2 two.0 two.1 two.2 c.from_be_bytes-size.ensures (omega arith) (omega arith)
+    let two = c.in-Some-split_first_chunk-2.ensures.cases in (
+      short_there _ _ _ _ _ _ one.0 one.1 one.2 two.0 two.1 two.2 c.from_be_bytes-size.ensures (omega arith) (omega arith),
+      subst (λ (l : List ℕ). IfSome c.summed.result (λ s. Covers s l)) (two.1 ∙ ap (drop 4) one.1) c.summed.ensures.covers,
+    )
