@@ -18,6 +18,7 @@ use am_dialogue::{
 use am_figures::Step;
 use am_http::session::SessionOutput;
 use am_instance::{FrameSender, Instance};
+use am_member::PatternsAhead;
 use am_self::seconds_in;
 use am_upkeep::Keeper;
 use am_version_order::Moment;
@@ -69,9 +70,32 @@ fn is_enough(begun: Option<Instant>, now: Option<Instant>) -> bool {
     }
 }
 
-/// Holds more of the alerts against the silences, for as long as a turn of the loop may take, or all that are left.
+/// Compiles patterns of silences for as long as a turn of the loop may take, and returns whether none is left.
+fn compile_on<U: Keeper>(
+    upkeep: &U,
+    ahead: &mut PatternsAhead,
+    instance: &mut Instance,
+    begun: Option<Instant>,
+) -> bool
+    ensures { instance.new ≡ instance.old }
+{
+    let now = upkeep.next_moment(instance.last());
+    for _ in 0..u64::MAX {
+        if ahead.go_on(instance, now) {
+            return true;
+        }
+        if is_enough(begun, upkeep.now()) {
+            break;
+        }
+    }
+    false
+}
+
+/// Holds more of the alerts against the silences, for as long as a turn of the loop may take, or all that are left. None is held
+/// against them before their patterns are compiled.
 fn ask_on<U: Keeper>(
     upkeep: &U,
+    ahead: &mut PatternsAhead,
     alloc: Global,
     instance: &mut Instance,
     deciding: Deciding,
@@ -81,6 +105,9 @@ fn ask_on<U: Keeper>(
     let begun = upkeep.now();
     let most = stretch_over(instance.silences().len());
     let mut now = instance.last();
+    if !compile_on(upkeep, ahead, instance, begun) {
+        return Ok(Reached { deciding, now });
+    }
     let mut left = deciding;
     for _ in 0..u64::MAX {
         now = upkeep.next_moment(instance.last());
@@ -338,7 +365,13 @@ impl<U: Keeper> Desk<'_, U> {
         if is_over(limit, self.upkeep.now()) {
             return self.break_off(instance, deciding, unheard);
         }
-        let Reached { deciding, now } = match ask_on(&self.upkeep, self.alloc, instance, deciding) {
+        let Reached { deciding, now } = match ask_on(
+            &self.upkeep,
+            &mut self.ahead,
+            self.alloc,
+            instance,
+            deciding,
+        ) {
             Ok(reached) => reached,
             Err(refusal) => return Called::Refused(refusal),
         };

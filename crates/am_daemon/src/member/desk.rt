@@ -6,6 +6,7 @@ use am_api_decisions::RecentAlerts;
 use am_dialogue::{Share, Timers, Turns};
 use am_faults::Fault;
 use am_instance::{Config, Instance, Place};
+use am_member::PatternsAhead;
 use am_reactor::LinkFault;
 use am_seal::CHALLENGE;
 use am_upkeep::{DISK, Keeper, cause_of, sooner};
@@ -37,6 +38,8 @@ pub struct Desk<'a, U> {
     pub awaited: Vec<Place>,
     /// The number of requests for decisions that wait.
     pub turns: Turns,
+    /// The patterns of silences that are still to be compiled before alerts are held against these.
+    pub ahead: PatternsAhead,
     /// The alerts of the most recent messages that the member was asked about.
     pub recent: RecentAlerts,
     /// The number of times that a request has begun to wait for the Alertmanagers beside the member, which is the round in

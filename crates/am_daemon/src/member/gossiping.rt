@@ -15,13 +15,20 @@ use am_figures::WithheldBy;
 use am_gossip::{Frame, StateKey};
 use am_instance::{Config, Event, Instance, Place};
 use am_matcher::Hazard;
+use am_member::PatternsAhead;
 use am_peers::Fault as ConnectionFault;
 use am_reactor::PeerBytes;
 use am_upkeep::Keeper;
 use std::time::{Duration, Instant};
 
 /// Makes the step of a frame that came from the replica at a place.
-fn take_from<U: Keeper>(upkeep: &mut U, instance: &mut Instance, place: usize, frame: Frame)
+fn take_from<U: Keeper>(
+    upkeep: &mut U,
+    ahead: &mut PatternsAhead,
+    instance: &mut Instance,
+    place: usize,
+    frame: Frame,
+)
     ensures { IsStepOfFrame (Some (place, frame)) instance.old instance.new }
 {
     let sender = place as Place;
@@ -31,6 +38,7 @@ fn take_from<U: Keeper>(upkeep: &mut U, instance: &mut Instance, place: usize, f
         frame_bytes(&frame, StateKey::Nfl),
     );
     upkeep.take(silences, log, true);
+    ahead.note(silences);
     match instance.step(Event::Frame { sender, frame }, now) {
         Ok(outcome) => {
             let (_, outbox) = outcome.into_parts();
@@ -50,7 +58,9 @@ impl<U: Keeper> Desk<'_, U> {
     {
         match came {
             Came::Nothing | Came::Stretch => {}
-            Came::Frame(place, frame) => take_from(&mut self.upkeep, instance, place, frame),
+            Came::Frame(place, frame) => {
+                take_from(&mut self.upkeep, &mut self.ahead, instance, place, frame)
+            }
             Came::Whole(place, frame, lacked) => {
                 self.note_exchange(place, lacked);
                 self.take_last(instance, place, frame);
@@ -91,7 +101,7 @@ impl<U: Keeper> Desk<'_, U> {
     {
         self.end_first_pull();
         if let Some(frame) = frame {
-            take_from(&mut self.upkeep, instance, place, frame);
+            take_from(&mut self.upkeep, &mut self.ahead, instance, place, frame);
         }
     }
 }

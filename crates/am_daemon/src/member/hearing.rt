@@ -105,8 +105,10 @@ impl<U: Keeper> Desk<'_, U> {
     fn take_in(&mut self, instance: &mut Instance, dialogue: &mut Conversation, said: SessionOutput)
         ensures { IsTaken (spoken said) instance.old (talk_of dialogue.old) instance.new (talk_of dialogue.new) }
     {
+        let silences = silences_said(&said);
         self.upkeep
-            .take(silences_said(&said), log_said(&said), may_change(&said));
+            .take(silences, log_said(&said), may_change(&said));
+        self.ahead.note(silences);
         let pulled = ends_pull(&said);
         let has_frames = !said.frames.is_empty();
         let Spared { said, asks, ticks } = spare(said);

@@ -12,6 +12,7 @@ use am_faults::{Fault, HasAudience, report, status};
 use am_instance::{Config, ConfigError, Instance, Place};
 use am_jobs::Options;
 use am_lines::signals;
+use am_member::PatternsAhead;
 use am_peers::{Peer, shown_name};
 use am_reactor::{Entrances, Limits, Peers, listen};
 use am_seal::{CHALLENGE, Lock};
@@ -281,6 +282,7 @@ fn clerk_of<'a, U>(
         bursts,
         awaited,
         turns: Turns::new(waiting),
+        ahead: PatternsAhead::new(),
         recent: RecentAlerts::new(alloc),
         round: 0,
         stops: false,
