@@ -18,16 +18,20 @@ import sys
 import tempfile
 import time
 
-from lib import members
+from lib import members, versions
 from lib.api import request, silence
-from lib.members import PATIENCE, Stoppable, begun, eventually, free_ports, parted, received
+from lib.members import PATIENCE, Stoppable, begun, eventually, free_ports, parted, received, write
 from lib.tally import check, compare, finish, try_each
+from lib.wire import delimited
 
 # The time for which members wait for one another, in seconds.
 TURN = 2
 
 # How many may wait where clients go.
 CROWD = 20
+
+# How many silences with patterns are there from the start.
+COLD = 2_000
 
 # The smallest limits of bytes and the largest body.
 MOST_BODY = 1_048_576
@@ -291,6 +295,30 @@ def test_dear(folder):
     of.kill()
 
 
+def test_cold(folder):
+    """Before the first decision the patterns of all silences are compiled, some in each turn: nobody waits for all of them."""
+    now = int(time.time())
+    times = f"{now - 60}..{now + 7200} updated {now - 60} expires {now + 9000}"
+    rows = [versions.silence(f"s{number:04} alertname=~web-{number}-.* {times}") for number in range(COLD)]
+    write(f"{folder}/b.sil", b"".join(map(delimited, rows)))
+    of = member("b", folder)
+    seconds = []
+    for name in ("first", "second"):
+        start, slowest, beside = time.monotonic(), 0, set()
+        stream = asked(of, "/v1/decide?wait=false", message(name, "web-7-a"))
+        while not select.select([stream], [], [], 0)[0]:
+            begun = time.monotonic()
+            beside.add(of.ask("GET", "/api/v2/silence/x")[0])
+            slowest = max(slowest, time.monotonic() - begun)
+        compare(f"the {name} decision", decided(answered(stream)), (200, False, "Muted"))
+        compare("what is asked beside it", beside - {404}, set())
+        seconds.append((time.monotonic() - start, slowest))
+    (whole, waited), (again, _) = seconds
+    check("the patterns are compiled before the first decision", whole > 5 * again, seconds)
+    check("nobody waits for a tenth of that", 10 * waited < whole, seconds)
+    compare("the stop", of.stop(), 0)
+
+
 def told(of, answer):
     """What comes of an answer that is posted back."""
     return of.ask("POST", "/v1/notified", json.dumps(answer).encode())
@@ -378,7 +406,7 @@ def test_log(folder):
 
 
 TESTS = [
-    test_turn, test_limit, test_gone, test_stop, test_faults, test_large, test_unjudged, test_dear, test_late, test_alerts, test_log,
+    test_turn, test_limit, test_gone, test_stop, test_faults, test_large, test_unjudged, test_dear, test_cold, test_late, test_alerts, test_log,
     test_gone_at_once,
 ]  # fmt: skip
 
