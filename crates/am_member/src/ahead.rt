@@ -17,6 +17,10 @@ const MOST_SILENCES: usize = 1_024;
 /// The number of bytes, as they are counted for what is kept, after whose compiling a stretch ends: a few simple patterns.
 const ENOUGH_BYTES: usize = 64 << 10;
 
+/// The number of bytes of kept patterns from which on none is compiled ahead: half of what may be kept, so that there is room for the
+/// patterns that alerts turn out to need.
+const MOST_AHEAD: usize = 64 << 20;
+
 /// The number of bytes of silences that may come before all are looked at again. The patterns of fewer are compiled when an alert is
 /// held against them.
 const MOST_NEW_BYTES: u64 = 16 << 10;
@@ -43,7 +47,7 @@ pub struct PatternsAhead {
 enum Compiled {
     /// This many bytes were counted for what wasn't compiled before.
     Bytes(usize),
-    /// There is no room for more patterns.
+    /// No more patterns are compiled ahead.
     Full,
 }
 
@@ -66,7 +70,8 @@ impl PatternsAhead {
     }
 
     /// Compiles some of the patterns that weren't looked at yet, of silences that haven't ended at `now`, and returns whether none is
-    /// left. If there is no room for more patterns, or no memory, the rest are left to the steps that need them.
+    /// left. The rest are left to the steps that need them if enough are kept, or
+    /// memory runs out.
     pub fn go_on(&mut self, instance: &mut Instance, now: Moment) -> bool
         ensures same { instance.new ≡ instance.old }
     {
@@ -139,11 +144,10 @@ fn compile(
         if !matcher.kind().is_regexp() {
             continue;
         }
-        let before = patterns.size();
-        let prepared = patterns.prepare_in(dialect, matcher.pattern())?;
-        if prepared.bytes > 0 && patterns.size() == before {
+        if patterns.size() >= MOST_AHEAD {
             return Ok(Compiled::Full);
         }
+        let prepared = patterns.prepare_in(dialect, matcher.pattern())?;
         bytes = bytes.saturating_add(prepared.bytes);
     }
     Ok(Compiled::Bytes(bytes))
