@@ -70,8 +70,7 @@ impl PatternsAhead {
     }
 
     /// Compiles some of the patterns that weren't looked at yet, of silences that haven't ended at `now`, and returns whether none is
-    /// left. The rest are left to the steps that need them if enough are kept, or
-    /// memory runs out.
+    /// left. If enough are kept, or memory runs out, the rest are left to the steps that need them.
     pub fn go_on(&mut self, instance: &mut Instance, now: Moment) -> bool
         ensures same { instance.new ≡ instance.old }
     {
