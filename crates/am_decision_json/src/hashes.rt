@@ -41,6 +41,7 @@ impl HashText {
         HashText { bytes }
     }
 
+    /// Returns the text.
     pub fn as_str(&self) -> &str
         ensures { result.now ≡ self.now }
     {

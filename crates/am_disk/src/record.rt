@@ -6,6 +6,7 @@ ghost use Rattle.am_disk.specs.Calls.{Event, event_of};
 
 use std::marker::Model;
 
+/// The calls that were made so far. Only clauses read it, and it takes no memory.
 #[derive(Drop)]
 pub struct Record {
     pub ghost events: { List Event },

@@ -88,6 +88,7 @@ impl FullState {
         Self { parts }
     }
 
+    /// Returns the parts, in their order.
     pub fn parts(&self) -> &[Part]
         ensures { result.now ≡ self.now }
     {
@@ -128,6 +129,7 @@ pub enum Frame {
 }
 
 impl Frame {
+    /// Returns the kind of the frame.
     pub fn kind(&self) -> FrameKind
         ensures { result ≡ kind_of self.now }
     {

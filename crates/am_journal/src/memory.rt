@@ -9,6 +9,7 @@ use crate::device::Device;
 use crate::error::LogError;
 use std::alloc::{AllocError, Global};
 
+/// A file in memory, with its content after each call.
 #[derive(Drop)]
 pub struct Memory {
     alloc: Global,

@@ -6,6 +6,7 @@ ghost use Rattle.am_journal.specs.Events.{Event, event_of};
 
 use std::marker::{Model, PhantomData};
 
+/// The calls that were made so far. Only clauses read it, and it takes no memory.
 #[derive(Drop)]
 pub struct Record {
     marker: PhantomData<u8>,

@@ -27,6 +27,7 @@ impl Ids {
         Ids { ids }
     }
 
+    /// Returns the identifiers.
     pub fn as_slice(&self) -> &[Text]
         ensures { result.now ≡ self.now }
     {

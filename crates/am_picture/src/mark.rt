@@ -79,6 +79,7 @@ impl Mark {
         }
     }
 
+    /// Returns whether the line was refused.
     pub fn is_refused(&self) -> bool {
         matches!(self.answer, Answer::Refused(_))
     }

@@ -38,6 +38,7 @@ pub struct Scene {
 }
 
 impl Scene {
+    /// Returns a scene without marks and sendings. Takes no memory.
     pub fn new(alloc: Global) -> Scene {
         Scene {
             marks: Vec::new(alloc),

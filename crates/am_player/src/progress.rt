@@ -29,6 +29,7 @@ fn moment_after<H: Host>(rt: &H, millis: u64) -> Option<Instant> {
 }
 
 impl<'a, H: Host> Display<'a, H> {
+    /// Returns the display of a replay. It shows something only to a person, and only once the replay has taken a while.
     pub fn new(rt: &'a H) -> Display<'a, H> {
         let due = match rt.audience() {
             Audience::Person => moment_after(rt, FIRST),

@@ -82,6 +82,7 @@ impl Acceptor {
         self.left = 0;
     }
 
+    /// Returns whether no connection is accepted any more.
     pub fn is_closed(&self) -> bool {
         self.left == 0
     }

@@ -5,6 +5,7 @@ ghost use Rattle.std.specs.Borrow.{ftrue};
 
 use std::marker::{Model, PhantomData};
 
+/// Bytes that were noted.
 #[derive(Drop)]
 pub struct Noted {
     marker: PhantomData<u8>,
@@ -16,6 +17,7 @@ impl Model for Noted {
 }
 
 impl Noted {
+    /// Returns no bytes.
     pub fn new() -> Noted
         ensures { result.bytes ≡ [] }
     {

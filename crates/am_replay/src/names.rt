@@ -7,6 +7,7 @@ use crate::refusal::Refusal;
 use am_dedup::{Decision, Reason};
 use am_gossip::FrameKind;
 
+/// Returns `yes` or `no`.
 pub fn yes_or_no(answer: bool) -> &'static str
     ensures { result.now ≡ yes_or_no answer }
 {
@@ -27,6 +28,7 @@ pub fn decision_name(decision: Decision) -> &'static str
     }
 }
 
+/// Returns the name of a kind of frames.
 pub fn kind_name(kind: FrameKind) -> &'static str
     ensures { result.now ≡ kind_word kind }
 {

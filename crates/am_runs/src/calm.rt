@@ -21,6 +21,7 @@ pub struct Lasts {
     pub saved: Option<Moment>,
 }
 
+/// Returns the later one of the last collection, if there was one, and a moment.
 pub fn later(last: Option<Moment>, now: Moment) -> Option<Moment>
     ensures { result ≡ later last now }
 {
@@ -30,6 +31,7 @@ pub fn later(last: Option<Moment>, now: Moment) -> Option<Moment>
     }
 }
 
+/// Returns the last collections of a member after a step, given those before it.
 pub fn lasts_after<V>(member: usize, lasts: Lasts, step: &RunStep<V>) -> Lasts
     ensures { lasts_seen result ≡ lasts_after member (lasts_seen lasts) (step_of step.now) }
 {

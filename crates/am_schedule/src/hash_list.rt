@@ -31,6 +31,7 @@ impl HashList {
         HashList { hashes }
     }
 
+    /// Returns the hashes: at most 512.
     pub fn as_slice(&self) -> &[u64]
         ensures hashes { result.now ≡ self.now }
         ensures few { length self.now ≤ 512 }

@@ -26,6 +26,7 @@ impl<T> Items<T> {
         Items { items }
     }
 
+    /// Returns the items.
     pub fn as_slice(&self) -> &[T]
         ensures { result.now ≡ self.now }
     {

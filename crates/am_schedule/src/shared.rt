@@ -34,6 +34,7 @@ impl<T: Drop> Shared<T> {
         Ok(Shared { value })
     }
 
+    /// Returns the value.
     pub fn get(&self) -> &T
         ensures { result.now ≡ self.now }
     {

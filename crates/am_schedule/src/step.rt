@@ -153,6 +153,7 @@ impl Step {
         Step { action }
     }
 
+    /// Returns the action of the step.
     pub fn action(&self) -> &Action
         ensures { result.now ≡ self.now }
     {

@@ -29,6 +29,7 @@ impl Model for Word {
 }
 
 impl Word {
+    /// Returns the word: at most 1,024 bytes.
     pub fn as_str(&self) -> &str
         ensures text { result.now ≡ self.now }
         ensures short { length self.now ≤ 1024 }

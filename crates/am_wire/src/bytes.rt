@@ -45,6 +45,7 @@ impl Bytes {
         Ok(Bytes { bytes })
     }
 
+    /// Returns the bytes.
     pub fn as_slice(&self) -> &[u8]
         ensures { result.now ≡ self.now }
     {

@@ -46,6 +46,7 @@ impl Text {
         Ok(Text { string })
     }
 
+    /// Returns the text.
     pub fn as_str(&self) -> &str
         ensures bytes { result.now ≡ self.now }
         ensures utf8 { IsUtf8 self.now }

@@ -193,8 +193,10 @@ const PROMETHEUS: &str = "prometheus";
 /// The name of the sources among the options.
 const SOURCES: &str = "source";
 
+/// The least number of sources that are compared.
 pub const FEWEST_SOURCES: usize = 2;
 
+/// The most sources that are compared.
 pub const MOST_SOURCES: usize = 16;
 
 const ABOUT: &str =

@@ -7,9 +7,10 @@ use am_jobs::{Job, PullJob, PushJob, SourceWord};
 use clap::{ArgMatches, Command};
 use std::alloc::{AllocError, Global};
 
-/// The names of the commands.
+/// The name of the command that pulls.
 pub const PULL: &str = "pull";
 
+/// The name of the command that pushes.
 pub const PUSH: &str = "push";
 
 /// Returns the command `pull` with its options, under a name.

@@ -18,6 +18,7 @@ fn numbered<W: fmt::Write, N: Display + Drop>(
     write!(f, "{name} {number}")
 }
 
+/// Writes the words for a fault of an Alertmanager's answer.
 pub fn write_answer_error<W: fmt::Write>(error: &AnswerError, f: &mut Formatter<W>) -> fmt::Result {
     match *error {
         AnswerError::Nothing => f.write_str("Gossip Nothing"),
@@ -52,6 +53,7 @@ impl Display for PeerWord {
     }
 }
 
+/// Writes the words for a fault of the link to a peer.
 pub fn write_link_fault<W: fmt::Write>(
     fault: &LinkFault,
     address: &Option<SocketAddr>,
@@ -72,6 +74,7 @@ pub fn write_link_fault<W: fmt::Write>(
     }
 }
 
+/// Writes the words for an address at which nobody can be heard.
 pub fn write_listen_fault<W: fmt::Write>(
     kind: &ErrorKind,
     address: &SocketAddr,

@@ -38,6 +38,7 @@ impl Model for MomentText {
 }
 
 impl MomentText {
+    /// Returns the text.
     pub fn as_str(&self) -> &str
         ensures { result.now ≡ self.now }
     {
