@@ -11,9 +11,9 @@ use Rattle.std.proofs.lemmas.List.Elements.{All-map, All-filter, All-append, All
 use Rattle.std.proofs.lemmas.List.Filters.{sum_by-filter_both}
 use Rattle.std.proofs.lemmas.List.Sums.{sum_by-cons, sum_by-insert, sum_by_more, sum_by_more_le}
 use Rattle.std.proofs.lemmas.Map.Lookups.{exact_bytes}
-use Rattle.am_matcher.specs.Sizes.{CompiledPattern, size_of, size_of_all}
+use Rattle.am_matcher.specs.Sizes.{CompiledPattern, long_steps, long_steps_of_all, size_of, size_of_all}
 use Rattle.am_matcher.specs.Uses.{TextsPass}
-use Rattle.am_matcher.specs.Entries.{patterns_in, entry_size, MarkedPass}
+use Rattle.am_matcher.specs.Entries.{patterns_in, entry_size, entry_steps, MarkedPass}
 use Rattle.am_matcher.specs.declared.entries.Entry.{Entry}
 use Rattle.am_matcher.proofs.Members.{Contains-map, Contains-later}
 
@@ -90,6 +90,27 @@ pub counted_all : (entries : List Entry) (i : ℕ) (bytes : ℕ) → length entr
 counted_all entries i bytes past within counted =
     let whole : i ≡ length entries = omega arith in
     counted ∙ ap (λ (k : ℕ). sum_by entry_size (take k entries)) whole ∙ ap (λ (es : List Entry). sum_by entry_size es) (take-length entries) ∙ sym (size_by_entries entries)
+
+-- ---- the steps of long searches
+
+pub steps_by_entries : (length_of : ℕ) (entries : List Entry) → long_steps_of_all length_of (patterns_in entries) ≡ sum_by (entry_steps length_of) entries
+steps_by_entries n [] = refl
+steps_by_entries n (e ∷ es) = sum_by-cons (long_steps n) e.kept (patterns_in es) ∙ ap (λ k. long_steps n e.kept + k) (steps_by_entries n es) ∙ sym (sum_by-cons (entry_steps n) e es)
+
+pub steps_more : (n : ℕ) (entries : List Entry) (i : ℕ) (e : Entry) (steps more sum : ℕ) → i < length entries → e ≡ get_or entries i e →
+    more ≡ min (long_steps n e.kept) (2 ^ 64 - 1) → sum ≡ min (steps + more) (2 ^ 64 - 1) → steps ≡ min (sum_by (entry_steps n) (take i entries)) (2 ^ 64 - 1)
+    → sum ≡ min (sum_by (entry_steps n) (take (i + 1) entries)) (2 ^ 64 - 1)
+steps_more n entries i e steps more sum within is counted added before =
+    let here : entry_steps n (get_or entries i e) ≡ entry_steps n e = ap (entry_steps n) (sym is) in
+    omega (arith, here, counted, added, before, sum_by_more (entry_steps n) entries i e within)
+
+pub steps_all : (n : ℕ) (entries : List Entry) (i : ℕ) (steps : ℕ) → length entries ≤ i → i ≤ length entries → steps ≡ min (sum_by (entry_steps n) (take i entries)) (2 ^ 64 - 1)
+    → steps ≡ min (long_steps_of_all n (patterns_in entries)) (2 ^ 64 - 1)
+steps_all n entries i steps past within counted =
+    let whole : i ≡ length entries = omega arith in
+    counted ∙ ap (λ (k : ℕ). min (sum_by (entry_steps n) (take k entries)) (2 ^ 64 - 1)) whole
+    ∙ ap (λ (es : List Entry). min (sum_by (entry_steps n) es) (2 ^ 64 - 1)) (take-length entries)
+    ∙ ap (λ (k : ℕ). min k (2 ^ 64 - 1)) (sym (steps_by_entries n entries))
 
 -- ---- what stays
 

@@ -1,5 +1,5 @@
 -- The bytes that are counted for patterns that are kept.
-use Rattle.std.specs.Prelude.{ℕ, ◌+◌, ◌*◌, List, length, sum_by, vec_len, if◌then◌else◌}
+use Rattle.std.specs.Prelude.{ℕ, ◌+◌, ◌*◌, List, length, nat_lt, sum_by, vec_len, if◌then◌else◌}
 use Rattle.regex_dfa.specs.declared.dfa.Dfa.{Dfa}
 use Rattle.am_matcher.specs.declared.dialect.Dialect.{Dialect}
 
@@ -40,3 +40,12 @@ size_of p = 4_096 + length p.text + length p.written + 160 * p.states + 24 * p.t
 -- the size of all patterns
 abbrev pub size_of_all : List CompiledPattern → ℕ
 size_of_all patterns = sum_by size_of patterns
+
+-- the steps of a search for a pattern in a text of this length, which follows each state at each byte; 0 if they are at most
+-- 1,048,576, as in any short search
+abbrev pub long_steps : ℕ → CompiledPattern → ℕ
+long_steps length p = if nat_lt 1_048_576 (p.states * length) then p.states * length else 0
+
+-- the steps of all long searches for these patterns in a text of this length
+abbrev pub long_steps_of_all : ℕ → List CompiledPattern → ℕ
+long_steps_of_all length patterns = sum_by (long_steps length) patterns

@@ -3,12 +3,14 @@
 ghost use Rattle.std.specs.Prelude.{◌≡◌, ◌≤◌, ◌+◌, ◌-◌, ◌^◌, min, ℕ, Bool, true, false, List, [], All, Contains, IfOk, OnErr, IsErrOf};
 ghost use Rattle.am_matcher.specs.Patterns.{IsSound, IsBroken};
 ghost use Rattle.am_matcher.specs.Dialects.{IsAnswer, IsBrokenIn, IsMeaning, IsSoundIn};
-ghost use Rattle.am_matcher.specs.Sizes.{size_of, size_of_all};
+ghost use Rattle.am_matcher.specs.Sizes.{long_steps_of_all, size_of, size_of_all};
 ghost use Rattle.am_matcher.specs.Uses.{is_used_by, TextsPass};
 
 use crate::compiled::BuildError;
 use crate::dialect::Dialect;
-use crate::entries::{Entry, ask, count, drop_unused, is_broken_in, place_of, whole_in};
+use crate::entries::{
+    Entry, ask, count, drop_unused, is_broken_in, long_steps, place_of, whole_in,
+};
 use crate::kept::{Kept, whole_of};
 use crate::whole::Whole;
 use am_merge::Held;
@@ -88,6 +90,14 @@ impl PatternCache {
         ensures bounded { size_of_all self.now ≤ 134_217_728 }
     {
         self.bytes
+    }
+
+    /// Returns the number of steps that searches for the kept patterns take at most in a text of `length` bytes, without those of
+    /// short searches.
+    pub fn long_steps(&self, length: usize) -> usize
+        ensures { result ≡ min (long_steps_of_all length self.now) (2 ^ 64 - 1) }
+    {
+        long_steps(self.entries.as_slice(), length)
     }
 
     /// Returns whether the value matches the pattern from end to end. The pattern may be kept if `keeps` is true.

@@ -1,6 +1,6 @@
 //! The number of bytes that are counted for a pattern.
 
-ghost use Rattle.std.specs.Prelude.{◌≡◌, ◌+◌, ◌-◌, ◌*◌, ◌^◌, min};
+ghost use Rattle.std.specs.Prelude.{◌≡◌, ◌+◌, ◌-◌, ◌*◌, ◌^◌, min, nat_lt, if◌then◌else◌};
 
 /// The approximate size of a table that searches fill, in bytes. If it is too small, searches go on without it.
 pub const SEARCH_BYTES: usize = 16 << 10;
@@ -25,4 +25,16 @@ pub fn counted(text: usize, states: usize, transitions: usize, tables: usize) ->
         .saturating_add(STATE_BYTES.saturating_mul(states))
         .saturating_add(TRANSITION_BYTES.saturating_mul(transitions))
         .saturating_add(SEARCH_BYTES.saturating_mul(tables))
+}
+
+/// The number of steps above which a search is long.
+const SHORT_STEPS: usize = 1 << 20;
+
+/// Returns the number of steps that a search takes at most with this many states in a text of `length` bytes, or 0 if it isn't a
+/// long search.
+pub fn long_steps_with(states: usize, length: usize) -> usize
+    ensures { result ≡ min (if nat_lt 1_048_576 (states * length) then states * length else 0) (2 ^ 64 - 1) }
+{
+    let steps = states.saturating_mul(length);
+    if steps > SHORT_STEPS { steps } else { 0 }
 }

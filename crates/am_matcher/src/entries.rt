@@ -1,11 +1,11 @@
 //! The entries of a cache: patterns that are kept, in the order of their texts.
 
-ghost use Rattle.std.specs.Prelude.{◌≡◌, ℕ, ◌^◌, ◌<◌, ◌≤◌, Bool, true, false, List, All, Contains, filter, length, IfOk, IfErr, IfSome, IsErrOf};
+ghost use Rattle.std.specs.Prelude.{◌≡◌, ℕ, ◌-◌, ◌^◌, ◌<◌, ◌≤◌, Bool, true, false, List, All, Contains, filter, length, min, IfOk, IfErr, IfSome, IsErrOf};
 ghost use Rattle.std.specs.List.{HoldsAt};
 ghost use Rattle.am_silence.specs.Kinds.{is_regexp};
 ghost use Rattle.am_matcher.specs.Patterns.{IsSound};
 ghost use Rattle.am_matcher.specs.Dialects.{IsAnswer, IsBrokenIn, IsMeaning, IsSoundIn};
-ghost use Rattle.am_matcher.specs.Sizes.{size_of_all};
+ghost use Rattle.am_matcher.specs.Sizes.{long_steps_of_all, size_of_all};
 ghost use Rattle.am_matcher.specs.Uses.{is_used_by, PatternsPass, TextsPass};
 ghost use Rattle.am_matcher.specs.Entries.{patterns_in, MarkedPass};
 
@@ -98,6 +98,17 @@ pub fn count(entries: &[Entry]) -> usize
         bytes += entry.kept.size();
     }
     bytes
+}
+
+/// Returns the number of steps that the long searches for the patterns take at most in a text of `length` bytes.
+pub fn long_steps(entries: &[Entry], length: usize) -> usize
+    ensures { result ≡ min (long_steps_of_all length (patterns_in entries.now)) (2 ^ 64 - 1) }
+{
+    let mut steps = 0usize;
+    for entry in entries {
+        steps = steps.saturating_add(entry.kept.long_steps(length));
+    }
+    steps
 }
 
 /// Drops the patterns that no silence of the map has. Nothing is allocated.

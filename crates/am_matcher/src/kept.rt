@@ -4,10 +4,10 @@ ghost use Rattle.std.specs.Prelude.{◌≡◌, ◌-◌, ◌^◌, true, false, mi
 ghost use Rattle.am_matcher.specs.Patterns.{IsSound};
 ghost use Rattle.am_matcher.specs.Dialects.{IsAnswer, IsBrokenIn, IsMeaning, IsSoundIn};
 ghost use Rattle.am_matcher.specs.Kept.{pattern_of, IsBuilt};
-ghost use Rattle.am_matcher.specs.Sizes.{size_of};
+ghost use Rattle.am_matcher.specs.Sizes.{long_steps, size_of};
 
 use crate::compiled::BuildError;
-use crate::counting::counted;
+use crate::counting::{counted, long_steps_with};
 use crate::dialect::Dialect;
 use crate::re2::re2_of;
 use crate::whole::Whole;
@@ -143,6 +143,18 @@ impl Kept {
             Built::Sound(whole) => whole.size(),
             Built::Translated { text, whole } => whole.size().saturating_add(text.len()),
             Built::Broken { text, .. } => counted(text.len(), 0, 0, 0),
+        }
+    }
+
+    /// Returns the number of steps that a search for the pattern takes at most in a text of `length` bytes, or 0 if it isn't a
+    /// long search.
+    pub fn long_steps(&self, length: usize) -> usize
+        ensures { result ≡ min (long_steps length self.now) (2 ^ 64 - 1) }
+    {
+        match &self.built {
+            Built::Sound(whole) => long_steps_with(whole.states(), length),
+            Built::Translated { whole, .. } => long_steps_with(whole.states(), length),
+            Built::Broken { .. } => 0,
         }
     }
 

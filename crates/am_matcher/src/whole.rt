@@ -174,6 +174,13 @@ impl Whole {
         )
     }
 
+    /// Returns the number of states that were compiled.
+    pub fn states(&self) -> usize
+        ensures { result ≡ self.now.states }
+    {
+        self.dfa.nfa.states.len()
+    }
+
     /// Returns whether the text matches from end to end.
     pub fn matches(&mut self, text: &str) -> Result<bool, AllocError>
         ensures answer { IfOk result (λ found. found ≡ is_match self.old.text text.now) }
