@@ -301,7 +301,7 @@ def test_cold(folder):
     times = f"{now - 60}..{now + 7200} updated {now - 60} expires {now + 9000}"
     rows = [versions.silence(f"s{number:04} alertname=~web-{number}-.* {times}") for number in range(COLD)]
     write(f"{folder}/b.sil", b"".join(map(delimited, rows)))
-    of = member("b", folder)
+    of = member("b", folder, ["--decide-limit", "600"])
     seconds = []
     for name in ("first", "second"):
         start, slowest, beside = time.monotonic(), 0, set()

@@ -1,8 +1,9 @@
 -- The question of a request, or its first fault.
-use Rattle.std.specs.Prelude.{◌≡◌, ℕ, ◌⊎◌, List, ⊤, Result, Ok, Err, string_bytes}
+use Rattle.std.specs.Prelude.{◌≡◌, ℕ, ◌≤◌, ◌⊎◌, List, All, length, ⊤, Result, Ok, Err, string_bytes}
 use Rattle.am_http.specs.Lines.{line_seen, told_to}
 use Rattle.am_http.specs.declared.refusal.Refusal.{Refusal}
 use Rattle.am_http.specs.declared.request.Request.{Request}
+use Rattle.am_matcher.specs.declared.labels.Label.{Label}
 use Rattle.am_api_decisions.specs.declared.asked.Asked.{Asked}
 use Rattle.am_api_decisions.specs.declared.asked.Asked.TheVariants as asked
 use Rattle.am_api_decisions.specs.declared.asked.Question.{Question}
@@ -14,6 +15,10 @@ use Rattle.am_api_decisions.specs.Bodies.{IsMessageFault, IsMessageIn, IsNoticeF
 use Rattle.am_api_decisions.specs.Calls.{IsCallOf}
 use Rattle.am_api_decisions.specs.Lines.{line_of}
 use Rattle.am_api_decisions.specs.Terms.{HasTerms, IsFirstBad, IsTerms}
+
+-- No value of these labels has more bytes than this.
+abbrev pub AreWithin : ℕ → List Label → Type 0
+AreWithin most labels = All (λ l. length l.value ≤ most) labels
 
 -- The question has the terms of the query and the message of the body.
 pub record IsQuestion (query body : List ℕ) (question : Question) : Type 0 where

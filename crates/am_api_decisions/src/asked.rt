@@ -1,7 +1,7 @@
 //! The questions of requests.
 
-ghost use Rattle.std.specs.Prelude.{◌≡◌, IfOk, IfErr};
-ghost use Rattle.am_api_decisions.specs.Asked.{Asks, HasFault, IsAsked, IsAskedBy, IsQuestion, IsQuestionFault, IsRefusedFor};
+ghost use Rattle.std.specs.Prelude.{◌≡◌, ◌≤◌, All, IfOk, IfErr};
+ghost use Rattle.am_api_decisions.specs.Asked.{AreWithin, Asks, HasFault, IsAsked, IsAskedBy, IsQuestion, IsQuestionFault, IsRefusedFor};
 
 use crate::cause::Cause;
 use crate::messages::{message_in, notice_in};
@@ -9,6 +9,7 @@ use crate::routes::{Call, call_of};
 use crate::terms::{Terms, terms_in};
 use am_decision_json::{Message, Notice};
 use am_http::{Refusal, Request};
+use am_matcher::Label;
 use std::alloc::Global;
 
 /// The question whether a group is to be notified.
@@ -22,7 +23,7 @@ pub struct Question {
 /// The question of a request.
 #[derive(Drop)]
 pub enum Asked {
-    /// True if a group is to be notified.
+    /// The question whether a group is to be notified.
     Decide(Question),
     /// A notice to log that a group was notified.
     Notified(Notice),
@@ -33,12 +34,35 @@ pub enum Asked {
 }
 
 impl Question {
+    /// Returns the number of bytes of the longest value of a label in the alerts.
+    pub fn longest_value(&self) -> usize
+        ensures covers { All (λ alert. AreWithin result alert.labels) self.now.message.alerts.items }
+    {
+        let mut longest = 0;
+        for alert in &self.message.alerts {
+            longest = longest_of(longest, alert.labels.as_slice());
+        }
+        longest
+    }
+
     /// Returns whether the reply waits for the member's turn.
     pub fn waits(&self) -> bool
         ensures { result ≡ self.now.terms.waits }
     {
         self.terms.waits
     }
+}
+
+/// Returns the number of bytes of the longest value of these labels, or `longest` if all are shorter.
+fn longest_of(longest: usize, labels: &[Label]) -> usize
+    ensures covers { AreWithin result labels.now }
+    ensures least { longest ≤ result }
+{
+    let mut longest = longest;
+    for label in labels {
+        longest = longest.max(label.value.as_str().len());
+    }
+    longest
 }
 
 /// Reads the question in a query and a body.

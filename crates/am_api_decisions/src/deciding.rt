@@ -30,6 +30,8 @@ pub struct Deciding {
     group: Group,
     left: IntoIter<Alert>,
     tally: Tally,
+    /// The number of bytes of the longest value of a label in all alerts.
+    longest: usize,
 }
 
 impl Model for Deciding {
@@ -68,6 +70,7 @@ impl Deciding {
     pub fn new(alloc: Global, question: Question) -> Deciding
         ensures { result ≡ underway_of question }
     {
+        let longest = question.longest_value();
         let Question { message, terms } = question;
         let group = Group {
             group_key: message.group_key,
@@ -78,6 +81,7 @@ impl Deciding {
             group,
             left: message.alerts.into_iter(),
             tally: Tally::new(alloc),
+            longest,
         }
     }
 
@@ -102,6 +106,7 @@ impl Deciding {
             group,
             mut left,
             mut tally,
+            longest,
         } = self;
         for _count in 0..most {
             match left.next() {
@@ -109,7 +114,17 @@ impl Deciding {
                 None => break,
             }
         }
-        Ok(Deciding { group, left, tally })
+        Ok(Deciding {
+            group,
+            left,
+            tally,
+            longest,
+        })
+    }
+
+    /// Returns the number of bytes of the longest value of a label in the alerts of the question.
+    pub fn longest_value(&self) -> usize {
+        self.longest
     }
 
     /// Returns whether all alerts have been asked.
@@ -134,6 +149,7 @@ impl Deciding {
                     group,
                     left: _,
                     tally,
+                    longest: _,
                 } = deciding;
                 settle(alloc, instance, group, tally, Judgement::Whole, timing)
             }
@@ -153,6 +169,7 @@ impl Deciding {
             group,
             left,
             mut tally,
+            longest: _,
         } = self;
         match tally.add_unasked(alloc, left) {
             Ok(()) => settle(alloc, instance, group, tally, Judgement::Partial, timing),
