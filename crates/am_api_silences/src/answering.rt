@@ -100,7 +100,7 @@ fn stopped(alloc: Global, error: StepError) -> PendingAnswer
 }
 
 /// Takes the filters out of an event that asks for a list, so that it asks for all silences.
-fn part(alloc: Global, event: Event) -> (Event, Vec<Filter>)
+fn take_filters(alloc: Global, event: Event) -> (Event, Vec<Filter>)
     ensures { IsParted event result.0 result.1.items }
 {
     match event {
@@ -118,7 +118,7 @@ fn part(alloc: Global, event: Event) -> (Event, Vec<Filter>)
 fn step(alloc: Global, instance: &mut Instance, event: Event, now: Moment) -> PendingAnswer
     ensures { WhenMade (λ answered. IsStepAnswer event instance.old now answered instance.new) result }
 {
-    let (bare, filters) = part(alloc, event);
+    let (bare, filters) = take_filters(alloc, event);
     match instance.step(bare, now) {
         Ok(outcome) => done(alloc, outcome, filters),
         Err(error) => stopped(alloc, error),

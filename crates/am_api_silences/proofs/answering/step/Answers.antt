@@ -3,5 +3,5 @@ use Rattle.am_api_silences.proofs.answering.step.Goals as goal
 
 pub returns-in-Ok : goal.returns-in-Ok
 returns-in-Ok c = λ reply made.
-    parted_made c.args.event c.part-bare.result.0 c.part-bare.result.1.items c.args.instance.now c.step.new.self c.args.now c.part-bare.ensures c.in-Ok.outcome reply
+    parted_made c.args.event c.take_filters-bare.result.0 c.take_filters-bare.result.1.items c.args.instance.now c.step.new.self c.args.now c.take_filters-bare.ensures c.in-Ok.outcome reply
     c.done.result.outbox c.in-Ok.ensures (c.done.ensures.reply reply made) c.done.ensures.sent
