@@ -1,5 +1,5 @@
 -- Silences that pass filters, and the replies that list them.
-use Rattle.std.proofs.Common.{◌≡◌, ◌≤◌, ℕ, Bool, true, false, cond, List, [], ◌∷◌, ◌++◌, length, append_assoc, refl, sym, ap, subst, ◌∙◌, arith}
+use Rattle.std.proofs.Common.{◌≡◌, ◌≤◌, ℕ, Bool, true, false, cond, List, [], ◌∷◌, length, refl, sym, ap, subst, arith}
 use Rattle.std.specs.Prelude.{map, filter}
 use Rattle.std.specs.List.{list_all}
 use Rattle.std.specs.Global.{Vec}
@@ -20,19 +20,6 @@ pub all_pass : (rows : List (Mesh × State)) → passing [] rows ≡ rows
 all_pass [] = refl
 all_pass (row ∷ rows) = ap (λ (rest : List (Mesh × State)). row ∷ rest) (all_pass rows)
 
--- one is kept
-pub one_kept : (filters : List Matcher) (passed left : List (Mesh × State)) (row : Mesh × State) → list_all (λ f. passes f row.0.silence) filters ≡ true
-    → (passed ++ row ∷ []) ++ passing filters left ≡ passed ++ passing filters (row ∷ left)
-one_kept filters passed left row passes_all =
-    append_assoc passed (row ∷ []) (passing filters left)
-    ∙ ap (λ (b : Bool). passed ++ cond b (row ∷ passing filters left) (passing filters left)) (sym passes_all)
-
--- one is left out
-pub one_left_out : (filters : List Matcher) (passed left : List (Mesh × State)) (row : Mesh × State) → list_all (λ f. passes f row.0.silence) filters ≡ false
-    → passed ++ passing filters left ≡ passed ++ passing filters (row ∷ left)
-one_left_out filters passed left row stays =
-    ap (λ (b : Bool). passed ++ cond b (row ∷ passing filters left) (passing filters left)) (sym stays)
-
 pub few_pass : (filters : List Matcher) (rows : List (Mesh × State)) → length (passing filters rows) ≤ length rows
 few_pass filters rows =
     let p : Mesh × State → Bool = λ row. list_all (λ f. passes f row.0.silence) filters in
@@ -40,17 +27,17 @@ few_pass filters rows =
 
 -- ---- what a list shows
 
-one_shown : (now : ℕ) (filters : List Matcher) (v : Mesh) (b : Bool) (rows : List (Mesh × State)) (view : List Mesh) → rows ≡ map (with_state now) view
+one_shown : (now : ℕ) (v : Mesh) (b : Bool) (rows : List (Mesh × State)) (view : List Mesh) → rows ≡ map (with_state now) view
     → cond b (with_state now v ∷ rows) rows ≡ map (with_state now) (cond b (v ∷ view) view)
-one_shown now filters v true rows view same = ap (λ (rest : List (Mesh × State)). with_state now v ∷ rest) same
-one_shown now filters v false rows view same = same
+one_shown now v true rows view same = ap (λ (rest : List (Mesh × State)). with_state now v ∷ rest) same
+one_shown now v false rows view same = same
 
 view_passing : (now : ℕ) (filters : List Matcher) (view : List Mesh)
     → passing filters (map (with_state now) (filter (λ v. list_all (λ f. passes f v.silence) []) view))
     ≡ map (with_state now) (filter (λ v. list_all (λ f. passes f v.silence) filters) view)
 view_passing now filters [] = refl
 view_passing now filters (v ∷ view) =
-    one_shown now filters v (list_all (λ f. passes f v.silence) filters) _ _ (view_passing now filters view)
+    one_shown now v (list_all (λ f. passes f v.silence) filters) _ _ (view_passing now filters view)
 
 -- what passes of all silences in view is shown by the filters
 pub shown_passing : (now : ℕ) (filters : List Matcher) (silences : List Mesh) → passing filters (silences_shown now [] silences) ≡ silences_shown now filters silences
