@@ -9,8 +9,7 @@ use Rattle.am_api_silences.specs.declared.pending_reply.PendingReply.TheVariants
 use Rattle.am_api_silences.specs.declared.replies.ReplyBytes.{ReplyBytes}
 use Rattle.am_api_silences.specs.declared.replies.ReplyBytes.TheVariants.{Own, Fixed}
 
--- A making is finished with this reply: the one that is whole; or the bytes of its list, or of what passes the filters of its list,
--- if there is memory for them.
+-- A making is finished with this reply: the one that is whole; or the bytes of its list, of all that passes, if there is memory for them.
 abbrev pub IsMadeOf : PendingReply → ReplyBytes → Type 0
 IsMadeOf (makings.Whole whole) reply = reply ≡ whole
 IsMadeOf (makings.Sifting sieve) reply = Says (IsListReply sieve.rows) reply
