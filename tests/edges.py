@@ -6,8 +6,8 @@
 PROGRAM is crates/am_tool/out/am_tool if it isn't given. A last save fails, a directory is handed to the disk, two processes want
 one file, a stop and the time limit come while nothing is answered yet, the clock goes ahead, also by far, and comes back, links
 and what is no file stand in a file's place, faults and silent clients come by the hundred and the thousand, pages of other sites
-ask, frames ask for more than is good for anybody, requests have many patterns or much to say, and states are full, or of over
-64 MiB.
+ask, frames ask for more than is good for anybody, requests have many patterns, a large one or much to say, and states are full,
+or of over 64 MiB.
 tests/lib/system.c stands between a member and the C library. What is wanted is written by hand, from docs/FORMATS.md and
 docs/MEMBERS.md.
 """
@@ -41,6 +41,9 @@ CROWD, SOON = 5000, 50
 
 # How many times as long others may wait beside many patterns as beside one.
 ONE_TURN = 5
+
+# Against how many silences a large pattern is held.
+FILTERED = 2000
 
 library = None
 
@@ -971,6 +974,27 @@ def test_patterns(folder):
     compare("a stop", (member.stop(), member.lines[1:]), (0, []))
 
 
+LONG_FILTER = f"{LIST}?filter=" + quote('job=~"(.?){8000}"')
+
+
+def longest_beside_list(member, target, count):
+    """For how long somebody has to wait beside a list of so many silences, asked for twice: what else the machine does may come once."""
+    found = [beside(member, request("GET", target)) for _ in range(2)]
+    compare(f"a list of {count}", [(reply[0], len(json.loads(reply[1]))) for reply, _ in found], [(200, count)] * 2)
+    return min(max(seconds) for _, seconds in found)
+
+
+def test_long_filter(folder):
+    """A filter with a large pattern is held against silences a few at a time, so nobody waits for the whole list."""
+    long_list("f", folder, FILTERED, 20)
+    many, none = (alone(name, folder, ["--time-limit", str(PATIENCE)]) for name in "fg")
+    plain = max(longest_beside_list(many, LIST, FILTERED), longest_beside_list(none, LONG_FILTER, 0))
+    longest = longest_beside_list(many, LONG_FILTER, FILTERED)
+    check("nobody waits for long beside a list with a large pattern", longest <= max(4 * plain, 0.25), (longest, plain))
+    for member in many, none:
+        compare("a stop", (member.stop(), member.lines[1:]), (0, []))
+
+
 # ---- posts that have much to say
 
 LONG_POSTS = 8
@@ -1203,6 +1227,7 @@ def main():
             test_unfinished,
             test_slow_readers,
             test_patterns,
+            test_long_filter,
             test_long_posts,
             test_full,
             test_room_again,

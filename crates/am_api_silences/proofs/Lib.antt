@@ -1,6 +1,8 @@
 pub mod FilterRows
 pub mod Bodies
 pub mod Telling
+pub mod Passing
+pub mod Parting
 pub mod Beginning
 pub mod Made
 pub mod Receiving

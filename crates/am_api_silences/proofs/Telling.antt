@@ -10,7 +10,7 @@ use Rattle.am_api_silences.specs.Table.{clock_line}
 use Rattle.am_api_silences.specs.declared.replies.ReplyBytes.{ReplyBytes}
 use Rattle.am_api_silences.specs.declared.replies.ReplyBytes.TheVariants.{Own, Fixed}
 
-says_weaker : (IsMeant Other : List ℕ → Type 0) → ((bytes : List ℕ) → IsMeant bytes → Other bytes) → (reply : ReplyBytes) → Says IsMeant reply → Says Other reply
+pub says_weaker : (IsMeant Other : List ℕ → Type 0) → ((bytes : List ℕ) → IsMeant bytes → Other bytes) → (reply : ReplyBytes) → Says IsMeant reply → Says Other reply
 says_weaker IsMeant Other weaker (Own bytes) says = weaker bytes.items says
 says_weaker IsMeant Other weaker (Fixed bytes) says = says
 

@@ -1,6 +1,7 @@
 pub mod Filters
 pub mod Events
 pub mod Table
+pub mod Sieves
 pub mod Replies
 pub mod PendingReply
 pub mod Answers

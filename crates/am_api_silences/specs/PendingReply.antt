@@ -1,25 +1,28 @@
--- A reply in the making: a list is written a stretch at a time.
-use Rattle.std.specs.Prelude.{◌≡◌, ◌-◌, ◌==◌, ℕ, Bool, true, List, length}
+-- A reply in the making: a list is sifted by its filters and then written, a stretch at a time.
+use Rattle.std.specs.Prelude.{◌≡◌, ◌-◌, ◌==◌, ℕ, Bool, true, false, List, length}
 use Rattle.am_silence.specs.Mesh.{Mesh}
 use Rattle.am_silence.specs.declared.state.State.{State}
 use Rattle.am_api_silences.specs.Replies.{IsListReply, Says, memory_bytes}
+use Rattle.am_api_silences.specs.Sieves.{IsShorter}
 use Rattle.am_api_silences.specs.declared.pending_reply.PendingReply.{PendingReply}
 use Rattle.am_api_silences.specs.declared.pending_reply.PendingReply.TheVariants as makings
 use Rattle.am_api_silences.specs.declared.replies.ReplyBytes.{ReplyBytes}
 use Rattle.am_api_silences.specs.declared.replies.ReplyBytes.TheVariants.{Own, Fixed}
 
--- A making is finished with this reply: the one that is whole; or the bytes of its list, if there is memory for them.
+-- A making is finished with this reply: the one that is whole; or the bytes of its list, of all that passes, if there is memory for them.
 abbrev pub IsMadeOf : PendingReply → ReplyBytes → Type 0
 IsMadeOf (makings.Whole whole) reply = reply ≡ whole
+IsMadeOf (makings.Sifting sieve) reply = Says (IsListReply sieve.rows) reply
 IsMadeOf (makings.List list) reply = Says (IsListReply list.rows) reply
 
 -- whatever reply the making is finished with is such a reply
 abbrev pub Makes : (ReplyBytes → Type 0) → PendingReply → Type 0
 Makes IsSuch making = (reply : ReplyBytes) → IsMadeOf making reply → IsSuch reply
 
--- true if no silence is left to be written
+-- true if no silence is left to be judged or written
 abbrev pub is_whole : PendingReply → Bool
 is_whole (makings.Whole whole) = true
+is_whole (makings.Sifting sieve) = false
 is_whole (makings.List list) = list.left == 0
 
 -- the reply says that there is no memory for another
@@ -30,10 +33,16 @@ IsNoMemory (Fixed bytes) = bytes.now ≡ memory_bytes
 -- The making is the list of these silences, of which none is written; or there was no memory to begin it.
 abbrev pub IsBegun : List (Mesh × State) → PendingReply → Type 0
 IsBegun rows (makings.List list) = list ≡ record { rows = rows; left = length rows }
+IsBegun rows (makings.Sifting sieve) = ⊥
 IsBegun rows (makings.Whole whole) = IsNoMemory whole
 
--- This many more silences are written, or all that were left; or there was no memory for them. A whole reply stays as it is.
+-- At most this many more silences are judged, or the list of those that pass begins; this many more silences are written, or all
+-- that were left; or there was no memory for them. A whole reply stays as it is.
 abbrev pub GoesOn : ℕ → PendingReply → PendingReply → Type 0
 GoesOn count (makings.Whole whole) new = new ≡ makings.Whole whole
+GoesOn count (makings.Sifting sieve) (makings.Sifting new) = IsShorter count sieve new
+GoesOn count (makings.Sifting sieve) (makings.List list) = (sieve.left ≡ 0) × IsBegun sieve.rows (makings.List list)
+GoesOn count (makings.Sifting sieve) (makings.Whole whole) = IsNoMemory whole
 GoesOn count (makings.List list) (makings.List new) = new ≡ record list { left = list.left - count }
+GoesOn count (makings.List list) (makings.Sifting sieve) = ⊥
 GoesOn count (makings.List list) (makings.Whole whole) = IsNoMemory whole

@@ -6,6 +6,7 @@ use Rattle.serde_json.specs.Data.{Data, array, string}
 use Rattle.serde_json.specs.View.{items_of}
 use Rattle.serde_json.specs.Written.{compact_text}
 use Rattle.am_silence.specs.Mesh.{Mesh}
+use Rattle.am_silence.specs.declared.matcher.Matcher.{Matcher}
 use Rattle.am_silence.specs.declared.state.State.{State}
 use Rattle.am_silence_json.specs.Gettables.{IsGettable, AreGettable, posted_data}
 use Rattle.am_http.specs.Lines.{RefusalLine, line_seen}
@@ -13,6 +14,7 @@ use Rattle.am_http.specs.Replies.{head_bytes, reply_bytes}
 use Rattle.am_http.specs.declared.refusal.Refusal.{Refusal}
 use Rattle.am_instance.specs.declared.reply.Reply.{Reply}
 use Rattle.am_instance.specs.declared.reply.Reply.TheVariants as replies
+use Rattle.am_api_silences.specs.Sieves.{passing}
 use Rattle.am_api_silences.specs.Table.{refused_line, memory_line}
 use Rattle.am_api_silences.specs.declared.replies.ReplyBytes.{ReplyBytes}
 use Rattle.am_api_silences.specs.declared.replies.ReplyBytes.TheVariants.{Own, Fixed}
@@ -38,6 +40,11 @@ IsReplyBytes (replies.Silence version state) bytes = (d : Data) × IsGettable ve
 IsReplyBytes (replies.Posted id) bytes = bytes ≡ good_bytes (compact_text (posted_data id))
 IsReplyBytes (replies.Refused error) bytes = bytes ≡ line_bytes (refused_line error)
 IsReplyBytes _ bytes = bytes ≡ good_bytes []
+
+-- the bytes of a reply, of whose silences those are listed that pass all filters
+abbrev pub IsSiftedBytes : List Matcher → Reply → List ℕ → Type 0
+IsSiftedBytes filters (replies.Silences rows) bytes = IsListReply (passing filters rows.items) bytes
+IsSiftedBytes filters reply bytes = IsReplyBytes reply bytes
 
 -- the bytes of a reply, or of a refusal
 abbrev pub IsSaid : Result (Bor Reply) (Bor Refusal) → List ℕ → Type 0

@@ -6,7 +6,8 @@ ghost use Rattle.am_instance.specs.InstanceStates.{InstanceState};
 ghost use Rattle.am_api_silences.specs.Answers.{WhenMade, IsErrorBytes, IsRefusalAnswer, IsRequestAnswer, IsStepAnswer, answer_in};
 ghost use Rattle.am_api_silences.specs.Events.{IsEventIn};
 ghost use Rattle.am_api_silences.specs.PendingReply.{IsMadeOf, Makes};
-ghost use Rattle.am_api_silences.specs.Replies.{IsReplyBytes, Says};
+ghost use Rattle.am_api_silences.specs.Replies.{IsSiftedBytes, Says};
+ghost use Rattle.am_api_silences.specs.Sieves.{IsParted};
 ghost use Rattle.am_api_silences.specs.declared.pending_reply.PendingReply.TheVariants as makings;
 
 use crate::events::event_by;
@@ -15,7 +16,10 @@ use crate::replies::{ReplyBytes, no_memory, tell};
 use crate::table;
 use am_gossip::Frame;
 use am_http::{Refusal, Request};
-use am_instance::{Event, FrameSender, Instance, Outcome, Place, StepError, Unsent};
+use am_instance::{
+    Event, FrameSender, Instance, Outcome, Place, Request as SilenceRequest, StepError, Unsent,
+};
+use am_matcher::Filter;
 use am_version_order::Moment;
 use std::alloc::Global;
 
@@ -37,7 +41,7 @@ pub struct Answered {
 }
 
 impl PendingAnswer {
-    /// Returns the whole answer: what is left of a list is written.
+    /// Returns the whole answer: what is left of a list is judged and written.
     pub(crate) fn finish(self, alloc: Global) -> Answered
         ensures reply { IsMadeOf self.making (answer_in result).reply }
         ensures sent { (answer_in result).sent ≡ self.outbox }
@@ -69,14 +73,14 @@ pub fn refuse(alloc: Global, refusal: &Refusal) -> PendingAnswer
     quiet(alloc, tell(alloc, Err(refusal)))
 }
 
-/// Returns the answer to a request whose step was made.
-fn done(alloc: Global, outcome: Outcome) -> PendingAnswer
-    ensures reply { Makes (Says (IsReplyBytes outcome.reply)) result.making }
+/// Returns the answer to a request whose step was made. A list has only those silences that pass all filters.
+fn done(alloc: Global, outcome: Outcome, filters: Vec<Filter>) -> PendingAnswer
+    ensures reply { Makes (Says (IsSiftedBytes filters.items outcome.reply)) result.making }
     ensures sent { result.outbox ≡ sent_by outcome }
 {
     let (reply, outbox) = outcome.into_parts();
     PendingAnswer {
-        making: make(alloc, reply),
+        making: make(alloc, reply, filters),
         outbox,
     }
 }
@@ -95,12 +99,28 @@ fn stopped(alloc: Global, error: StepError) -> PendingAnswer
     }
 }
 
-/// Makes the step of an event, and begins to answer it.
+/// Takes the filters out of an event that asks for a list, so that it asks for all silences.
+fn take_filters(alloc: Global, event: Event) -> (Event, Vec<Filter>)
+    ensures { IsParted event result.0 result.1.items }
+{
+    match event {
+        Event::Request(SilenceRequest::List { filters }) => {
+            let all = SilenceRequest::List {
+                filters: Vec::new(alloc),
+            };
+            (Event::Request(all), filters)
+        }
+        event => (event, Vec::new(alloc)),
+    }
+}
+
+/// Makes the step of an event, and begins to answer it. The filters of a list are held against its silences afterwards.
 fn step(alloc: Global, instance: &mut Instance, event: Event, now: Moment) -> PendingAnswer
     ensures { WhenMade (λ answered. IsStepAnswer event instance.old now answered instance.new) result }
 {
-    match instance.step(event, now) {
-        Ok(outcome) => done(alloc, outcome),
+    let (bare, filters) = take_filters(alloc, event);
+    match instance.step(bare, now) {
+        Ok(outcome) => done(alloc, outcome, filters),
         Err(error) => stopped(alloc, error),
     }
 }
@@ -118,8 +138,8 @@ fn event_at(
     event_by(alloc, dialect, instance.patterns(), request, bits)
 }
 
-/// Makes the step of a request at `now`, and begins its reply: a list is written afterwards, a stretch at a time. `bits` are
-/// random: a silence that the request makes gets its identifier from them.
+/// Makes the step of a request at `now`, and begins its reply: a list is sifted by its filters and written afterwards, a stretch at
+/// a time. `bits` are random: a silence that the request makes gets its identifier from them.
 ///
 /// If no step is made, the instance is as it was, and nothing is sent. If memory runs out, the answer says so; the step may stand
 /// then, and its frames are in the answer.

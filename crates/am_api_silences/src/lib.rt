@@ -9,6 +9,7 @@ mod patterns;
 mod pending_reply;
 mod replies;
 mod serving;
+mod sieving;
 mod table;
 
 pub use am_http::{Read, Refusal, Request, read_request};

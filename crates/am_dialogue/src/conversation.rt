@@ -24,7 +24,7 @@ use std::alloc::{AllocError, Global};
 use std::mem;
 use std::time::Instant;
 
-/// The number of silences of a list that are written in a turn of the loop.
+/// The maximum number of silences of a list that are judged or written in a turn of the loop.
 const STRETCH: usize = 512;
 
 /// A connection, and the work that is left to do for it.
@@ -61,7 +61,7 @@ pub enum Work {
     Request(SessionOutput),
     /// Some patterns of a request are still to be compiled.
     Judging(SessionOutput, Judging),
-    /// A list is being written, whose step was made.
+    /// A list is being sifted or written; its step was made.
     PendingReply(PendingReply),
     /// A request that isn't about silences is being answered.
     Call(CallProgress),
@@ -329,7 +329,7 @@ impl Conversation {
         }
     }
 
-    /// Writes another stretch of a list. If none is left, the list goes out.
+    /// Judges or writes another stretch of a list. If none is left, the list goes out.
     pub fn go_on(&mut self, alloc: Global, making: PendingReply)
         ensures stays { Stays (talk_of self.old) (talk_of self.new) }
         ensures says { KeepsBy making (talk_of self.old).saying (talk_of self.new).saying }

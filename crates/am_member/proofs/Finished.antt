@@ -9,4 +9,5 @@ use Rattle.am_api_silences.specs.declared.replies.ReplyBytes.TheVariants.{Fixed}
 
 pub finish_of : (making : PendingReply) → (reply : ReplyBytes) × IsMadeOf making reply
 finish_of (makings.Whole whole) = (whole, refl)
+finish_of (makings.Sifting sieve) = (Fixed (record { ref_ptr = (0, 0); now = memory_bytes }), refl)
 finish_of (makings.List list) = (Fixed (record { ref_ptr = (0, 0); now = memory_bytes }), refl)
