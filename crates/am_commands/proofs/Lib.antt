@@ -4,3 +4,4 @@ pub mod Found
 pub mod Stopping
 pub mod RowStops
 pub mod Plainly
+pub mod Zips
