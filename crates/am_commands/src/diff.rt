@@ -77,19 +77,19 @@ fn diff_named<
     requires { F.IsAlwaysCallable source_of }
 
     // PROMISE: With status 0 `diff` compared just the sources that it names, and they don't differ.
-    ensures same { result ≡ 0 → ComesOf (F.post source_of) job.now.has_logs (diff_reading job.now is_live) (map named_of job.now.sources.items) (λ inputs.
+    ensures same { result ≡ 0 → ComesOf (F.post source_of) job.entry.now.has_logs (diff_reading job.entry.now is_live) (map named_of job.entry.now.sources.items) (λ inputs.
         IsDiff V.seen V.Key.cmp V.begins V.told V.more (less_word V.seen V.unknown_of V.known_of) V.key_data V.named V.value
-        (diff_comparison job.now now is_live) S.gives inputs W.contents writer.old writer.new false) }
+        (diff_comparison job.entry.now now is_live) S.gives inputs W.contents writer.old writer.new false) }
 
     // PROMISE: With status 5 `diff` compared just the sources that it names, and they differ.
-    ensures different { result ≡ 5 → ComesOf (F.post source_of) job.now.has_logs (diff_reading job.now is_live) (map named_of job.now.sources.items) (λ inputs.
+    ensures different { result ≡ 5 → ComesOf (F.post source_of) job.entry.now.has_logs (diff_reading job.entry.now is_live) (map named_of job.entry.now.sources.items) (λ inputs.
         IsDiff V.seen V.Key.cmp V.begins V.told V.more (less_word V.seen V.unknown_of V.known_of) V.key_data V.named V.value
-        (diff_comparison job.now now is_live) S.gives inputs W.contents writer.old writer.new true) }
+        (diff_comparison job.entry.now now is_live) S.gives inputs W.contents writer.old writer.new true) }
 
     // PROMISE: With any other status `diff` stopped at the first fault, and the status is that of this fault.
-    ensures stopped { result ≢ 0 → result ≢ 5 → EndsAt (StopsNamed (F.post source_of) job.now.has_logs (diff_reading job.now is_live) (map named_of job.now.sources.items)
+    ensures stopped { result ≢ 0 → result ≢ 5 → EndsAt (StopsNamed (F.post source_of) job.entry.now.has_logs (diff_reading job.entry.now is_live) (map named_of job.entry.now.sources.items)
         (λ inputs. StopsDiff V.seen V.Key.cmp V.begins V.told V.more (less_word V.seen V.unknown_of V.known_of) V.key_data V.named V.value
-        (diff_comparison job.now now is_live) S.gives S.stops inputs W.contents writer.old writer.new) writer.old writer.new) result }
+        (diff_comparison job.entry.now now is_live) S.gives S.stops inputs W.contents writer.old writer.new) writer.old writer.new) result }
 {
     let alloc = rt.alloc();
     let reading = reading_of(job, is_live);
@@ -148,7 +148,7 @@ pub struct Comparison {
 /// Returns what of a job's sources is compared at a moment, and how that is told: API v2, and so a comparison with a server, knows
 /// no expiries.
 fn comparison_of(job: &DiffJob<'_>, now: Moment, is_live: bool) -> Comparison
-    ensures { result ≡ diff_comparison job.now now is_live }
+    ensures { result ≡ diff_comparison job.entry.now now is_live }
 {
     Comparison {
         compared: job.compared,
@@ -164,7 +164,7 @@ fn comparison_of(job: &DiffJob<'_>, now: Moment, is_live: bool) -> Comparison
 /// Returns how the rows of sources are read: with the fields of versions that aren't known here, unless a server is among
 /// the sources, since API v2 shows none of them.
 fn reading_of(job: &DiffJob<'_>, is_live: bool) -> Reading
-    ensures { result ≡ diff_reading job.now is_live }
+    ensures { result ≡ diff_reading job.entry.now is_live }
 {
     let unknown = if is_live {
         Unknown::Drop

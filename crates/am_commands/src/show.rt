@@ -57,12 +57,12 @@ fn show_file<
     requires { F.IsAlwaysCallable source_of }
 
     // PROMISE: With status 0 `show` printed the view of just the file that it names, or of standard input.
-    ensures view { result ≡ 0 → (source : S) × OpensFile (F.post source_of) job.now (Ok source)
-        × IsShown V.seen V.Key.cmp S.gives (shown_text V.seen V.lines V.value job.now.form now) source W.contents writer.old writer.new }
+    ensures view { result ≡ 0 → (source : S) × OpensFile (F.post source_of) job.entry.now (Ok source)
+        × IsShown V.seen V.Key.cmp S.gives (shown_text V.seen V.lines V.value job.entry.now.form now) source W.contents writer.old writer.new }
 
     // PROMISE: With any other status `show` stopped at a fault of its file, or where it wrote, and the status is that of this fault.
-    ensures stopped { result ≢ 0 → EndsAt (StopsFile (F.post source_of) job.now
-        (λ source. StopsShowing V.seen V.Key.cmp S.gives S.stops (shown_text V.seen V.lines V.value job.now.form now) source W.contents writer.old writer.new)
+    ensures stopped { result ≢ 0 → EndsAt (StopsFile (F.post source_of) job.entry.now
+        (λ source. StopsShowing V.seen V.Key.cmp S.gives S.stops (shown_text V.seen V.lines V.value job.entry.now.form now) source W.contents writer.old writer.new)
         writer.old writer.new) result }
 {
     let asked = asked_by(job);
@@ -90,9 +90,9 @@ fn show_file<
 
 /// Returns the source of a job: its file, or standard input where it names none.
 fn asked_by<'a>(job: &ShowJob<'a>) -> Asked<'a>
-    ensures file { result.word.file.now ≡ file_or_input job.now.file }
-    ensures logs { result.has_logs ≡ job.now.has_logs }
-    ensures reading { result.reading ≡ show_reading job.now }
+    ensures file { result.word.file.now ≡ file_or_input job.entry.now.file }
+    ensures logs { result.has_logs ≡ job.entry.now.has_logs }
+    ensures reading { result.reading ≡ show_reading job.entry.now }
 {
     let file = match job.file {
         Some(file) => file,
