@@ -30,6 +30,14 @@ pub trait HasLosses: Drop {
     fn add_losses(&self, losses: &mut Losses) -> Result<(), AllocError>;
 }
 
+/// Warns a person about what the versions of a source lose. Says nothing if memory runs out.
+pub fn warn_of_source<R: Host, S: HasLosses>(rt: &R, unknown: Unknown, source: &S) {
+    let mut all = Losses::none(rt.alloc());
+    if source.add_losses(&mut all).is_ok() {
+        warn(rt, unknown, &all);
+    }
+}
+
 /// Warns a person about what the versions of sources lose. Says nothing if memory runs out.
 pub fn warn_of_sources<R: Host, S: HasLosses>(rt: &R, unknown: Unknown, inputs: &[Input<'_, S>]) {
     let mut all = Losses::none(rt.alloc());

@@ -10,10 +10,10 @@ ghost use Rattle.am_commands.specs.Showing.{shown_text, StopsShowing, IsShown, O
 
 use crate::fault::{SourceFault, Stopped, report_stopped};
 use crate::host::{Host, Streams};
-use crate::losses::{HasLosses, warn_of_sources};
+use crate::losses::{HasLosses, warn_of_source};
 use crate::moment::{moment_of, warn};
 use crate::opened::{Asked, Keys, Reading, Unopened};
-use crate::source::{Input, Source};
+use crate::source::Source;
 use am_faults::{report, status};
 use am_jobs::{Form, STANDARD_INPUT, ShowJob, SourceWord, StateName};
 use am_merge::Held;
@@ -25,7 +25,7 @@ use am_version_order::{Moment, Version};
 use am_wire::MOST_MESSAGE_BYTES;
 use std::alloc::Global;
 use std::io::Write;
-use std::{mem, slice};
+use std::mem;
 
 /// Shows what of a snapshot is live, and returns the exit status of the program.
 pub fn run_show<R: Host>(rt: &R, streams: Streams, job: &ShowJob<'_>) -> u8 {
@@ -65,20 +65,15 @@ fn show_file<
         (λ source. StopsShowing V.seen V.Key.cmp S.gives S.stops (shown_text V.seen V.lines V.value job.entry.now.form now) source W.contents writer.old writer.new)
         writer.old writer.new) result }
 {
-    let asked = asked_by(job);
-    let source = match source_of(asked) {
+    let mut source = match source_of(asked_by(job)) {
         Ok(source) => source,
         Err(fault) => {
             return report_stopped(rt, job.file, &Stopped::Source { number: 0, fault });
         }
     };
-    let mut input = Input {
-        name: asked.word.name,
-        source,
-    };
-    match show_source::<V, _, _>(rt.alloc(), &mut input.source, job.form, now, writer) {
+    match show_source::<V, _, _>(rt.alloc(), &mut source, job.form, now, writer) {
         Ok(has_later) => {
-            warn_of_sources(rt, job.unknown, slice::from_ref(&input));
+            warn_of_source(rt, job.unknown, &source);
             if has_later {
                 warn(rt, job.now);
             }

@@ -9,10 +9,10 @@ returns-in-Err-clause-stopped g c = λ failed. (
     c.in-Err.fault,
     refl,
     record {
-      asked = c.asked_by-asked.result;
-      file = c.asked_by-asked.ensures.file;
-      logs = c.asked_by-asked.ensures.logs;
-      reading = c.asked_by-asked.ensures.reading;
+      asked = c.asked_by.result;
+      file = c.asked_by.ensures.file;
+      logs = c.asked_by.ensures.logs;
+      reading = c.asked_by.ensures.reading;
       opened = c.in-Err.ensures;
     },
     refl,
