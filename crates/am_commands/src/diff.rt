@@ -36,7 +36,7 @@ use std::mem;
 use std::time::Duration;
 
 /// Compares the sources of a job, and returns the exit status of the program.
-pub fn run_diff<R: Host>(rt: &R, streams: Streams, job: &DiffJob<'_>) -> u8 {
+pub fn run_diff<'a, R: Host>(rt: &'a R, streams: Streams, job: &DiffJob<'a>) -> u8 {
     let now = match moment_of(rt, job.now) {
         Ok(now) => now,
         Err(fault) => return report(rt, fault),

@@ -22,7 +22,7 @@ use std::io::Write;
 use std::mem;
 
 /// Writes the fold of what a job names to standard output, and returns the exit status of the program.
-pub fn run_fold<R: Host>(rt: &R, streams: Streams, job: &FoldJob<'_>) -> u8 {
+pub fn run_fold<'a, R: Host>(rt: &'a R, streams: Streams, job: &FoldJob<'a>) -> u8 {
     let Streams { input, mut output } = streams;
     let source_of = |asked| Ok(Unopened::new(rt, input, asked));
     match job.state {

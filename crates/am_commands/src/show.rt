@@ -28,7 +28,7 @@ use std::io::Write;
 use std::mem;
 
 /// Shows what of a snapshot is live, and returns the exit status of the program.
-pub fn run_show<R: Host>(rt: &R, streams: Streams, job: &ShowJob<'_>) -> u8 {
+pub fn run_show<'a, R: Host>(rt: &'a R, streams: Streams, job: &ShowJob<'a>) -> u8 {
     let now = match moment_of(rt, job.now) {
         Ok(now) => now,
         Err(fault) => return report(rt, fault),
