@@ -44,14 +44,7 @@ pub fn run_diff<'a, R: Host>(rt: &'a R, streams: Streams, job: &DiffJob<'a>) -> 
     let Streams { input, mut output } = streams;
     let time_limit = job.time_limit;
     if job.is_live() {
-        let shown = |asked| {
-            Ok(Shown {
-                rt,
-                input,
-                time_limit,
-                asked,
-            })
-        };
+        let shown = |asked| Ok(Shown::new(rt, input, time_limit, asked));
         return diff_named::<R, MeshSilence, _, _, _>(rt, job, now, true, shown, &mut output);
     }
     let opened = |asked| open_source(rt, input, time_limit, asked);

@@ -1,6 +1,6 @@
 //! Sources, be they servers or files, as API v2 shows them.
 
-ghost use Rattle.std.specs.Prelude.{IfOk};
+ghost use Rattle.std.specs.Prelude.{◌≡◌, IfOk};
 ghost use Rattle.std.specs.Ordering.{nat_cmp};
 ghost use Rattle.std.specs.Cmp.Lexicographic.{slice_cmp};
 ghost use Rattle.am_merge.specs.Maps.{IsMap};
@@ -24,15 +24,29 @@ use std::io::Stdin;
 use std::time::Duration;
 
 /// A source that is read as API v2 shows it: a server that is asked then, or a file that is opened then.
-pub struct Shown<'a, R: Host> {
-    pub rt: &'a R,
-    pub input: Stdin,
+pub struct Shown<'a, R> {
+    rt: &'a R,
+    input: Stdin,
     /// The most time that a connection to a server may last.
-    pub time_limit: Duration,
-    pub asked: Asked<'a>,
+    time_limit: Duration,
+    asked: Asked<'a>,
 }
 
-impl<'a, R: Host> Drop for Shown<'a, R> {
+impl<'a, R: Host> Shown<'a, R> {
+    /// Returns a source that is asked for, and isn't read yet.
+    pub fn new(rt: &'a R, input: Stdin, time_limit: Duration, asked: Asked<'a>) -> Shown<'a, R>
+        ensures { result.asked ≡ asked.entry }
+    {
+        Shown {
+            rt,
+            input,
+            time_limit,
+            asked,
+        }
+    }
+}
+
+impl<'a, R> Drop for Shown<'a, R> {
     fn drop(self) {
         let Self {
             rt: _,
@@ -43,7 +57,7 @@ impl<'a, R: Host> Drop for Shown<'a, R> {
     }
 }
 
-impl<'a, R: Host> HasLosses for Shown<'a, R> {
+impl<'a, R> HasLosses for Shown<'a, R> {
     /// Adds none: API v2 shows no fields that aren't known here.
     fn add_losses(&self, _losses: &mut Losses) -> Result<(), AllocError> {
         Ok(())

@@ -297,7 +297,7 @@ fn are_there(logs: &Option<Logs>) -> bool {
 }
 
 /// A source that is opened when it is read.
-pub struct Unopened<'a, R: Host> {
+pub struct Unopened<'a, R> {
     rt: &'a R,
     input: Stdin,
     asked: Asked<'a>,
@@ -319,13 +319,13 @@ impl<'a, R: Host> Unopened<'a, R> {
     }
 }
 
-impl<'a, R: Host> HasLosses for Unopened<'a, R> {
+impl<'a, R> HasLosses for Unopened<'a, R> {
     fn add_losses(&self, losses: &mut Losses) -> Result<(), AllocError> {
         losses.join(&self.losses)
     }
 }
 
-impl<'a, R: Host> Drop for Unopened<'a, R> {
+impl<'a, R> Drop for Unopened<'a, R> {
     fn drop(self) {
         let Self {
             rt: _,
