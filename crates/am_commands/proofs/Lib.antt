@@ -5,3 +5,4 @@ pub mod Stopping
 pub mod RowStops
 pub mod Plainly
 pub mod Zips
+pub mod Sendings
