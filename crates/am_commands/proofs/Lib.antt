@@ -4,3 +4,5 @@ pub mod Found
 pub mod Stopping
 pub mod RowStops
 pub mod Plainly
+pub mod Zips
+pub mod Sendings

@@ -2,7 +2,7 @@
 -- X is the type of versions, S that of sources, as where sources are read; `begins`, `told` and `more` are the words of lines, `by`
 -- says by what one version is less than another, and `key_data`, `name` and `value` are the values of JSON, as where
 -- differences are told; `contents` is what a writer holds.
-use Rattle.std.specs.Prelude.{◌≡◌, ℕ, ◌<◌, Bool, List, length, take, Option}
+use Rattle.std.specs.Prelude.{◌≡◌, ℕ, ◌<◌, Bool, not, List, length, take, Option, if◌then◌else◌}
 use Rattle.std.specs.Io.KnownBytes.{Appends}
 use Rattle.std.specs.List.{AllZip}
 use Rattle.std.specs.declared.cmp.Ordering.{Ordering}
@@ -12,17 +12,34 @@ use Rattle.am_report.specs.Sources.{Source}
 use Rattle.am_report.specs.Written.{AreLines}
 use Rattle.am_report.specs.Json.Written.{IsLine}
 use Rattle.am_report.specs.declared.manner.Manner.{Manner}
+use Rattle.am_wire.specs.declared.rows.TheConstants.{MOST_MESSAGE_BYTES}
+use Rattle.am_wire.specs.declared.unknown.Unknown.TheVariants.{Drop, Keep}
+use Rattle.am_jobs.specs.declared.job.DiffJob.{DiffJob}
 use Rattle.am_jobs.specs.declared.job.Report.{Report}
 use Rattle.am_jobs.specs.declared.job.Report.TheVariants as reports
 use Rattle.am_snapshot.specs.declared.error.SnapshotError.{SnapshotError}
 use Rattle.am_snapshot.specs.declared.error.SnapshotError.TheVariants.{Write, Memory}
 use Rattle.am_commands.specs.declared.diff.Comparison.{Comparison}
+use Rattle.am_commands.specs.declared.opened.Keys.TheVariants.{Repeated}
+use Rattle.am_commands.specs.declared.opened.Reading.{Reading}
 use Rattle.am_commands.specs.declared.fault.SourceFault.{SourceFault}
 use Rattle.am_commands.specs.declared.fault.Stopped.{Stopped}
 use Rattle.am_commands.specs.declared.fault.Stopped.TheVariants as stopped
 use Rattle.am_commands.specs.declared.source.Input.{Input}
 use Rattle.am_commands.specs.Reading.{IsRead, IsFirstAtFault}
 use Rattle.am_commands.specs.Figures.{AreFigures}
+
+-- what a job compares at a moment, and how it is told; with a server among the sources no expiries are known
+abbrev pub diff_comparison : DiffJob → ℕ → Bool → Comparison
+diff_comparison job now is_live = record {
+  compared = job.compared;
+  report = job.report;
+  manner = record { moment = now; has_expiries = not is_live; is_long = job.is_long };
+}
+
+-- how a job reads each of its sources; with a server among them unknown fields are dropped
+abbrev pub diff_reading : DiffJob → Bool → Reading
+diff_reading job is_live = record { state = job.state; keys = Repeated; most = MOST_MESSAGE_BYTES; unknown = (if is_live then Drop else Keep) }
 
 module _ {K X : Type 0} (seen : X → Version K) (cmp : K → K → Ordering) (begins : K → List ℕ) (told : Manner → X → List ℕ)
     (more : Manner → X → X → List ℕ) (by : X → X → List ℕ) (key_data : K → Data) (name : List ℕ) (value : ℕ → X → Data) (how : Comparison) where
@@ -44,6 +61,15 @@ module _ {K X : Type 0} (seen : X → Version K) (cmp : K → K → Ordering) (b
       (text : List ℕ) × (found : Bool) × IsReport sources found text × (k < length text) × Appends (contents old) (contents new) (take k text)
   StopsReport sources contents old new Memory = new ≡ old
   StopsReport sources contents old new _ = ⊥
+
+  -- all sources were read, and exactly the report on them went out, by which they differ or don't
+  pub record IsDiff {S : Type 0} (gives : S → List X → Type 0) (inputs : List (Input S)) {W : Type 0} (contents : W → Option (List ℕ))
+      (old new : W) (found : Bool) : Type 0 where
+    pub sources : List (Source X)
+    pub read : AllZip (IsRead seen cmp gives) inputs sources
+    pub text : List ℕ
+    pub is : IsReport sources found text
+    pub written : Appends (contents old) (contents new) text
 
   -- the first source at fault, or want of memory, before a byte goes out; or a write that failed
   abbrev pub StopsDiff : {S : Type 0} → (S → List X → Type 0) → (S → SourceFault → Type 0) → List (Input S)

@@ -1,11 +1,34 @@
--- The map of sources that are folded.
+-- The sources that a job folds, and their map.
 -- X is the type of versions, and `seen` is what the merge sees of one.
-use Rattle.std.specs.Prelude.{◌≡◌, ℕ, List, Option, None, fold}
+use Rattle.std.specs.Prelude.{◌≡◌, ℕ, List, [], ◌∷◌, Option, None, fold, map}
+use Rattle.std.specs.Borrow.{Bor}
 use Rattle.std.specs.declared.cmp.Ordering.{Ordering}
+use Rattle.am_jobs.specs.declared.job.FoldJob.{FoldJob}
+use Rattle.am_jobs.specs.declared.source.TheConstants.{STANDARD_INPUT}
 use Rattle.am_version_order.specs.Versions.{Version}
 use Rattle.am_merge.specs.Maps.{IsMap, at, greater_of}
 use Rattle.am_snapshot.specs.Texts.{row_text}
 use Rattle.am_report.specs.Sources.{Source}
+use Rattle.am_commands.specs.declared.opened.Keys.TheVariants.{Repeated}
+use Rattle.am_commands.specs.declared.opened.Reading.{Reading}
+use Rattle.am_commands.specs.Opening.{Named}
+
+-- a file under its own name
+abbrev pub named_file : List ℕ → Named
+named_file file = record { name = file; file = file }
+
+-- the files under their own names, or standard input if there is none
+abbrev pub files_named : List (Bor (List ℕ)) → List Named
+files_named [] = named_file STANDARD_INPUT.now ∷ []
+files_named (file ∷ files) = map (λ f. named_file f.now) (file ∷ files)
+
+-- the names of the sources of a job
+abbrev pub fold_names : FoldJob → List Named
+fold_names job = files_named job.files.items
+
+-- how a job reads each of them
+abbrev pub fold_reading : FoldJob → Reading
+fold_reading job = record { state = job.state; keys = Repeated; most = job.most; unknown = job.unknown }
 
 module _ {K X : Type 0} (seen : X → Version K) (cmp : K → K → Ordering) where
   -- the greatest version of the key that a source holds; of those that tie, that of the first source

@@ -1,5 +1,6 @@
 pub mod Statuses
 pub mod Rows
+pub mod Opening
 pub mod Reading
 pub mod Telling
 pub mod Folding

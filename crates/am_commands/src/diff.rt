@@ -1,49 +1,101 @@
 //! The differences between replicas.
 
-ghost use Rattle.std.specs.Prelude.{◌≡◌, IfOk, IfErr, ℕ, List};
+ghost use Rattle.std.specs.Prelude.{◌≡◌, ◌≢◌, IfOk, IfErr, ℕ, List, map, false, true, if◌then◌else◌};
 ghost use Rattle.std.specs.Io.KnownBytes.{Appends};
 ghost use Rattle.std.specs.List.{AllZip};
 ghost use Rattle.am_report.specs.Later.{has_later_source};
 ghost use Rattle.am_report.specs.Sources.{Source as NamedMap};
 ghost use Rattle.am_commands.specs.Reading.{IsRead};
-ghost use Rattle.am_commands.specs.Differing.{IsReport, StopsReport, StopsDiff};
+ghost use Rattle.am_commands.specs.Opening.{named_of, ComesOf, StopsNamed, EndsAt};
+ghost use Rattle.am_commands.specs.Differing.{IsReport, StopsReport, IsDiff, StopsDiff, diff_comparison, diff_reading};
 ghost use Rattle.am_report.specs.Less.{less_word};
 
-use crate::fault::{SourceFault, Stopped, add, report_stopped};
+use crate::fault::{SourceFault, Stopped, report_stopped};
 use crate::figures::write_figures;
 use crate::host::{Host, Streams};
 use crate::live::Shown;
-use crate::losses;
+use crate::losses::{HasLosses, warn_of_sources};
 use crate::moment::{moment_of, warn};
-use crate::opened::{Keys, Opened, Reading, Row, open};
+use crate::opened::{Asked, Keys, Opened, Reading, Row, open};
 use crate::replica::told_by;
-use crate::source::{Input, Source, read_sources};
+use crate::source::{Input, Source, inputs_of, read_sources};
 use am_faults::{report, status};
-use am_jobs::{DiffJob, PullJob, Report, SourceWord, StateName};
+use am_jobs::{DiffJob, PullJob, Report, StateName};
 use am_nflog::MeshEntry;
 use am_report::{
-    Compared, InJson, Losses, Manner, Replica, ReportLine, has_later_source, write_differences,
+    Compared, InJson, Manner, Replica, ReportLine, has_later_source, write_differences,
     write_differences_json,
 };
 use am_silence::MeshSilence;
 use am_snapshot::SnapshotError;
 use am_version_order::Moment;
 use am_wire::{MOST_MESSAGE_BYTES, Unknown};
-use std::alloc::{AllocError, Global};
+use std::alloc::Global;
 use std::io::{BufReader, Stdin, Write};
 use std::mem;
-
-/// A source that is opened.
-type OpenedInput<'a> = Input<'a, Opened<BufReader<Row>>>;
+use std::time::Duration;
 
 /// Compares the sources of a job, and returns the exit status of the program.
-pub fn run_diff<'a, R: Host>(rt: &R, streams: Streams, job: &DiffJob<'a>) -> u8 {
+pub fn run_diff<'a, R: Host>(rt: &'a R, streams: Streams, job: &DiffJob<'a>) -> u8 {
     let now = match moment_of(rt, job.now) {
         Ok(now) => now,
         Err(fault) => return report(rt, fault),
     };
-    match compare(rt, streams, job, now) {
-        Ok(outcome) => tell(rt, job, outcome),
+    let Streams { input, mut output } = streams;
+    let time_limit = job.time_limit;
+    if job.is_live() {
+        let shown = |asked| Ok(Shown::new(rt, input, time_limit, asked));
+        return diff_named::<R, MeshSilence, _, _, _>(rt, job, now, true, shown, &mut output);
+    }
+    let opened = |asked| open_source(rt, input, time_limit, asked);
+    match job.state {
+        StateName::Silences => {
+            diff_named::<R, MeshSilence, _, _, _>(rt, job, now, false, opened, &mut output)
+        }
+        StateName::Log => {
+            diff_named::<R, MeshEntry, _, _, _>(rt, job, now, false, opened, &mut output)
+        }
+    }
+}
+
+/// Opens the sources of a job, and compares them at a moment. Returns the exit status of the program.
+fn diff_named<
+    'a,
+    R: Host,
+    V: ReportLine + InJson,
+    S: Source<V> + HasLosses,
+    F: Fn(Asked<'a>) -> Result<S, SourceFault>,
+    W: Write,
+>(rt: &R, job: &DiffJob<'a>, now: Moment, is_live: bool, source_of: F, writer: &mut W) -> u8
+    requires { F.IsAlwaysCallable source_of }
+
+    // PROMISE: With status 0 `diff` compared just the sources that it names, and they don't differ.
+    ensures same { result ≡ 0 → ComesOf (F.post source_of) job.entry.now.has_logs (diff_reading job.entry.now is_live) (map named_of job.entry.now.sources.items) (λ inputs.
+        IsDiff V.seen V.Key.cmp V.begins V.told V.more (less_word V.seen V.unknown_of V.known_of) V.key_data V.named V.value
+        (diff_comparison job.entry.now now is_live) S.gives inputs W.contents writer.old writer.new false) }
+
+    // PROMISE: With status 5 `diff` compared just the sources that it names, and they differ.
+    ensures different { result ≡ 5 → ComesOf (F.post source_of) job.entry.now.has_logs (diff_reading job.entry.now is_live) (map named_of job.entry.now.sources.items) (λ inputs.
+        IsDiff V.seen V.Key.cmp V.begins V.told V.more (less_word V.seen V.unknown_of V.known_of) V.key_data V.named V.value
+        (diff_comparison job.entry.now now is_live) S.gives inputs W.contents writer.old writer.new true) }
+
+    // PROMISE: With any other status `diff` stopped at the first fault, and the status is that of this fault.
+    ensures stopped { result ≢ 0 → result ≢ 5 → EndsAt (StopsNamed (F.post source_of) job.entry.now.has_logs (diff_reading job.entry.now is_live) (map named_of job.entry.now.sources.items)
+        (λ inputs. StopsDiff V.seen V.Key.cmp V.begins V.told V.more (less_word V.seen V.unknown_of V.known_of) V.key_data V.named V.value
+        (diff_comparison job.entry.now now is_live) S.gives S.stops inputs W.contents writer.old writer.new) writer.old writer.new) result }
+{
+    let alloc = rt.alloc();
+    let reading = reading_of(job, is_live);
+    let mut inputs = match inputs_of(alloc, &job.sources, job.has_logs, reading, source_of) {
+        Ok(inputs) => inputs,
+        Err(stopped) => return report_stopped(rt, name_of(job, &stopped), &stopped),
+    };
+    let how = comparison_of(job, now, is_live);
+    match diff_sources::<V, _, _>(alloc, &mut inputs, &how, writer) {
+        Ok(outcome) => {
+            warn_of_sources(rt, reading.unknown, &inputs);
+            tell(rt, job, outcome)
+        }
         Err(stopped) => report_stopped(rt, name_of(job, &stopped), &stopped),
     }
 }
@@ -64,7 +116,9 @@ pub struct Outcome {
 }
 
 /// Warns of an early moment, and returns the exit status of the program.
-fn tell<R: Host>(rt: &R, job: &DiffJob<'_>, outcome: Outcome) -> u8 {
+fn tell<R: Host>(rt: &R, job: &DiffJob<'_>, outcome: Outcome) -> u8
+    ensures { result ≡ (if outcome.found then 5 else 0) }
+{
     if outcome.has_later {
         warn(rt, job.now);
     }
@@ -84,103 +138,28 @@ pub struct Comparison {
     pub manner: Manner,
 }
 
-/// Writes all differences to standard output.
-fn compare<'a, R: Host>(
-    rt: &R,
-    streams: Streams,
-    job: &DiffJob<'a>,
-    now: Moment,
-) -> Result<Outcome, Stopped> {
-    let Streams { input, mut output } = streams;
-    let how = Comparison {
+/// Returns what of a job's sources is compared at a moment, and how that is told: API v2, and so a comparison with a server, knows
+/// no expiries.
+fn comparison_of(job: &DiffJob<'_>, now: Moment, is_live: bool) -> Comparison
+    ensures { result ≡ diff_comparison job.entry.now now is_live }
+{
+    Comparison {
         compared: job.compared,
         report: job.report,
         manner: Manner {
             moment: now,
-            has_expiries: !job.is_live(),
+            has_expiries: !is_live,
             is_long: job.is_long,
         },
-    };
-    let alloc = rt.alloc();
-    if job.is_live() {
-        let mut inputs = live_inputs(rt, input, job)?;
-        return diff_sources::<MeshSilence, _, _>(alloc, &mut inputs, &how, &mut output);
     }
-    let mut inputs = open_all(rt, input, job)?;
-    let compared = match job.state {
-        StateName::Silences => {
-            diff_sources::<MeshSilence, _, _>(alloc, &mut inputs, &how, &mut output)
-        }
-        StateName::Log => diff_sources::<MeshEntry, _, _>(alloc, &mut inputs, &how, &mut output),
-    };
-    let outcome = compared?;
-    warn_of_losses(rt, &inputs);
-    Ok(outcome)
-}
-
-/// Warns a person about what the versions of sources lose. Says nothing if memory runs out.
-fn warn_of_losses<R: Host>(rt: &R, inputs: &[OpenedInput<'_>]) {
-    let mut all = Losses::none(rt.alloc());
-    for input in inputs {
-        if input.source.add_losses(&mut all).is_err() {
-            return;
-        }
-    }
-    losses::warn(rt, Unknown::Keep, &all);
-}
-
-/// Returns the sources of a job, of which one at least is a server: each is asked or opened when it is read.
-fn live_inputs<'a, R: Host>(
-    rt: &'a R,
-    input: Stdin,
-    job: &'a DiffJob<'a>,
-) -> Result<Vec<Input<'a, Shown<'a, R>>>, AllocError> {
-    let mut inputs = Vec::new(rt.alloc());
-    for source in &job.sources {
-        inputs.push(Input {
-            name: source.name,
-            source: Shown {
-                rt,
-                input,
-                job,
-                word: *source,
-            },
-        })?;
-    }
-    Ok(inputs)
-}
-
-/// Opens all sources before one is read.
-fn open_all<'a, R: Host>(
-    rt: &R,
-    input: Stdin,
-    job: &DiffJob<'a>,
-) -> Result<Vec<OpenedInput<'a>>, Stopped> {
-    let mut inputs = Vec::new(rt.alloc());
-    for source in &job.sources {
-        match open_source(rt, input, job, source) {
-            Ok(opened) => add(
-                &mut inputs,
-                Input {
-                    name: source.name,
-                    source: opened,
-                },
-            )?,
-            Err(fault) => {
-                return Err(Stopped::Source {
-                    number: inputs.len(),
-                    fault,
-                });
-            }
-        }
-    }
-    Ok(inputs)
 }
 
 /// Returns how the rows of sources are read: with the fields of versions that aren't known here, unless a server is among
 /// the sources, since API v2 shows none of them.
-fn reading_of(job: &DiffJob<'_>) -> Reading {
-    let unknown = if job.is_live() {
+fn reading_of(job: &DiffJob<'_>, is_live: bool) -> Reading
+    ensures { result ≡ diff_reading job.entry.now is_live }
+{
+    let unknown = if is_live {
         Unknown::Drop
     } else {
         Unknown::Keep
@@ -197,18 +176,18 @@ fn reading_of(job: &DiffJob<'_>) -> Reading {
 pub fn open_source<R: Host>(
     rt: &R,
     input: Stdin,
-    job: &DiffJob<'_>,
-    source: &SourceWord<'_>,
+    time_limit: Duration,
+    asked: Asked<'_>,
 ) -> Result<Opened<BufReader<Row>>, SourceFault> {
-    let reading = reading_of(job);
-    let Some(replica) = source.replica() else {
-        return open(rt, input, source.file, job.has_logs, reading);
+    let Asked { word, reading, .. } = asked;
+    let Some(replica) = word.replica() else {
+        return open(rt, input, asked);
     };
     let pull = PullJob {
-        state: job.state,
-        name: source.name,
+        state: reading.state,
+        name: word.name,
         replica,
-        time_limit: job.time_limit,
+        time_limit,
     };
     Ok(Opened {
         row: Some(told_by(rt, &pull)?),

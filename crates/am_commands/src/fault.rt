@@ -1,6 +1,6 @@
 //! The faults at which a command stops.
 
-ghost use Rattle.std.specs.Prelude.{◌≡◌, ◌++◌, ◌∷◌, [], OnOk};
+ghost use Rattle.std.specs.Prelude.{◌≡◌, ◌≤◌, ◌++◌, ◌∷◌, [], OnOk};
 ghost use Rattle.am_commands.specs.Statuses.{source_status, stopped_status};
 
 use crate::host::Host;
@@ -94,6 +94,8 @@ pub fn add<T: Drop>(all: &mut Vec<T>, more: T) -> Result<(), AllocError>
 pub fn report_stopped<R: Host>(rt: &R, name: Option<&str>, stopped: &Stopped) -> u8
     // PROMISE: A command's status is that of the first fault.
     ensures status { result ≡ stopped_status stopped.now }
+
+    ensures some { (1 ≤ result) × (result ≤ 4) }
 {
     match stopped {
         Stopped::Told(error) => report(rt, Fault::Snapshot(*error)),
@@ -103,7 +105,8 @@ pub fn report_stopped<R: Host>(rt: &R, name: Option<&str>, stopped: &Stopped) ->
 
 /// Prints the fault of a source.
 fn report_of_source<R: Host>(rt: &R, name: Option<&str>, fault: &SourceFault) -> u8
-    ensures { result ≡ source_status fault.now }
+    ensures status { result ≡ source_status fault.now }
+    ensures some { (1 ≤ result) × (result ≤ 4) }
 {
     match (fault, name) {
         (SourceFault::Own(fault), Some(name)) => report_source(rt, name, *fault),

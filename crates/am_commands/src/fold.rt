@@ -1,36 +1,68 @@
 //! Sources, folded.
 
-ghost use Rattle.std.specs.Prelude.{OnOk, IfErr};
-ghost use Rattle.am_commands.specs.Folding.{IsFoldRow};
+ghost use Rattle.std.specs.Prelude.{◌≡◌, ◌≢◌, OnOk, IfOk, IfErr, map};
+ghost use Rattle.am_commands.specs.Folding.{IsFoldRow, fold_names, fold_reading, files_named, named_file};
+ghost use Rattle.am_commands.specs.Opening.{named_of, AreOpened, StopsOpening, ComesOf, StopsNamed, EndsAt};
 ghost use Rattle.am_commands.specs.Telling.{IsTold, StopsTelling};
 
-use crate::fault::{Stopped, add, report_stopped};
+use crate::fault::{SourceFault, Stopped, add, report_stopped};
 use crate::host::{Host, Streams};
-use crate::losses;
-use crate::opened::{Keys, Reading, Unopened};
-use crate::source::{Input, Source, join_sources};
+use crate::losses::{HasLosses, warn_of_sources};
+use crate::opened::{Asked, Keys, Reading, Unopened};
+use crate::source::{Input, Source, inputs_of, join_sources};
 use am_faults::status;
-use am_jobs::{FoldJob, STANDARD_INPUT, StateName};
+use am_jobs::{FoldJob, STANDARD_INPUT, SourceWord, StateName};
 use am_merge::Held;
 use am_nflog::MeshEntry;
-use am_report::Losses;
 use am_silence::MeshSilence;
 use am_snapshot::save_within;
 use am_version_order::Version;
-use am_wire::{Message, Unknown};
 use std::alloc::{AllocError, Global};
-use std::io::{Stdin, Stdout, Write};
+use std::io::Write;
 use std::mem;
 
 /// Writes the fold of what a job names to standard output, and returns the exit status of the program.
-pub fn run_fold<R: Host>(rt: &R, streams: Streams, job: &FoldJob<'_>) -> u8 {
+pub fn run_fold<'a, R: Host>(rt: &'a R, streams: Streams, job: &FoldJob<'a>) -> u8 {
     let Streams { input, mut output } = streams;
-    let folded = match job.state {
-        StateName::Silences => fold_files::<R, MeshSilence>(rt, input, &mut output, job),
-        StateName::Log => fold_files::<R, MeshEntry>(rt, input, &mut output, job),
+    let source_of = |asked| Ok(Unopened::new(rt, input, asked));
+    match job.state {
+        StateName::Silences => {
+            fold_files::<R, MeshSilence, _, _, _>(rt, job, source_of, &mut output)
+        }
+        StateName::Log => fold_files::<R, MeshEntry, _, _, _>(rt, job, source_of, &mut output),
+    }
+}
+
+/// Folds the files of a job, or standard input where it names none, and returns the exit status of the program.
+fn fold_files<
+    'a,
+    R: Host,
+    V: Version,
+    S: Source<V> + HasLosses,
+    F: Fn(Asked<'a>) -> Result<S, SourceFault>,
+    W: Write,
+>(rt: &R, job: &FoldJob<'a>, source_of: F, writer: &mut W) -> u8
+    requires { F.IsAlwaysCallable source_of }
+
+    // PROMISE: With status 0 `fold` wrote the fold of just the files that it names, or of standard input, each read once and as
+    // its options say.
+    ensures row { result ≡ 0 → ComesOf (F.post source_of) job.entry.now.has_logs (fold_reading job.entry.now) (fold_names job.entry.now) (λ inputs.
+        IsTold V.seen V.Key.cmp S.gives inputs W.contents (IsFoldRow V.seen V.Key.cmp) writer.old writer.new) }
+
+    // PROMISE: With any other status `fold` stopped at the first fault, and the status is that of this fault.
+    ensures stopped { result ≢ 0 → EndsAt (StopsNamed (F.post source_of) job.entry.now.has_logs (fold_reading job.entry.now) (fold_names job.entry.now)
+        (λ inputs. StopsTelling V.seen V.Key.cmp S.gives inputs W.contents (IsFoldRow V.seen V.Key.cmp) S.stops writer.old writer.new)
+        writer.old writer.new) result }
+{
+    let mut inputs = match inputs_named(rt.alloc(), job, source_of) {
+        Ok(inputs) => inputs,
+        Err(stopped) => return report_stopped(rt, name_of(job, &stopped), &stopped),
     };
-    match folded {
-        Ok(()) => status::DONE,
+    match fold_sources::<V, _, _>(rt.alloc(), &mut inputs, job.most, writer) {
+        Ok(()) => {
+            warn_of_sources(rt, job.unknown, &inputs);
+            status::DONE
+        }
         Err(stopped) => report_stopped(rt, name_of(job, &stopped), &stopped),
     }
 }
@@ -40,70 +72,47 @@ fn name_of<'a>(job: &FoldJob<'a>, stopped: &Stopped) -> Option<&'a str> {
     job.files.get(stopped.number()?).copied()
 }
 
-/// Folds the files of a job, or standard input where it names none.
-fn fold_files<R: Host, V: Version + Message>(
-    rt: &R,
-    input: Stdin,
-    output: &mut Stdout,
-    job: &FoldJob<'_>,
-) -> Result<(), Stopped> {
-    let mut inputs = inputs_of(rt, input, job)?;
-    fold_sources::<V, _, _>(rt.alloc(), &mut inputs, job.most, output)?;
-    warn_of_losses(rt, job.unknown, &inputs);
-    Ok(())
-}
-
-/// Warns a person about what the versions of sources lose. Says nothing if memory runs out.
-fn warn_of_losses<R: Host>(rt: &R, unknown: Unknown, inputs: &[Input<'_, Unopened<'_, R>>]) {
-    let mut all = Losses::none(rt.alloc());
-    for input in inputs {
-        if all.join(&input.source.losses).is_err() {
-            return;
-        }
-    }
-    losses::warn(rt, unknown, &all);
-}
-
-/// Returns the sources of a job.
-fn inputs_of<'a, R: Host>(
-    rt: &'a R,
-    input: Stdin,
+/// Opens the sources of a job.
+fn inputs_named<'a, S: Drop, F: Fn(Asked<'a>) -> Result<S, SourceFault>>(
+    alloc: Global,
     job: &FoldJob<'a>,
-) -> Result<Vec<Input<'a, Unopened<'a, R>>>, AllocError> {
-    let mut inputs = Vec::new(rt.alloc());
-    if job.files.is_empty() {
-        add(&mut inputs, input_of(rt, input, job, STANDARD_INPUT))?;
-    }
-    for file in &job.files {
-        add(&mut inputs, input_of(rt, input, job, file))?;
-    }
-    Ok(inputs)
-}
-
-/// Returns one source of a job.
-fn input_of<'a, R: Host>(
-    rt: &'a R,
-    input: Stdin,
-    job: &FoldJob<'a>,
-    file: &'a str,
-) -> Input<'a, Unopened<'a, R>> {
+    source_of: F,
+) -> Result<Vec<Input<'a, S>>, Stopped>
+    requires { F.IsAlwaysCallable source_of }
+    ensures opened { IfOk result (λ inputs.
+        AreOpened (F.post source_of) job.entry.now.has_logs (fold_reading job.entry.now) (fold_names job.entry.now) inputs.items) }
+    ensures stopped { IfErr result (StopsOpening (F.post source_of) job.entry.now.has_logs (fold_reading job.entry.now) (fold_names job.entry.now)) }
+{
+    let words = words_of(alloc, &job.files)?;
     let reading = Reading {
         state: job.state,
         keys: Keys::Repeated,
         most: job.most,
         unknown: job.unknown,
     };
-    Input {
-        name: file,
-        source: Unopened {
-            rt,
-            input,
-            file,
-            has_logs: job.has_logs,
-            reading,
-            losses: Losses::none(rt.alloc()),
-        },
+    inputs_of(alloc, &words, job.has_logs, reading, source_of)
+}
+
+/// Returns the words of sources: of each file, under its own name, or of standard input where there is none.
+fn words_of<'a>(alloc: Global, files: &[&'a str]) -> Result<Vec<SourceWord<'a>>, AllocError>
+    ensures { IfOk result (λ words. map named_of words.items ≡ files_named files.now) }
+{
+    let mut words = Vec::new(alloc);
+    if files.is_empty() {
+        add(&mut words, word_of(STANDARD_INPUT))?;
+        return Ok(words);
     }
+    for file in files {
+        add(&mut words, word_of(file))?;
+    }
+    Ok(words)
+}
+
+/// Returns the word of a file under its own name.
+fn word_of(file: &str) -> SourceWord<'_>
+    ensures { named_of result ≡ named_file file.now }
+{
+    SourceWord { name: file, file }
 }
 
 /// Writes the fold of sources, a row of at most `most` bytes: the greatest version of each key that one of them holds, in the

@@ -1,6 +1,6 @@
 //! Sources, be they servers or files, as API v2 shows them.
 
-ghost use Rattle.std.specs.Prelude.{IfOk};
+ghost use Rattle.std.specs.Prelude.{◌≡◌, IfOk};
 ghost use Rattle.std.specs.Ordering.{nat_cmp};
 ghost use Rattle.std.specs.Cmp.Lexicographic.{slice_cmp};
 ghost use Rattle.am_merge.specs.Maps.{IsMap};
@@ -9,11 +9,13 @@ ghost use Rattle.am_silence.specs.Mesh.{mesh_version};
 use crate::diff::open_source;
 use crate::fault::SourceFault;
 use crate::host::Host;
+use crate::losses::HasLosses;
+use crate::opened::Asked;
 use crate::source::Source;
 use am_faults::Fault;
-use am_jobs::{DiffJob, SourceWord};
 use am_merge::Held;
 use am_peers::{Server, body_of, fetch, held_of, shown_of_row};
+use am_report::Losses;
 use am_silence::MeshSilence;
 use am_silence_json::read_silences;
 use am_snapshot::{SnapshotError, row_bytes, row_length};
@@ -22,21 +24,43 @@ use std::io::Stdin;
 use std::time::Duration;
 
 /// A source that is read as API v2 shows it: a server that is asked then, or a file that is opened then.
-pub struct Shown<'a, R: Host> {
-    pub rt: &'a R,
-    pub input: Stdin,
-    pub job: &'a DiffJob<'a>,
-    pub word: SourceWord<'a>,
+pub struct Shown<'a, R> {
+    rt: &'a R,
+    input: Stdin,
+    /// The most time that a connection to a server may last.
+    time_limit: Duration,
+    asked: Asked<'a>,
 }
 
-impl<'a, R: Host> Drop for Shown<'a, R> {
+impl<'a, R: Host> Shown<'a, R> {
+    /// Returns a source that is asked for, and isn't read yet.
+    pub fn new(rt: &'a R, input: Stdin, time_limit: Duration, asked: Asked<'a>) -> Shown<'a, R>
+        ensures { result.asked ≡ asked.entry }
+    {
+        Shown {
+            rt,
+            input,
+            time_limit,
+            asked,
+        }
+    }
+}
+
+impl<'a, R> Drop for Shown<'a, R> {
     fn drop(self) {
         let Self {
             rt: _,
             input: _,
-            job: _,
-            word: _,
+            time_limit: _,
+            asked: _,
         } = self;
+    }
+}
+
+impl<'a, R> HasLosses for Shown<'a, R> {
+    /// Adds none: API v2 shows no fields that aren't known here.
+    fn add_losses(&self, _losses: &mut Losses) -> Result<(), AllocError> {
+        Ok(())
     }
 }
 
@@ -49,12 +73,12 @@ impl<'a, R: Host> Source<MeshSilence> for Shown<'a, R> {
     ghost stops = { λ _ _. ⊤ };
 
     fn read(&mut self, alloc: Global) -> Result<Held<MeshSilence>, SourceFault> {
-        match self.word.server() {
-            Some(server) => match shown_by_server(self.rt, &server, self.job.time_limit) {
+        match self.asked.word.server() {
+            Some(server) => match shown_by_server(self.rt, &server, self.time_limit) {
                 Ok(held) => Ok(held),
                 Err(fault) => Err(SourceFault::Own(fault)),
             },
-            None => shown_by_row(alloc, self.rt, self.input, self.job, &self.word),
+            None => shown_by_row(alloc, self.rt, self.input, self.time_limit, self.asked),
         }
     }
 }
@@ -64,12 +88,12 @@ fn shown_by_row<R: Host>(
     alloc: Global,
     rt: &R,
     input: Stdin,
-    job: &DiffJob<'_>,
-    source: &SourceWord<'_>,
+    time_limit: Duration,
+    asked: Asked<'_>,
 ) -> Result<Held<MeshSilence>, SourceFault>
     ensures { IfOk result (IsMap mesh_version (slice_cmp nat_cmp)) }
 {
-    let mut opened = open_source(rt, input, job, source)?;
+    let mut opened = open_source(rt, input, time_limit, asked)?;
     let held: Held<MeshSilence> = opened.read(alloc)?;
     match shown_of(alloc, &held) {
         Ok(shown) => Ok(shown),

@@ -1,6 +1,7 @@
 //! Warnings for a person about the fields that messages lose.
 
 use crate::host::Host;
+use crate::source::Input;
 use am_faults::Audience;
 use am_jobs::StateName;
 use am_report::{LossReader, Losses, Lost, MessageKind};
@@ -17,6 +18,35 @@ pub fn watch_for<R: Host>(rt: &R, state: StateName) -> Option<LossReader> {
         Audience::Program => None,
         Audience::Person => Some(LossReader::new(rt.alloc(), kind)),
     }
+}
+
+/// A source that may note what the versions that it read lose.
+pub trait HasLosses: Drop {
+    /// Adds what the versions that were read lose, if that is noted.
+    ///
+    /// # Errors
+    ///
+    /// [`AllocError`] if memory runs out.
+    fn add_losses(&self, losses: &mut Losses) -> Result<(), AllocError>;
+}
+
+/// Warns a person about what the versions of a source lose. Says nothing if memory runs out.
+pub fn warn_of_source<R: Host, S: HasLosses>(rt: &R, unknown: Unknown, source: &S) {
+    let mut all = Losses::none(rt.alloc());
+    if source.add_losses(&mut all).is_ok() {
+        warn(rt, unknown, &all);
+    }
+}
+
+/// Warns a person about what the versions of sources lose. Says nothing if memory runs out.
+pub fn warn_of_sources<R: Host, S: HasLosses>(rt: &R, unknown: Unknown, inputs: &[Input<'_, S>]) {
+    let mut all = Losses::none(rt.alloc());
+    for input in inputs {
+        if input.source.add_losses(&mut all).is_err() {
+            return;
+        }
+    }
+    warn(rt, unknown, &all);
 }
 
 /// Warns a person about what the versions of rows lose. Says nothing if memory runs out.
@@ -43,7 +73,7 @@ pub fn warn_of_row<R: Host>(rt: &R, state: StateName, row: &[u8]) {
 
 /// Tells a person how many messages lose fields, and which: silences, entries and the versions around them if their unknown
 /// fields are dropped, and the smaller messages in them. Says nothing if memory runs out.
-pub fn warn<R: Host>(rt: &R, unknown: Unknown, losses: &Losses) {
+fn warn<R: Host>(rt: &R, unknown: Unknown, losses: &Losses) {
     if unknown == Unknown::Drop {
         let _ = warn_of(rt, "", &losses.versions, " (--keep-unknown keeps them)");
     }

@@ -1,7 +1,9 @@
 //! The versions that running replicas lack of those that they are to hold, and the ones that they refuse.
 
-ghost use Rattle.std.specs.Prelude.{◌≡◌};
-ghost use Rattle.am_commands.specs.Sending.{is_sent};
+ghost use Rattle.std.specs.Prelude.{◌≡◌, ◌∷◌, ◌++◌, [], List, OnOk, IfOk, ℕ, map, flat_map};
+ghost use Rattle.am_wire.specs.Fields.{rows_of};
+ghost use Rattle.am_wire.specs.Inputs.{sound};
+ghost use Rattle.am_commands.specs.Sending.{is_sent, IsSending, IsSendingOf};
 
 use crate::fault::SourceFault;
 use crate::host::Host;
@@ -15,7 +17,8 @@ use am_merge::Held;
 use am_report::{ListedWord, Manner, ReportLine};
 use am_snapshot::SnapshotError;
 use am_version_order::{Moment, Version};
-use am_wire::{Message, RowFault, Rows, Unknown, write_varint};
+use am_wire::writing::append_delimited;
+use am_wire::{Message, RowFault, Rows, Unknown};
 use std::alloc::{AllocError, Global};
 
 /// The versions that are sent, and their rows as they were read.
@@ -76,7 +79,12 @@ impl<V: Handed + Message + ReportLine> Mending<V> {
     /// # Errors
     ///
     /// A row at fault, and want of memory.
-    pub fn to_send(&self, alloc: Global, held: &Held<V>) -> Result<Sent<V>, SnapshotError> {
+    pub fn to_send(&self, alloc: Global, held: &Held<V>) -> Result<Sent<V>, SnapshotError>
+        // PROMISE: What a replica is sent are messages of the rows that were read, just those that are for sending, and of each key
+        // one.
+        ensures { IfOk result (λ sent. IsSendingOf V.seen V.Key.cmp (V.reads Unknown.Keep) V.is_hazard self.now.all self.now.moment held.now
+            (flat_map (λ row. rows_of row.items) self.now.rows.items) sent.rows.items sent.versions) }
+    {
         let mut sent = Sent {
             rows: Vec::new(alloc),
             versions: Held::new(alloc),
@@ -94,7 +102,12 @@ impl<V: Handed + Message + ReportLine> Mending<V> {
         held: &Held<V>,
         sent: &mut Sent<V>,
         row: &[u8],
-    ) -> Result<(), SnapshotError> {
+    ) -> Result<(), SnapshotError>
+        ensures { OnOk result ((before : List (List ℕ))
+            → IsSending V.seen V.Key.cmp (V.reads Unknown.Keep) V.is_hazard self.now.all self.now.moment held.now before sent.old.rows.items sent.old.versions
+            → (messages : List (List ℕ)) × (rows_of row.now ≡ map sound messages)
+            × IsSending V.seen V.Key.cmp (V.reads Unknown.Keep) V.is_hazard self.now.all self.now.moment held.now (before ++ messages) sent.new.rows.items sent.new.versions) }
+    {
         for text in Rows::new(row) {
             let text = match text {
                 Ok(text) => text,
@@ -112,7 +125,11 @@ impl<V: Handed + Message + ReportLine> Mending<V> {
         held: &Held<V>,
         sent: &mut Sent<V>,
         text: &[u8],
-    ) -> Result<(), SnapshotError> {
+    ) -> Result<(), SnapshotError>
+        ensures { OnOk result ((before : List (List ℕ))
+            → IsSending V.seen V.Key.cmp (V.reads Unknown.Keep) V.is_hazard self.now.all self.now.moment held.now before sent.old.rows.items sent.old.versions
+            → IsSending V.seen V.Key.cmp (V.reads Unknown.Keep) V.is_hazard self.now.all self.now.moment held.now (before ++ text.now ∷ []) sent.new.rows.items sent.new.versions) }
+    {
         let version = match V::decode_at(alloc, Unknown::Keep, text, 0) {
             Ok(version) => version,
             Err(error) => return Err(SnapshotError::from(RowFault::from(error))),
@@ -120,11 +137,10 @@ impl<V: Handed + Message + ReportLine> Mending<V> {
         if !self.is_sent(held, &version) || version.hazard(alloc)?.is_some() {
             return Ok(());
         }
-        if sent.versions.insert_new(version)? {
-            sent.rows
-                .extend_from_slice(write_varint(text.len() as u64).as_slice())?;
-            sent.rows.extend_from_slice(text)?;
+        if !sent.versions.insert_new(version)? {
+            return Ok(());
         }
+        append_delimited(&mut sent.rows, text)?;
         Ok(())
     }
 

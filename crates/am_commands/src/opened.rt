@@ -6,14 +6,14 @@ ghost use Rattle.am_commands.specs.Rows.{GivesOpened, GivesRow, StopsRow};
 
 use crate::fault::SourceFault;
 use crate::host::Host;
-use crate::losses::watch_for;
+use crate::losses::{HasLosses, watch_for};
 use crate::replica::ToldRow;
 use crate::rows::take_within;
 use crate::source::Source;
 use am_disk::FileFault;
 use am_faults::Fault;
 use am_files::{LogFault, Logs, WholeFile};
-use am_jobs::{STANDARD_INPUT, StateName};
+use am_jobs::{STANDARD_INPUT, SourceWord, StateName};
 use am_merge::Held;
 use am_report::{LossReader, Losses};
 use am_snapshot::{SnapshotError, load_within};
@@ -127,6 +127,15 @@ pub struct Reading {
     pub unknown: Unknown,
 }
 
+/// A source that is asked for: the words that name it, and the way in which it is read.
+#[derive(Clone, Copy)]
+pub struct Asked<'a> {
+    pub word: SourceWord<'a>,
+    /// True if the logs beside its file are read too.
+    pub has_logs: bool,
+    pub reading: Reading,
+}
+
 /// A source that is opened: its row, and the logs beside it.
 #[derive(Drop)]
 pub struct Opened<R: Drop> {
@@ -137,13 +146,8 @@ pub struct Opened<R: Drop> {
     pub reading: Reading,
 }
 
-impl Opened<BufReader<Row>> {
-    /// Adds what the versions that were read of the row lose, if that is noted.
-    ///
-    /// # Errors
-    ///
-    /// [`AllocError`] if memory runs out.
-    pub fn add_losses(&self, losses: &mut Losses) -> Result<(), AllocError> {
+impl HasLosses for Opened<BufReader<Row>> {
+    fn add_losses(&self, losses: &mut Losses) -> Result<(), AllocError> {
         match &self.row {
             Some(row) => match &row.get_ref().watch {
                 Some(watch) => losses.join(&watch.losses),
@@ -248,10 +252,13 @@ pub fn join_logs<V: Version + Message>(
 pub fn open<R: Host>(
     rt: &R,
     input: Stdin,
-    file: &str,
-    has_logs: bool,
-    reading: Reading,
+    asked: Asked<'_>,
 ) -> Result<Opened<BufReader<Row>>, SourceFault> {
+    let Asked {
+        word: SourceWord { file, .. },
+        has_logs,
+        reading,
+    } = asked;
     let logs = match logs_beside(rt, file, has_logs) {
         Ok(logs) => logs,
         Err(fault) => return Err(SourceFault::of_log(fault)),
@@ -290,36 +297,40 @@ fn are_there(logs: &Option<Logs>) -> bool {
 }
 
 /// A source that is opened when it is read.
-pub struct Unopened<'a, R: Host> {
-    pub rt: &'a R,
-    pub input: Stdin,
-    /// Its path, or `-`.
-    pub file: &'a str,
-    pub has_logs: bool,
-    pub reading: Reading,
+pub struct Unopened<'a, R> {
+    rt: &'a R,
+    input: Stdin,
+    asked: Asked<'a>,
     /// The losses of the versions that were read, if they are noted.
-    pub losses: Losses,
+    losses: Losses,
 }
 
 impl<'a, R: Host> Unopened<'a, R> {
-    /// Opens it, and the logs beside it where these are asked for.
-    ///
-    /// # Errors
-    ///
-    /// Those of [`open`].
-    pub fn open(&self) -> Result<Opened<BufReader<Row>>, SourceFault> {
-        open(self.rt, self.input, self.file, self.has_logs, self.reading)
+    /// Returns a source that is asked for, and isn't read yet.
+    pub fn new(rt: &'a R, input: Stdin, asked: Asked<'a>) -> Unopened<'a, R>
+        ensures { result.asked ≡ asked.entry }
+    {
+        Unopened {
+            rt,
+            input,
+            asked,
+            losses: Losses::none(rt.alloc()),
+        }
     }
 }
 
-impl<'a, R: Host> Drop for Unopened<'a, R> {
+impl<'a, R> HasLosses for Unopened<'a, R> {
+    fn add_losses(&self, losses: &mut Losses) -> Result<(), AllocError> {
+        losses.join(&self.losses)
+    }
+}
+
+impl<'a, R> Drop for Unopened<'a, R> {
     fn drop(self) {
         let Self {
             rt: _,
             input: _,
-            file: _,
-            has_logs: _,
-            reading: _,
+            asked: _,
             losses: _,
         } = self;
     }
@@ -334,7 +345,7 @@ impl<'a, V: Version + Message, R: Host> Source<V> for Unopened<'a, R> {
     ghost stops = { λ _ _. ⊤ };
 
     fn read(&mut self, alloc: Global) -> Result<Held<V>, SourceFault> {
-        let mut opened = self.open()?;
+        let mut opened = open(self.rt, self.input, self.asked)?;
         let held = opened.read(alloc);
         let _ = opened.add_losses(&mut self.losses);
         held

@@ -1,5 +1,10 @@
 //! Versions for a running replica: it is sent those that it lacks, and those that it doesn't hold then are told.
 
+ghost use Rattle.std.specs.Prelude.{◌≡◌, ℕ, List, [], ◌∷◌, map, IfOk, OnOk};
+ghost use Rattle.std.specs.Io.KnownBytes.{Consumes, IsAtEnd};
+ghost use Rattle.am_wire.specs.Inputs.{AreMessages};
+ghost use Rattle.am_merge.specs.Views.{HoldsBest};
+
 use crate::fault::{Stopped, add, report_stopped};
 use crate::host::{Host, Streams};
 use crate::losses::warn_of_rows;
@@ -106,7 +111,11 @@ fn read_mending<V: Version + Message, I: Read>(
     alloc: Global,
     input: &mut I,
     now: Moment,
-) -> Result<Mending<V>, Stopped> {
+) -> Result<Mending<V>, Stopped>
+    ensures rows { IfOk result (λ mending. (row : List ℕ) × Consumes (I.remaining input.old) (I.remaining input.new) row × (map (λ r. r.items) mending.rows.items ≡ row ∷ [])
+        × (versions : List V) × AreMessages (V.reads Unknown.Keep) row versions × HoldsBest V.seen versions mending.all) }
+    ensures moment { IfOk result (λ mending. mending.moment ≡ now) }
+{
     let row = read_all(alloc, input)?;
     let all = match take_row(alloc, Unknown::Keep, &mut row.as_slice()) {
         Ok(all) => all,
@@ -122,7 +131,10 @@ fn read_mending<V: Version + Message, I: Read>(
 }
 
 /// Reads all bytes of an input, which are at most 67,108,864.
-fn read_all<I: Read>(alloc: Global, input: &mut I) -> Result<Vec<u8>, SnapshotError> {
+fn read_all<I: Read>(alloc: Global, input: &mut I) -> Result<Vec<u8>, SnapshotError>
+    ensures all { IfOk result (λ bytes. Consumes (I.remaining input.old) (I.remaining input.new) bytes.items) }
+    ensures end { OnOk result (IsAtEnd (I.remaining input.new)) }
+{
     let mut bytes = Vec::new(alloc);
     match fill(input, &mut bytes, MOST_MESSAGE_BYTES as usize + 1) {
         Ok(false) => Ok(bytes),

@@ -1,23 +1,24 @@
 //! Snapshots, shown.
 
-ghost use Rattle.std.specs.Prelude.{◌≡◌, ◌++◌, ℕ, List, IfOk, IfErr, OnOk, string_bytes};
+ghost use Rattle.std.specs.Prelude.{◌≡◌, ◌≢◌, ◌++◌, ℕ, List, IfOk, IfErr, OnOk, string_bytes};
 ghost use Rattle.std.specs.Io.KnownBytes.{Appends};
 ghost use Rattle.am_merge.specs.Maps.{IsMap};
 ghost use Rattle.am_report.specs.Later.{has_later};
 ghost use Rattle.am_report.specs.Views.{StopsWriting};
-ghost use Rattle.am_commands.specs.Showing.{shown_text, StopsShowing};
+ghost use Rattle.am_commands.specs.Opening.{EndsAt};
+ghost use Rattle.am_commands.specs.Showing.{shown_text, StopsShowing, IsShown, OpensFile, StopsFile, file_or_input, show_reading};
 
-use crate::fault::{Stopped, report_stopped};
+use crate::fault::{SourceFault, Stopped, report_stopped};
 use crate::host::{Host, Streams};
-use crate::losses;
+use crate::losses::{HasLosses, warn_of_source};
 use crate::moment::{moment_of, warn};
-use crate::opened::{Keys, Reading, Unopened};
+use crate::opened::{Asked, Keys, Reading, Unopened};
 use crate::source::Source;
 use am_faults::{report, status};
-use am_jobs::{Form, STANDARD_INPUT, ShowJob, StateName};
+use am_jobs::{Form, STANDARD_INPUT, ShowJob, SourceWord, StateName};
 use am_merge::Held;
 use am_nflog::MeshEntry;
-use am_report::{InJson, Losses, has_later, write_view, write_view_json};
+use am_report::{InJson, has_later, write_view, write_view_json};
 use am_silence::MeshSilence;
 use am_snapshot::SnapshotError;
 use am_version_order::{Moment, Version};
@@ -27,13 +28,52 @@ use std::io::Write;
 use std::mem;
 
 /// Shows what of a snapshot is live, and returns the exit status of the program.
-pub fn run_show<R: Host>(rt: &R, streams: Streams, job: &ShowJob<'_>) -> u8 {
+pub fn run_show<'a, R: Host>(rt: &'a R, streams: Streams, job: &ShowJob<'a>) -> u8 {
     let now = match moment_of(rt, job.now) {
         Ok(now) => now,
         Err(fault) => return report(rt, fault),
     };
-    match show_file(rt, streams, job, now) {
+    let Streams { input, mut output } = streams;
+    let source_of = |asked| Ok(Unopened::new(rt, input, asked));
+    match job.state {
+        StateName::Silences => {
+            show_file::<R, MeshSilence, _, _, _>(rt, job, now, source_of, &mut output)
+        }
+        StateName::Log => {
+            show_file::<R, MeshEntry, _, _, _>(rt, job, now, source_of, &mut output)
+        }
+    }
+}
+
+/// Shows the file of a job at a moment, or standard input where it names none. Returns the exit status of the program.
+fn show_file<
+    'a,
+    R: Host,
+    V: Viewed + InJson,
+    S: Source<V> + HasLosses,
+    F: Fn(Asked<'a>) -> Result<S, SourceFault>,
+    W: Write,
+>(rt: &R, job: &ShowJob<'a>, now: Moment, source_of: F, writer: &mut W) -> u8
+    requires { F.IsAlwaysCallable source_of }
+
+    // PROMISE: With status 0 `show` printed the view of just the file that it names, or of standard input.
+    ensures view { result ≡ 0 → (source : S) × OpensFile (F.post source_of) job.entry.now (Ok source)
+        × IsShown V.seen V.Key.cmp S.gives (shown_text V.seen V.lines V.value job.entry.now.form now) source W.contents writer.old writer.new }
+
+    // PROMISE: With any other status `show` stopped at a fault of its file, or where it wrote, and the status is that of this fault.
+    ensures stopped { result ≢ 0 → EndsAt (StopsFile (F.post source_of) job.entry.now
+        (λ source. StopsShowing V.seen V.Key.cmp S.gives S.stops (shown_text V.seen V.lines V.value job.entry.now.form now) source W.contents writer.old writer.new)
+        writer.old writer.new) result }
+{
+    let mut source = match source_of(asked_by(job)) {
+        Ok(source) => source,
+        Err(fault) => {
+            return report_stopped(rt, job.file, &Stopped::Source { number: 0, fault });
+        }
+    };
+    match show_source::<V, _, _>(rt.alloc(), &mut source, job.form, now, writer) {
         Ok(has_later) => {
+            warn_of_source(rt, job.unknown, &source);
             if has_later {
                 warn(rt, job.now);
             }
@@ -43,19 +83,18 @@ pub fn run_show<R: Host>(rt: &R, streams: Streams, job: &ShowJob<'_>) -> u8 {
     }
 }
 
-/// Shows the file of a job, or standard input where it names none. Returns whether something was updated after the moment.
-fn show_file<R: Host>(
-    rt: &R,
-    streams: Streams,
-    job: &ShowJob<'_>,
-    now: Moment,
-) -> Result<bool, Stopped> {
-    let Streams { input, mut output } = streams;
-    let alloc = rt.alloc();
-    let mut source = Unopened {
-        rt,
-        input,
-        file: job.file.unwrap_or(STANDARD_INPUT),
+/// Returns the source of a job: its file, or standard input where it names none.
+fn asked_by<'a>(job: &ShowJob<'a>) -> Asked<'a>
+    ensures file { result.word.file.now ≡ file_or_input job.entry.now.file }
+    ensures logs { result.has_logs ≡ job.entry.now.has_logs }
+    ensures reading { result.reading ≡ show_reading job.entry.now }
+{
+    let file = match job.file {
+        Some(file) => file,
+        None => STANDARD_INPUT,
+    };
+    Asked {
+        word: SourceWord { name: file, file },
         has_logs: job.has_logs,
         reading: Reading {
             state: job.state,
@@ -63,27 +102,7 @@ fn show_file<R: Host>(
             most: MOST_MESSAGE_BYTES as u32,
             unknown: job.unknown,
         },
-        losses: Losses::none(alloc),
-    };
-    let shown = match job.state {
-        StateName::Silences => show_source::<MeshSilence, _, _>(
-            alloc,
-            &mut source,
-            job.form,
-            now,
-            &mut output,
-        ),
-        StateName::Log => show_source::<MeshEntry, _, _>(
-            alloc,
-            &mut source,
-            job.form,
-            now,
-            &mut output,
-        ),
-    };
-    let has_later = shown?;
-    losses::warn(rt, job.unknown, &source.losses);
-    Ok(has_later)
+    }
 }
 
 /// A version of which a view is written in lines.

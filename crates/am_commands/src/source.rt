@@ -1,14 +1,17 @@
 //! Sources of versions, which are read one after the other.
 
-ghost use Rattle.std.specs.Prelude.{◌≡◌, List, [], ◌∷◌, ◌++◌, OnOk, IfOk, IfErr};
+ghost use Rattle.std.specs.Prelude.{◌≡◌, List, [], ◌∷◌, ◌++◌, OnOk, IfOk, IfErr, map};
 ghost use Rattle.std.specs.List.{AllZip};
 ghost use Rattle.am_merge.specs.Maps.{IsMap, IsJoin};
 ghost use Rattle.am_report.specs.Sources.{Source as NamedMap};
 ghost use Rattle.am_commands.specs.declared.fault.SourceFault.{SourceFault};
+ghost use Rattle.am_commands.specs.Opening.{named_of, AreOpened, StopsOpening};
 ghost use Rattle.am_commands.specs.Reading.{IsRead, StopsReading};
 ghost use Rattle.am_commands.specs.Folding.{IsFoldOf};
 
 use crate::fault::{SourceFault, Stopped, add};
+use crate::opened::{Asked, Reading};
+use am_jobs::SourceWord;
 use am_merge::Held;
 use am_report::Replica;
 use am_version_order::{Moment, Version};
@@ -38,6 +41,48 @@ pub trait Source<V: Version>: Drop {
 pub struct Input<'n, S: Drop> {
     pub name: &'n str,
     pub source: S,
+}
+
+/// Opens the sources of words, in their order, all before one is read.
+///
+/// # Errors
+///
+/// [`Stopped::Source`] with the fault of the first source that isn't opened, and [`Stopped::Told`] where memory runs out.
+pub fn inputs_of<'n, S: Drop, F: Fn(Asked<'n>) -> Result<S, SourceFault>>(
+    alloc: Global,
+    words: &[SourceWord<'n>],
+    has_logs: bool,
+    reading: Reading,
+    source_of: F,
+) -> Result<Vec<Input<'n, S>>, Stopped>
+    requires { F.IsAlwaysCallable source_of }
+    ensures opened { IfOk result (λ inputs. AreOpened (F.post source_of) has_logs reading (map named_of words.now) inputs.items) }
+    ensures stopped { IfErr result (StopsOpening (F.post source_of) has_logs reading (map named_of words.now)) }
+{
+    let mut inputs = Vec::new(alloc);
+    for word in words {
+        let asked = Asked {
+            word: *word,
+            has_logs,
+            reading,
+        };
+        match source_of(asked) {
+            Ok(source) => add(
+                &mut inputs,
+                Input {
+                    name: word.name,
+                    source,
+                },
+            )?,
+            Err(fault) => {
+                return Err(Stopped::Source {
+                    number: inputs.len(),
+                    fault,
+                });
+            }
+        }
+    }
+    Ok(inputs)
 }
 
 /// Reads a source.
