@@ -1,6 +1,7 @@
 //! The work that a member does for the loop that serves it.
 
 ghost use Rattle.std.specs.Prelude.{◌≡◌, false};
+ghost use Rattle.am_upkeep.specs.Keepings.{uncommitted};
 
 use super::clerk::Clerk;
 use super::counting::{count_broken, count_where_done};
@@ -36,7 +37,7 @@ fn fault_of(broken: Broken, is_over: bool) -> Option<Fault> {
 
 impl<U: Keeper> Attendant for Clerk<'_, U> {
     // (this says nothing about the bytes, only that all that came before them was committed)
-    ghost offers = { λ clerk peer bytes clerk'. (U.keeping_of clerk.desk.upkeep).has_news ≡ false };
+    ghost offers = { λ clerk peer bytes clerk'. uncommitted (U.store_of clerk.desk.upkeep).keeping ≡ false };
 
     fn begin(&mut self, entrance: Entrance) -> Conversation {
         self.desk.upkeep.figures().begin();
