@@ -1,5 +1,5 @@
 -- What is logged of frames, one after another.
-use Rattle.std.proofs.Common.{◌≡◌, ◌⊎◌, ℕ, ◌+◌, ◌-◌, ◌^◌, ◌<◌, ◌≤◌, Bool, true, false, ◌||◌, List, [], ◌∷◌, ◌++◌, Option, Some, None, refl, sym, ap, subst, inl, inr, ◌∙◌, append_assoc, arith, length, take, get_or}
+use Rattle.std.proofs.Common.{◌≡◌, ℕ, ◌+◌, ◌-◌, ◌^◌, ◌<◌, ◌≤◌, Bool, true, false, ◌||◌, List, [], ◌∷◌, ◌++◌, Option, Some, None, refl, sym, ap, subst, inl, inr, ◌∙◌, append_assoc, arith, length, take, get_or}
 use Rattle.std.specs.List.{list_any}
 use Rattle.std.specs.Prelude.{IfSome, if◌then◌else◌, is_some, nat_lt}
 use borrow.Author.Tests.{lt-ltb, ltb-false, ltb-true}
@@ -10,12 +10,10 @@ use Rattle.am_gossip.specs.declared.frame.Frame.TheVariants.{Delta}
 use Rattle.am_gossip.specs.declared.frame.Part.{Part}
 use Rattle.am_gossip.specs.declared.frame.StateKey.{StateKey}
 use Rattle.am_gossip.specs.declared.frame.StateKey.TheVariants.{Sil, Nfl}
-use Rattle.am_instance.specs.Sendings.{Sent}
-use Rattle.am_peers.specs.Queues.{frames_for}
 use Rattle.am_files.specs.Appending.{Appends, IfKept, LogRows}
 use Rattle.am_upkeep.specs.declared.keeping.Keeping.{Keeping}
-use Rattle.am_upkeep.specs.Keepings.{behind, came, counted_on, disk_of, keeps_logs, with_lost, with_more}
-use Rattle.am_upkeep.specs.Stores.{AreLogged, GoesOn, HasCome, IsFollowed, IsLogged, Store, brings, brought, lost_if, rows_for, rows_if}
+use Rattle.am_upkeep.specs.Keepings.{behind, came, counted_on, keeps_logs, with_lost, with_more}
+use Rattle.am_upkeep.specs.Stores.{AreLogged, GoesOn, HasCome, IsLogged, Store, brings, brought, lost_if, rows_for, rows_if}
 
 pub rows_for-append : (key : StateKey) (xs ys : List Frame) → rows_for key (xs ++ ys) ≡ rows_for key xs ++ rows_for key ys
 rows_for-append key [] ys = refl
@@ -147,9 +145,6 @@ lost_on keeping =
     elim (is_some keeping.disk) as (λ b. GoesOn keeping (if b then record (with_more keeping) { is_behind = true } else keeping))
     [ true ↦ record { disk = refl; due = λ it. refl; lacks = λ it. refl; no_less = counted_no_less keeping.news } | false ↦ stays keeping ]
 
-pub lacks_lost : (keeping : Keeping) → keeps_logs keeping ≡ true → behind (with_lost keeping) ≡ true
-lacks_lost keeping on = ap behind (lost_is keeping on)
-
 -- the keeping goes on if something was lost, or nothing
 pub lost_goes_on : (lost : Bool) (old : Keeping) (mid new : Store) → mid.keeping ≡ old → new ≡ lost_if lost mid → GoesOn old new.keeping
 lost_goes_on true old mid new same is = subst (λ (k : Keeping). GoesOn k new.keeping) same (subst (λ (s : Store). GoesOn mid.keeping s.keeping) (sym is) (lost_on mid.keeping))
@@ -165,38 +160,6 @@ all_lost frames old new on is =
       goes_on = subst (λ (k : Keeping). GoesOn old.keeping k) (sym (ap (λ (s : Store). s.keeping) is)) (lost_on old.keeping);
     }
 
--- ---- a step
-
-if_some : (o : Option ℕ) (P Q : ℕ → Type 0) → ((n : ℕ) → P n → Q n) → IfSome o P → IfSome o Q
-if_some None P Q all is = tt
-if_some (Some n) P Q all is = all n is
-
--- what is logged after something was lost is logged, and the loss is known
-lost_then : (frames : List Frame) (old new : Store) → IsLogged frames (record old { keeping = with_lost old.keeping }) new → IsLogged frames old new
-lost_then frames old new logged =
-    let mid : Store = record old { keeping = with_lost old.keeping } in
-    logged_on [] frames old mid new
-    (record { rows = λ on. inr (appends_nothing old.silences, appends_nothing old.log); come = λ any. absurd (never any); goes_on = lost_on old.keeping }) logged
-
 -- what holds at the place of the disk
 pub at_disk : (o : Option ℕ) (disk : ℕ) (P : ℕ → Type 0) → o ≡ Some disk → P disk → IfSome o P
 at_disk o disk P is holds = subst (λ (o' : Option ℕ). IfSome o' P) (sym is) holds
-
--- a step that left something out
-pub followed_lost : (sent : Sent) (old new : Store) (lost : Keeping) → lost ≡ with_lost old.keeping
-    → IfSome (disk_of lost) (λ disk. IsLogged (frames_for disk sent.frames) (record old { keeping = lost }) new) → GoesOn lost new.keeping → IsFollowed sent old new
-followed_lost sent old new lost is logged on =
-    let on' : GoesOn (with_lost old.keeping) new.keeping = subst (λ (k : Keeping). GoesOn k new.keeping) is on in
-    let logged' : IfSome (disk_of old.keeping) (λ disk. IsLogged (frames_for disk sent.frames) (record old { keeping = with_lost old.keeping }) new) =
-    subst (λ (d : Option ℕ). IfSome d (λ disk. IsLogged (frames_for disk sent.frames) (record old { keeping = with_lost old.keeping }) new)) ((lost_on old.keeping).disk)
-    (subst (λ (k : Keeping). IfSome (disk_of k) (λ disk. IsLogged (frames_for disk sent.frames) (record old { keeping = k }) new)) is logged) in
-    record {
-      logged = if_some (disk_of old.keeping) _ _ (λ disk. lost_then (frames_for disk sent.frames) old new) logged';
-      unsent = λ kept some. on'.lacks (lacks_lost old.keeping kept);
-      goes_on = goes_on old.keeping (with_lost old.keeping) new.keeping (lost_on old.keeping) on';
-    }
-
--- a step that left nothing out
-pub followed_all : (sent : Sent) (old new : Store) → sent.memory ≡ 0 → sent.limit ≡ 0 → IfSome (disk_of old.keeping) (λ disk. IsLogged (frames_for disk sent.frames) old new)
-    → GoesOn old.keeping new.keeping → IsFollowed sent old new
-followed_all sent old new memory limit logged on = record { logged = logged; unsent = λ kept some. absurd (omega (arith, memory, limit, some)); goes_on = on }

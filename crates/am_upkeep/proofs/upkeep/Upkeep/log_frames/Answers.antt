@@ -36,7 +36,7 @@ returns-clause-logged g c =
     let all = take_all c.loop-frame.frame-index c.deref-frame-items.result.now (omega (arith, c.loop-frame-test.false)) in
     let items = c.deref-frame-items.ensures.value in
     let own = c.in-Ok.ensures.own in
-    let same : take c.loop-frame.frame-index c.deref-frame-items.result.now ≡ frames_for c.in-Some.disk c.args.frames.items = all ∙ items ∙ own in
+    let same : take c.loop-frame.frame-index c.deref-frame-items.result.now ≡ frames_for c.in-Some.disk c.args.frames.items = rw (all, items) own in
     at_disk (disk_of c.args.self.now.keeping) c.in-Some.disk
     (λ place. IsLogged (frames_for place c.args.frames.items) (store_of c.args.self.now) (store_of c.loop-frame.self)) (sym c.disk.ensures ∙ c.in-Some.is)
     (subst (λ (frames : List Frame). IsLogged frames (store_of c.args.self.now) (store_of c.loop-frame.self)) same c.loop-frame.invariant)
