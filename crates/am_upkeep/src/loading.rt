@@ -125,7 +125,7 @@ fn loaded_of(
     log: OpenedState<MeshEntry>,
     now: Moment,
 ) -> Loaded
-    // PROMISE: A member starts with what its files and their logs hold, all of it.
+    // PROMISE: A member starts with all that was read of its files and their logs.
     ensures silences { result.instance.silences ≡ silences.held }
     ensures log { result.instance.log ≡ log.held }
     ensures last { result.instance.last ≡ now }
