@@ -1,5 +1,5 @@
 -- What is replied, one call after the other.
-use Rattle.std.proofs.Common.{◌≡◌, ◌⊎◌, ◌∙◌, ℕ, Bool, false, List, [], None, inl, inr, refl, sym, subst, ap}
+use Rattle.std.proofs.Common.{◌≡◌, ◌⊎◌, ◌∙◌, ℕ, Bool, false, ◌||◌, not, List, [], None, inl, inr, refl, sym, subst, ap}
 use Rattle.am_wire.specs.declared.unknown.Unknown.TheVariants.{Drop}
 use Rattle.am_matcher.specs.declared.dialect.Dialect.TheVariants.{Regex}
 use Rattle.am_api_silences.specs.Answers.{IsRefusalAnswer, WhenMade}
@@ -17,8 +17,11 @@ use Rattle.am_http.specs.declared.hosts.Foreign.{Foreign}
 use Rattle.am_http.specs.declared.hosts.Foreign.TheVariants.{Host, Origin}
 use Rattle.am_http.specs.declared.refusal.Refusal.{Refusal}
 use Rattle.am_instance.specs.InstanceStates.{InstanceState}
+use Rattle.am_dialogue.specs.declared.conversation.HeldBack.{HeldBack}
+use Rattle.am_dialogue.specs.declared.conversation.Work.{Work}
+use Rattle.am_dialogue.specs.declared.conversation.Work.TheVariants.{HeldBack as HeldBackAs}
 use Rattle.am_dialogue.proofs.Resting.{stays_same}
-use Rattle.am_dialogue.specs.Talks.{IsClosed, IsLine, IsOwed, IsOwnLine, OwnCause, IsReplyTo, Keeps, KeepsBy, KeepsGone, Lasts, Owed, Rests, Saying, Stays, Talk, WaitsNoMore, gone_of, own_line, said_next}
+use Rattle.am_dialogue.specs.Talks.{IsClosed, IsLine, IsOwed, IsOwnLine, IsReleased, OwnCause, IsReplyTo, Keeps, KeepsBy, KeepsGone, Lasts, Owed, Rests, Saying, Stays, Talk, TellsLine, WaitsNoMore, gone_of, own_line, said_next}
 use Rattle.am_dialogue.specs.Talks.Owed.{Line, Reply, Other}
 use Rattle.am_dialogue.specs.Talks.OwnCause.{IsForeign, NotReady, StateTooLarge, FilterTooLarge, PatternTooLarge, NotKept, OutOfMemory}
 use Rattle.am_silence.specs.declared.error.SilenceError.TheVariants.{BadPattern}
@@ -97,6 +100,10 @@ says_line : (line : RefusalLine) (reply : ReplyBytes) → IsOwnLine line → Say
 says_line line (Own bytes) own says = (line, own, says)
 says_line line (Fixed bytes) own says = (memory_line, (OutOfMemory, refl), says)
 
+tells_line : (line : RefusalLine) (reply : ReplyBytes) → Says (λ bytes. bytes ≡ line_bytes line) reply → TellsLine line reply
+tells_line line (Own bytes) says = inl says
+tells_line line (Fixed bytes) says = inr says
+
 -- (whatever an instance is, a refusal tells nothing of it)
 no_instance : InstanceState
 no_instance = record { config = record { members = []; place = 0; retention = 0; peer_timeout = 0; dialect = Regex; unknown = Drop }; silences = []; log = []; last = 0 }
@@ -104,6 +111,11 @@ no_instance = record { config = record { members = []; place = 0; retention = 0;
 pub line_made : (refusal : Refusal) (begun : PendingAnswer) (reply : ReplyBytes) → ((stand : InstanceState) → WhenMade (λ answered. IsRefusalAnswer refusal stand answered stand) begun)
     → IsOwnLine (line_seen refusal) → IsMadeOf begun.making reply → IsLine reply
 line_made refusal begun reply refused own made = says_line (line_seen refusal) reply own (refused no_instance reply made).says
+
+-- a refusal is finished with its line
+pub line_told : (refusal : Refusal) (begun : PendingAnswer) (reply : ReplyBytes) → ((stand : InstanceState) → WhenMade (λ answered. IsRefusalAnswer refusal stand answered stand) begun)
+    → IsMadeOf begun.making reply → TellsLine (line_seen refusal) reply
+line_told refusal begun reply refused made = tells_line (line_seen refusal) reply (refused no_instance reply made).says
 
 -- what it is finished with goes out
 pub by_reply : (making : PendingReply) (reply : ReplyBytes) (old new : Saying) → new ≡ said_next reply old → IsMadeOf making reply → KeepsBy making old new
@@ -185,3 +197,10 @@ making_lasts making old new here stays by = lasts_by old new
     (record { way = stays.way; session = stays.session; waiting = stays.waiting })
     (λ e. absurd (making_loud making (sym here ∙ e)))
     (subst (λ (s : Saying). Keeps s new.saying) (sym here) (making_keeps making new.saying by))
+
+-- the line that a change isn't kept goes out in place of the reply that waited
+pub unkept : (kept : Bool) (held : HeldBack) (work : Work) (told : RefusalLine) (before saying : Saying) → HeldBackAs held ≡ work → (kept || not held.is_change) ≡ false → told ≡ own_line NotKept
+    → before ≡ Silent → ((reply : ReplyBytes) × TellsLine told reply × (saying ≡ said_next reply before)) → IsReleased kept work saying
+unkept kept held work told before saying is unheld line silent (reply, tells, says) =
+    subst (λ (w : Work). IsReleased kept w saying) is
+    (rw unheld (reply, subst (λ (l : RefusalLine). TellsLine l reply) line tells, says ∙ ap (λ (s : Saying). said_next reply s) silent))

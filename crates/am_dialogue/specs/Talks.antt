@@ -1,9 +1,9 @@
 -- A connection in a member's life: the progress of its gate and its session, what it said that waits, and what is replied.
-use Rattle.std.specs.Prelude.{◌≡◌, ◌⊎◌, ◌+◌, ◌-◌, ◌++◌, ℕ, min, Bool, false, List, [], length, take, drop, codes, Option, Some, None, Err, ⊤}
+use Rattle.std.specs.Prelude.{◌≡◌, ◌⊎◌, ◌+◌, ◌-◌, ◌++◌, ℕ, min, Bool, false, not, ◌||◌, MatchBool, List, [], length, take, drop, codes, Option, Some, None, Err, ⊤}
 use Rattle.am_api_silences.specs.Events.{IsCall}
 use Rattle.am_api_silences.specs.PendingReply.{IsMadeOf, Makes}
 use Rattle.am_api_silences.specs.Replies.{bytes_of, line_bytes}
-use Rattle.am_api_silences.specs.Table.{refused_line}
+use Rattle.am_api_silences.specs.Table.{memory_line, refused_line}
 use Rattle.am_api_silences.specs.declared.pending_reply.PendingReply.{PendingReply}
 use Rattle.am_api_silences.specs.declared.replies.ReplyBytes.{ReplyBytes}
 use Rattle.am_gate.specs.Gates.{Way, challenge_left, challenge_sent}
@@ -46,11 +46,6 @@ abbrev pub sent_on : ℕ → Saying → Saying
 sent_on count (Out reply written) = Out reply (written + count)
 sent_on count saying = saying
 
--- the reply once it waits for no commit any more
-abbrev pub released : Saying → Saying
-released (Held reply) = Out reply 0
-released saying = saying
-
 -- A whole reply goes out, unless one does already.
 abbrev pub said_next : ReplyBytes → Saying → Saying
 said_next reply (Out other written) = Out other written
@@ -91,6 +86,10 @@ abbrev pub IsScreenedBy : Standing → List ℕ → List (List ℕ) → RefusalL
 IsScreenedBy session piece names told =
     ((what : Foreign) × (to_head : Bool) × Screens session piece names (ForeignTo what to_head) × (told ≡ line_of_foreign what to_head))
     ⊎ (told ≡ line_of Memory)
+
+-- The reply is this line or, if memory ran out, the line that says so.
+abbrev pub TellsLine : RefusalLine → ReplyBytes → Type 0
+TellsLine told reply = (bytes_of reply ≡ line_bytes told) ⊎ (bytes_of reply ≡ line_bytes memory_line)
 
 -- the reply that a connection is owed: nothing but such a line; the reply that its step has begun, or a line; or any reply to a
 -- request that isn't about silences
@@ -150,6 +149,13 @@ saying_in (works.PendingReply making) = Making making
 saying_in (works.Call call) = Elsewhere
 saying_in (works.HeldBack held) = Held held.reply
 saying_in (works.Reply outgoing) = Out outgoing.reply outgoing.written
+
+-- Of a reply that waited for a commit, the reply itself goes out if all is kept or the request has changed nothing, and otherwise
+-- the line that says that it isn't kept.
+abbrev pub IsReleased : Bool → Work → Saying → Type 0
+IsReleased kept (works.HeldBack held) saying =
+    MatchBool (kept || not held.is_change) (saying ≡ Out held.reply 0) ((reply : ReplyBytes) × TellsLine (own_line NotKept) reply × (saying ≡ Out reply 0))
+IsReleased kept work saying = saying ≡ saying_in work
 
 -- the connection that the code holds
 abbrev pub talk_of : Conversation → Talk

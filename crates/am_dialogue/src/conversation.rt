@@ -2,12 +2,13 @@
 
 ghost use Rattle.std.specs.Prelude.{◌≡◌, ◌≤◌, [], drop, length, take, true, Some, None, IfSome};
 ghost use Rattle.am_api_silences.specs.Replies.{bytes_of};
+ghost use Rattle.am_api_silences.specs.declared.replies.ReplyBytes.{ReplyBytes as Reply};
 ghost use Rattle.am_gate.specs.Gates.{before};
 ghost use Rattle.am_http.specs.Hosts.{texts};
 ghost use Rattle.am_http.specs.Lines.{line_seen};
 ghost use Rattle.am_http.specs.Sessions.{fresh, nothing, spoken};
 ghost use Rattle.am_dialogue.specs.Answered.{SaysBy};
-ghost use Rattle.am_dialogue.specs.Talks.{Closes, IsClosed, IsOwnLine, IsRequest, IsScreenedBy, Keeps, KeepsBy, KeepsGone, Lasts, Rests, Stays, pending_in, pending_of, released, said_next, sent_in, sent_on, talk_of};
+ghost use Rattle.am_dialogue.specs.Talks.{Closes, IsClosed, IsOwnLine, IsReleased, IsRequest, IsScreenedBy, Keeps, KeepsBy, KeepsGone, Lasts, Rests, Stays, TellsLine, pending_in, pending_of, said_next, sent_in, sent_on, talk_of};
 ghost use Rattle.am_dialogue.specs.Talks.Saying.{Silent};
 
 use crate::counting::{Account, Census};
@@ -224,6 +225,7 @@ impl Conversation {
         ensures refused { IsOwnLine (line_seen refusal.now) → IsClosed (talk_of self.old) (talk_of self.new) }
         ensures closes { Closes (talk_of self.old) (talk_of self.new) }
         ensures gone { KeepsGone (talk_of self.old).saying (talk_of self.new).saying }
+        ensures told { (reply : Reply) × TellsLine (line_seen refusal.now) reply × ((talk_of self.new).saying ≡ said_next reply (talk_of self.old).saying) }
     {
         self.session.stop();
         let PendingAnswer { making, .. } = refuse(alloc, refusal);
@@ -316,8 +318,8 @@ impl Conversation {
     /// Has the reply that waited for a commit go out; `is_kept` says whether the commit has kept everything.
     pub fn release(&mut self, alloc: Global, is_kept: bool)
         ensures lasts { Lasts (talk_of self.old) (talk_of self.new) }
-        // PROMISE: A reply that waited for a commit which kept everything goes out as it is.
-        ensures kept { is_kept ≡ true → (talk_of self.new).saying ≡ released (talk_of self.old).saying }
+        // PROMISE: A reply that waited for a commit goes out as it is if the commit has kept everything or the request has changed nothing, and otherwise a line with status 500 does.
+        ensures kept { IsReleased is_kept self.old.work (talk_of self.new).saying }
     {
         match mem::replace(&mut self.work, Work::Nothing) {
             Work::HeldBack(held) if is_kept || !held.is_change => self.say(held.reply),

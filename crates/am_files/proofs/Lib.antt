@@ -1,3 +1,4 @@
+pub mod Appended
 pub mod Joining
 pub mod ReadBatches
 pub mod Taken

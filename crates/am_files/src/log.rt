@@ -1,5 +1,8 @@
 //! The log of a state: what was taken since its file was written, on the disk before it is answered.
 
+ghost use Rattle.std.specs.Prelude.{◌≡◌, [], false, is_ok, OnOk, OnErr};
+ghost use Rattle.am_files.specs.Appending.{Appends, Commits, rows_in, trusted};
+
 use crate::beside::{LOG, OLD_LOG, beside, remove_logs};
 use crate::reading::{LogEnd, NO_LOG, fault_of};
 use am_disk::{FileFault, directory_of, make_like, sync_directory};
@@ -83,7 +86,9 @@ impl StateLog {
     }
 
     /// Returns whether what is added to the log will be on the disk.
-    pub fn is_trusted(&self) -> bool {
+    pub fn is_trusted(&self) -> bool
+        ensures { result ≡ trusted self.now }
+    {
         self.journal.is_some()
     }
 
@@ -92,7 +97,9 @@ impl StateLog {
     /// # Errors
     ///
     /// The reason why the rows don't wait, or why those before them weren't committed.
-    pub fn append(&mut self, alloc: Global, rows: &[u8]) -> Result<(), FileFault> {
+    pub fn append(&mut self, alloc: Global, rows: &[u8]) -> Result<(), FileFault>
+        ensures { OnOk result (Appends rows.now (rows_in self.old) (rows_in self.new)) }
+    {
         if rows.len() > MOST_OF_BATCH.saturating_sub(self.batch.len()) {
             self.commit(alloc)?;
         }
@@ -107,7 +114,10 @@ impl StateLog {
     /// # Errors
     ///
     /// The reason why the rows aren't on the disk.
-    pub fn commit(&mut self, alloc: Global) -> Result<(), FileFault> {
+    pub fn commit(&mut self, alloc: Global) -> Result<(), FileFault>
+        ensures ok { OnOk result (Commits (rows_in self.old) (rows_in self.new)) }
+        ensures err { OnErr result (trusted self.new ≡ false) }
+    {
         if self.batch.is_empty() {
             return Ok(());
         }
@@ -143,7 +153,9 @@ impl StateLog {
         &mut self,
         rt: &R,
         path: &str,
-    ) -> Result<(), FileFault> {
+    ) -> Result<(), FileFault>
+        ensures { (rows_in self.new).waiting ≡ (rows_in self.old).waiting }
+    {
         let name = beside(rt.alloc(), path, LOG)?;
         let old = beside(rt.alloc(), path, OLD_LOG)?;
         if !self.is_trusted() {
@@ -164,7 +176,10 @@ impl StateLog {
         &mut self,
         rt: &R,
         path: &str,
-    ) -> Result<(), FileFault> {
+    ) -> Result<(), FileFault>
+        ensures waiting { (rows_in self.new).waiting ≡ [] }
+        ensures anew { trusted self.new ≡ is_ok result }
+    {
         self.journal = None;
         self.batch.clear();
         remove_logs(rt, path)?;

@@ -1,5 +1,8 @@
 //! The files of a state, which belong to one process for as long as it lives.
 
+ghost use Rattle.std.specs.Prelude.{OnOk};
+ghost use Rattle.am_files.specs.Appending.{Appends, Commits, IfKept, IsBegunAnew, log_of};
+
 use crate::beside::{NEW, OLD_LOG, beside, remove, remove_logs};
 use crate::lock::lock_beside;
 use crate::log::StateLog;
@@ -128,7 +131,9 @@ impl StateFile {
         rt: &R,
         held: &Held<V>,
         most: u32,
-    ) -> Result<u64, FileFault> {
+    ) -> Result<u64, FileFault>
+        ensures { OnOk result (IsBegunAnew (log_of self.new)) }
+    {
         // (want of room may be the reason for this save)
         self.spent.close();
         let bytes = save_file(
@@ -145,7 +150,9 @@ impl StateFile {
     }
 
     /// Begins the log anew, if one is kept, and removes those of an earlier time. Everything they had is in the file.
-    fn end_logs<R: Files<File = File> + AllocGlobal>(&mut self, rt: &R) -> Result<(), FileFault> {
+    fn end_logs<R: Files<File = File> + AllocGlobal>(&mut self, rt: &R) -> Result<(), FileFault>
+        ensures { OnOk result (IsBegunAnew (log_of self.new)) }
+    {
         let path = self.path.as_str();
         match &mut self.log {
             Some(log) => log.begin_anew(rt, path),
@@ -225,7 +232,10 @@ impl StateFile {
     /// # Errors
     ///
     /// The reason why the rows don't wait.
-    pub fn append(&mut self, alloc: Global, rows: &[u8]) -> Result<(), FileFault> {
+    pub fn append(&mut self, alloc: Global, rows: &[u8]) -> Result<(), FileFault>
+        // PROMISE: A row that a member takes comes behind the rows that its log had.
+        ensures { OnOk result (IfKept (Appends rows.now) (log_of self.old) (log_of self.new)) }
+    {
         match &mut self.log {
             Some(log) => log.append(alloc, rows),
             None => Ok(()),
@@ -237,7 +247,10 @@ impl StateFile {
     /// # Errors
     ///
     /// The reason why the rows aren't on the disk.
-    pub fn commit(&mut self, alloc: Global) -> Result<(), FileFault> {
+    pub fn commit(&mut self, alloc: Global) -> Result<(), FileFault>
+        // PROMISE: A commit that succeeds has put all rows that waited on the disk, in their order.
+        ensures { OnOk result (IfKept Commits (log_of self.old) (log_of self.new)) }
+    {
         match &mut self.log {
             Some(log) => log.commit(alloc),
             None => Ok(()),

@@ -1,6 +1,9 @@
 //! Compaction of the files of a member that keeps logs: they are written anew while it serves, a stage in a turn of the loop, one
 //! file at a time.
 
+ghost use Rattle.std.specs.Prelude.{◌≡◌};
+ghost use Rattle.am_upkeep.specs.Stores.{store_of};
+
 use crate::upkeep::{Upkeep, sooner};
 use am_disk::FileFault;
 use am_faults::Fault;
@@ -109,7 +112,9 @@ impl<R> Upkeep<'_, R> {
     }
 
     /// Has each file written anew whose log has outgrown it.
-    pub(crate) fn want_outgrown(&mut self) {
+    pub(crate) fn want_outgrown(&mut self)
+        ensures { store_of self.new ≡ store_of self.old }
+    {
         self.compacting.silences.is_wanted |= self.silences.is_outgrown();
         self.compacting.log.is_wanted |= self.log.is_outgrown();
     }
@@ -117,7 +122,9 @@ impl<R> Upkeep<'_, R> {
 
 impl<R: Files + AllocGlobal> Upkeep<'_, R> {
     /// Gives up writing files anew, since both are saved.
-    pub(crate) fn give_up_compaction(&mut self) {
+    pub(crate) fn give_up_compaction(&mut self)
+        ensures { store_of self.new ≡ store_of self.old }
+    {
         match self.compacting.work {
             Work::Nothing => {}
             Work::Silences(_) => self.silences.drop_new(self.rt),

@@ -1,5 +1,8 @@
 //! The counts of frames, links and saves.
 
+ghost use Rattle.std.specs.Prelude.{◌≡◌};
+ghost use Rattle.am_upkeep.specs.Stores.{store_of};
+
 use crate::upkeep::Upkeep;
 use am_figures::{Cause, Figures, Kind, Step};
 use am_gossip::Frame;
@@ -65,7 +68,9 @@ pub(crate) fn count_handed(figures: &mut Figures, place: Place, frames: &[Frame]
 
 impl<R: Clock> Upkeep<'_, R> {
     /// Counts a save that was made now, or failed.
-    pub(crate) fn count_save(&mut self, of_silences: bool, is_done: bool) {
+    pub(crate) fn count_save(&mut self, of_silences: bool, is_done: bool)
+        ensures { store_of self.new ≡ store_of self.old }
+    {
         if is_done {
             let now = Instant::now(self.rt).ok();
             let since_1970 = since_1970(self.rt);
@@ -76,7 +81,9 @@ impl<R: Clock> Upkeep<'_, R> {
     }
 
     /// Counts that a save begins.
-    pub(crate) fn count_save_begun(&mut self, of_silences: bool) {
+    pub(crate) fn count_save_begun(&mut self, of_silences: bool)
+        ensures { store_of self.new ≡ store_of self.old }
+    {
         let now = Instant::now(self.rt).ok();
         self.figures.begin_save(of_silences, now);
     }

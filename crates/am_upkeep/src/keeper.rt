@@ -5,11 +5,10 @@ ghost use Rattle.am_instance.specs.OneStep.{IsStep};
 ghost use Rattle.am_instance.specs.declared.event.Event.TheVariants as events;
 ghost use Rattle.am_instance.specs.declared.reply.Outcome.{Outcome};
 ghost use Rattle.am_refusals.specs.declared.error.StepError.{StepError};
-ghost use Rattle.am_upkeep.specs.declared.keeping.Keeping.{Keeping as KeepingState};
+ghost use Rattle.am_upkeep.specs.Stores.{IsFollowed, IsKept, Store, store_of as upkeep_store};
 
 use crate::counting::count_handed;
 use crate::keeping::Keeping;
-use crate::saving::first_of;
 use crate::upkeep::Upkeep;
 use am_faults::Fault;
 use am_figures::{Figures, Step};
@@ -37,8 +36,8 @@ fn bytes_for_ends(silences: usize) -> u64 {
 /// A keeper of what a member holds: its files and logs, the lines that it prints, what it counts, and the frames that wait for
 /// peers. Whoever makes the steps of a member relies on this trait alone.
 pub trait Keeper {
-    /// The state of what is to be on the disk.
-    ghost keeping_of: { Self → KeepingState };
+    /// What is to be on the disk: the state of that, and the rows of the logs.
+    ghost store_of: { Self → Store };
 
     /// Returns the options that the member was started with.
     fn options(&self) -> &Options<'_>;
@@ -67,7 +66,7 @@ pub trait Keeper {
 
     /// Returns the state of what is to be on the disk.
     fn keeping(&self) -> Keeping
-        ensures { result ≡ keeping_of self.now };
+        ensures { result ≡ (store_of self.now).keeping };
 
     /// Notes that something comes that may change what is held, with at most this many bytes for the silences and for the log.
     fn take(&mut self, silences: u64, log: u64, is_change: bool);
@@ -94,7 +93,9 @@ pub trait Keeper {
     fn save_owed(&mut self, instance: &Instance);
 
     /// Makes sure of what was done so far: it is in the logs or, if they lack something, in the files.
-    fn keep(&mut self, instance: &Instance);
+    fn keep(&mut self, instance: &Instance)
+        // PROMISE: With logs, a commit has kept everything only if both logs have all their rows on the disk and lacked nothing, or both states were saved.
+        ensures { IsKept (store_of self.old) (store_of self.new) };
 
     /// Does the next stage of the file that is being written anew, if the logs lack nothing, and returns the time until the next
     /// one.
@@ -111,7 +112,8 @@ pub trait Keeper {
     fn tell_torn(&mut self, config: &Config);
 
     /// Prints a fault that is about a peer, if its place is known.
-    fn tell_of(&mut self, config: &Config, peer: Option<Place>, fault: Fault);
+    fn tell_of(&mut self, config: &Config, peer: Option<Place>, fault: Fault)
+        ensures { store_of self.new ≡ store_of self.old };
 
     /// Prints how many lines were left out of each kind for which that is due.
     fn settle_due_lines(&mut self, config: &Config, now: Instant);
@@ -126,7 +128,9 @@ pub trait Keeper {
         peer: Option<Place>,
         outbox: FrameSender,
         fault: Option<ConnectionFault>,
-    );
+    )
+        // PROMISE: With logs, each version that a step sends to the place of the disk is added to the log of its state, or the logs are known to lack it; and the next commit is due.
+        ensures { IsFollowed outbox (store_of self.old) (store_of self.new) };
 
     /// Returns whether no frame waits.
     fn sends_nothing(&self) -> bool;
@@ -153,7 +157,7 @@ pub trait Keeper {
 }
 
 impl<R: AllocGlobal + Clock + Eprint + Files<File = File>> Keeper for Upkeep<'_, R> {
-    ghost keeping_of = { λ upkeep. upkeep.keeping };
+    ghost store_of = { λ upkeep. upkeep_store upkeep };
 
     fn options(&self) -> &Options<'_> {
         self.options
@@ -233,16 +237,10 @@ impl<R: AllocGlobal + Clock + Eprint + Files<File = File>> Keeper for Upkeep<'_,
     }
 
     fn keep(&mut self, instance: &Instance) {
+        self.commit_silences(instance.config());
+        self.commit_log(instance.config());
         self.keeping.begin_commit();
-        let alloc = self.rt.alloc();
-        let silences = self.silences.commit(alloc).err().map(Fault::Silences);
-        self.tell_behind(instance.config(), silences);
-        let log = self.log.commit(alloc).err().map(Fault::Log);
-        self.tell_behind(instance.config(), log);
-        self.keeping.begin_commit();
-        if self.keeping.is_behind() {
-            self.save_behind(instance);
-        }
+        self.save_behind(instance);
         self.keeping.end_commit();
         self.want_outgrown();
     }
@@ -351,6 +349,6 @@ impl<R: AllocGlobal + Clock + Eprint + Files<File = File>> Keeper for Upkeep<'_,
     fn end(&mut self, instance: &Instance, failed: Option<Fault>) -> Option<Fault> {
         let unsaved = self.save(instance);
         self.settle_lines(instance.config());
-        first_of(failed, unsaved)
+        failed.or(unsaved)
     }
 }

@@ -1,6 +1,7 @@
 //! The state of what is to be on the disk before it is answered.
 
 ghost use Rattle.std.specs.Prelude.{◌≡◌};
+ghost use Rattle.am_upkeep.specs.Keepings.{behind, came, disk_of, fresh_with, keeps_logs, kept, uncommitted, with_begun, with_ended, with_lost, with_more, with_saved};
 
 use am_instance::Place;
 use std::time::{Duration, Instant};
@@ -31,7 +32,9 @@ pub struct Keeping {
 
 impl Keeping {
     /// Returns the state before anything came. The disk has this place, if logs are kept.
-    pub fn new(disk: Option<Place>) -> Keeping {
+    pub fn new(disk: Option<Place>) -> Keeping
+        ensures { result ≡ fresh_with disk }
+    {
         Keeping {
             disk,
             news: 0,
@@ -43,18 +46,24 @@ impl Keeping {
     }
 
     /// Returns whether logs are kept.
-    pub fn is_on(&self) -> bool {
+    pub fn is_on(&self) -> bool
+        ensures { result ≡ keeps_logs self.now }
+    {
         self.disk.is_some()
     }
 
     /// Notes that something came that is to be in a log.
-    pub fn add(&mut self) {
+    pub fn add(&mut self)
+        ensures { self.new ≡ with_more self.old }
+    {
         self.news = self.news.saturating_add(1);
         self.has_news = true;
     }
 
     /// Notes that something came that is in no log.
-    pub fn lose(&mut self) {
+    pub fn lose(&mut self)
+        ensures { self.new ≡ with_lost self.old }
+    {
         if self.is_on() {
             self.add();
             self.is_behind = true;
@@ -62,49 +71,65 @@ impl Keeping {
     }
 
     /// Returns the place of the disk among the members, if logs are kept.
-    pub fn disk(&self) -> Option<Place> {
+    pub fn disk(&self) -> Option<Place>
+        ensures { result ≡ disk_of self.now }
+    {
         self.disk
     }
 
     /// Notes that a commit begins: nothing has come since.
-    pub fn begin_commit(&mut self) {
+    pub fn begin_commit(&mut self)
+        ensures { self.new ≡ with_begun self.old }
+    {
         self.has_news = false;
     }
 
     /// Notes that the commit is over: all that was done before is kept, if the logs lack nothing.
-    pub fn end_commit(&mut self) {
+    pub fn end_commit(&mut self)
+        ensures { self.new ≡ with_ended self.old }
+    {
         self.is_kept = !self.is_behind;
     }
 
     /// Returns the number of times that something came.
-    pub fn news(&self) -> u64 {
+    pub fn news(&self) -> u64
+        ensures { result ≡ came self.now }
+    {
         self.news
     }
 
     /// Returns whether something came since the last commit.
     pub fn has_news(&self) -> bool
-        ensures { result ≡ self.now.has_news }
+        ensures { result ≡ uncommitted self.now }
     {
         self.has_news
     }
 
     /// Returns whether all that was done before the last commit is kept.
-    pub fn is_kept(&self) -> bool {
+    pub fn is_kept(&self) -> bool
+        ensures { result ≡ kept self.now }
+    {
         self.is_kept
     }
 
     /// Notes that everything is in the files, and the logs are begun anew.
-    pub fn is_saved(&mut self) {
+    pub fn is_saved(&mut self)
+        ensures { self.new ≡ with_saved self.old }
+    {
         self.is_behind = false;
     }
 
     /// Returns whether the logs lack something, so that nothing is kept before a save.
-    pub fn is_behind(&self) -> bool {
+    pub fn is_behind(&self) -> bool
+        ensures { result ≡ behind self.now }
+    {
         self.is_behind
     }
 
     /// Returns whether a save may be made because the logs lack something. If so, none may before a second is over.
-    pub fn may_save(&mut self, now: Instant) -> bool {
+    pub fn may_save(&mut self, now: Instant) -> bool
+        ensures { self.new ≡ record self.old { next_save = self.new.next_save } }
+    {
         if let Some(next) = self.next_save
             && now < next
         {
@@ -112,10 +137,5 @@ impl Keeping {
         }
         self.next_save = now.checked_add(Duration::from_millis(SAVE_AT_MOST_EVERY));
         true
-    }
-
-    /// Returns whether this is the place of the disk.
-    pub fn is_disk(&self, place: Place) -> bool {
-        self.disk == Some(place)
     }
 }

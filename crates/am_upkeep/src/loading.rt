@@ -1,5 +1,11 @@
 //! Loading of what a member holds at its start.
 
+ghost use Rattle.std.specs.Prelude.{◌≡◌, IfOk};
+ghost use Rattle.am_files.specs.Appending.{log_of};
+ghost use Rattle.am_instance.specs.Configs.{place_named};
+ghost use Rattle.am_upkeep.specs.Keepings.{fresh_with};
+ghost use Rattle.am_upkeep.specs.Stores.{store_of};
+
 use crate::compaction::Compacting;
 use crate::counting::since_1970;
 use crate::host::Host;
@@ -118,7 +124,12 @@ fn loaded_of(
     silences: OpenedState<MeshSilence>,
     log: OpenedState<MeshEntry>,
     now: Moment,
-) -> Loaded {
+) -> Loaded
+    // PROMISE: A member starts with all that was read of its files and their logs.
+    ensures silences { result.instance.silences ≡ silences.held }
+    ensures log { result.instance.log ≡ log.held }
+    ensures last { result.instance.last ≡ now }
+{
     let OpenedState { file, held } = silences;
     let OpenedState {
         file: log_file,
@@ -172,7 +183,12 @@ fn upkeep_of<'a, R: AllocGlobal + Clock>(
     loaded: Loaded,
     figures: Figures,
     lines: Lines,
-) -> (Instance, Upkeep<'a, R>) {
+) -> (Instance, Upkeep<'a, R>)
+    ensures instance { result.0 ≡ loaded.instance }
+    ensures keeping { result.1.keeping ≡ fresh_with (place_named loaded.instance.config DISK.now) }
+    ensures silences { (store_of result.1).silences ≡ log_of loaded.silences }
+    ensures log { (store_of result.1).log ≡ log_of loaded.log }
+{
     let Loaded {
         instance,
         silences,
@@ -213,7 +229,9 @@ impl<'a, R: Host> Upkeep<'a, R> {
         options: &'a Options<'a>,
         config: Config,
         lock: Option<Lock<'a>>,
-    ) -> Result<(Instance, Self), Fault> {
+    ) -> Result<(Instance, Self), Fault>
+        ensures { IfOk result (λ loaded. loaded.1.keeping ≡ fresh_with (place_named loaded.0.config DISK.now)) }
+    {
         let Ok((figures, lines)) = empty(rt, &config, options) else {
             return Err(Fault::Config(ConfigError::Memory));
         };

@@ -3,6 +3,13 @@
 //! The disk is told as a peer is: it has a name of its own, after those of all members, so each version that changes a map is
 //! sent to it too, and what is sent to it goes into the logs.
 
+ghost use Rattle.std.specs.Prelude.{◌≡◌, [], ◌∷◌, is_some, true, IfSome};
+ghost use Rattle.am_gossip.specs.declared.frame.StateKey.TheVariants.{Sil, Nfl};
+ghost use Rattle.am_files.specs.Appending.{log_of};
+ghost use Rattle.am_peers.specs.Queues.{frames_for};
+ghost use Rattle.am_upkeep.specs.Keepings.{disk_of, keeps_logs};
+ghost use Rattle.am_upkeep.specs.Stores.{AreLogged, GoesOn, HasCommitted, IsLogged, lost_if, rows_if, store_of};
+
 use crate::upkeep::Upkeep;
 use am_faults::Fault;
 use am_gossip::{Frame, Part, StateKey};
@@ -12,7 +19,9 @@ use std::rt::Clock;
 
 impl<R: Clock + Eprint> Upkeep<'_, R> {
     /// Tells why the logs lack something, if they do.
-    pub(crate) fn tell_behind(&mut self, config: &Config, fault: Option<Fault>) {
+    pub(crate) fn tell_behind(&mut self, config: &Config, fault: Option<Fault>)
+        ensures { store_of self.new ≡ lost_if (is_some fault) (store_of self.old) }
+    {
         if let Some(fault) = fault {
             self.keeping.lose();
             self.tell(config, fault);
@@ -26,7 +35,10 @@ impl<R: AllocGlobal + Clock + Eprint> Upkeep<'_, R> {
         &mut self,
         config: &Config,
         frames: Vec<(Place, Frame)>,
-    ) -> Vec<(Place, Frame)> {
+    ) -> Vec<(Place, Frame)>
+        ensures logged { IfSome (disk_of self.old.keeping) (λ disk. IsLogged (frames_for disk frames.items) (store_of self.old) (store_of self.new)) }
+        ensures goes_on { GoesOn self.old.keeping self.new.keeping }
+    {
         let Some(disk) = self.keeping.disk() else {
             return frames;
         };
@@ -44,7 +56,9 @@ impl<R: AllocGlobal + Clock + Eprint> Upkeep<'_, R> {
     }
 
     /// Puts a version into the log of its state.
-    fn log_frame(&mut self, config: &Config, frame: &Frame) {
+    fn log_frame(&mut self, config: &Config, frame: &Frame)
+        ensures { IsLogged (frame.now ∷ []) (store_of self.old) (store_of self.new) }
+    {
         if let Frame::Delta(part) = frame {
             self.keeping.add();
             self.log_part(config, part);
@@ -52,7 +66,11 @@ impl<R: AllocGlobal + Clock + Eprint> Upkeep<'_, R> {
     }
 
     /// Puts rows into the log of their state. If that fails, it is told, and the logs lack something.
-    fn log_part(&mut self, config: &Config, part: &Part) {
+    fn log_part(&mut self, config: &Config, part: &Part)
+        ensures rows { keeps_logs self.old.keeping ≡ true → AreLogged (rows_if Sil part.now.key part.now.bytes) (rows_if Nfl part.now.key part.now.bytes)
+            (store_of self.old) (store_of self.new) }
+        ensures goes_on { GoesOn self.old.keeping self.new.keeping }
+    {
         let alloc = self.rt.alloc();
         let rows = part.bytes.as_slice();
         let failed = match part.key {
@@ -60,5 +78,20 @@ impl<R: AllocGlobal + Clock + Eprint> Upkeep<'_, R> {
             StateKey::Nfl => self.log.append(alloc, rows).err().map(Fault::Log),
         };
         self.tell_behind(config, failed);
+    }
+    /// Hands the rows of silences that wait to the disk. If that fails, it is told, and the logs lack something.
+    pub(crate) fn commit_silences(&mut self, config: &Config)
+        ensures { HasCommitted self.old.keeping self.new.keeping (log_of self.old.silences) (log_of self.old.log) (log_of self.new.silences) (log_of self.new.log) }
+    {
+        let committed = self.silences.commit(self.rt.alloc());
+        self.tell_behind(config, committed.err().map(Fault::Silences));
+    }
+
+    /// Hands the rows of the log that wait to the disk. If that fails, it is told, and the logs lack something.
+    pub(crate) fn commit_log(&mut self, config: &Config)
+        ensures { HasCommitted self.old.keeping self.new.keeping (log_of self.old.log) (log_of self.old.silences) (log_of self.new.log) (log_of self.new.silences) }
+    {
+        let committed = self.log.commit(self.rt.alloc());
+        self.tell_behind(config, committed.err().map(Fault::Log));
     }
 }

@@ -1,5 +1,9 @@
 //! The saves of both states while everybody waits, and when they are made.
 
+ghost use Rattle.std.specs.Prelude.{◌≡◌, IfNone};
+ghost use Rattle.am_files.specs.Appending.{IsBegunAnew, log_of};
+ghost use Rattle.am_upkeep.specs.Stores.{HasSaved, MaySave, store_of};
+
 use crate::upkeep::Upkeep;
 use am_faults::Fault;
 use am_instance::Instance;
@@ -7,35 +11,38 @@ use std::fs::File;
 use std::rt::{Clock, Files};
 use std::time::Instant;
 
-/// Returns the first of two faults, if there is one.
-pub(crate) fn first_of(one: Option<Fault>, other: Option<Fault>) -> Option<Fault> {
-    match one {
-        Some(fault) => Some(fault),
-        None => other,
-    }
-}
-
 impl<R: AllocGlobal + Clock + Eprint + Files<File = File>> Upkeep<'_, R> {
     /// Saves the silences, and then the log, while everybody waits. Returns the first fault; each is told.
-    pub(crate) fn save(&mut self, instance: &Instance) -> Option<Fault> {
+    pub(crate) fn save(&mut self, instance: &Instance) -> Option<Fault>
+        ensures { HasSaved result (store_of self.old) (store_of self.new) }
+    {
         self.give_up_compaction();
-        self.count_save_begun(true);
         let silences = self.save_silences(instance);
-        self.count_save(true, silences.is_none());
-        self.count_save_begun(false);
         let log = self.save_log(instance);
-        self.count_save(false, log.is_none());
-        self.is_changed = silences.is_some() || log.is_some();
-        if !self.is_changed {
-            self.keeping.is_saved();
+        match silences.or(log) {
+            None => {
+                self.is_changed = false;
+                self.keeping.is_saved();
+                None
+            }
+            Some(fault) => {
+                self.is_changed = true;
+                Some(fault)
+            }
         }
-        first_of(silences, log)
     }
 
     /// Saves the silences, and returns the reason why they are not saved, if they aren't, which is told.
-    fn save_silences(&mut self, instance: &Instance) -> Option<Fault> {
+    fn save_silences(&mut self, instance: &Instance) -> Option<Fault>
+        ensures anew { IfNone result (IsBegunAnew (log_of self.new.silences)) }
+        ensures keeping { self.new.keeping ≡ self.old.keeping }
+        ensures log { log_of self.new.log ≡ log_of self.old.log }
+    {
         let most = self.options.most_bytes;
-        match self.silences.save(self.rt, instance.silences(), most) {
+        self.count_save_begun(true);
+        let saved = self.silences.save(self.rt, instance.silences(), most);
+        self.count_save(true, saved.is_ok());
+        match saved {
             Ok(bytes) => {
                 self.silences_room.is_counted(bytes);
                 None
@@ -48,9 +55,16 @@ impl<R: AllocGlobal + Clock + Eprint + Files<File = File>> Upkeep<'_, R> {
     }
 
     /// Saves the log, and returns the reason why it is not saved, if it isn't, which is told.
-    fn save_log(&mut self, instance: &Instance) -> Option<Fault> {
+    fn save_log(&mut self, instance: &Instance) -> Option<Fault>
+        ensures anew { IfNone result (IsBegunAnew (log_of self.new.log)) }
+        ensures keeping { self.new.keeping ≡ self.old.keeping }
+        ensures silences { log_of self.new.silences ≡ log_of self.old.silences }
+    {
         let most = self.options.most_bytes;
-        match self.log.save(self.rt, instance.log(), most) {
+        self.count_save_begun(false);
+        let saved = self.log.save(self.rt, instance.log(), most);
+        self.count_save(false, saved.is_ok());
+        match saved {
             Ok(bytes) => {
                 self.log_room.is_counted(bytes);
                 None
@@ -71,12 +85,19 @@ impl<R: AllocGlobal + Clock + Eprint + Files<File = File>> Upkeep<'_, R> {
         }
     }
 
-    /// Saves both states, if the last such save was at least a second ago.
-    pub(crate) fn save_behind(&mut self, instance: &Instance) {
-        if let Ok(now) = Instant::now(self.rt)
-            && self.keeping.may_save(now)
-        {
-            self.save(instance);
+    /// Saves both states if the logs lack something, unless the last such save was less than a second ago.
+    pub(crate) fn save_behind(&mut self, instance: &Instance)
+        ensures { MaySave (store_of self.old) (store_of self.new) }
+    {
+        if !self.keeping.is_behind() {
+            return;
         }
+        let Ok(now) = Instant::now(self.rt) else {
+            return;
+        };
+        if !self.keeping.may_save(now) {
+            return;
+        }
+        self.save(instance);
     }
 }

@@ -1,5 +1,10 @@
 //! The frames that wait for peers.
 
+ghost use Rattle.std.specs.Prelude.{IfSome};
+ghost use Rattle.am_peers.specs.Queues.{frames_for};
+ghost use Rattle.am_upkeep.specs.Keepings.{disk_of};
+ghost use Rattle.am_upkeep.specs.Stores.{GoesOn, IsLogged, store_of};
+
 use crate::upkeep::Upkeep;
 use am_faults::Fault;
 use am_gossip::Frame;
@@ -44,7 +49,10 @@ impl<R: AllocGlobal> Upkeep<'_, R> {
 
 impl<R: AllocGlobal + Clock + Eprint> Upkeep<'_, R> {
     /// Has frames wait to be handed out.
-    pub(crate) fn queue_frames(&mut self, config: &Config, frames: Vec<(Place, Frame)>) {
+    pub(crate) fn queue_frames(&mut self, config: &Config, frames: Vec<(Place, Frame)>)
+        ensures logged { IfSome (disk_of self.old.keeping) (λ disk. IsLogged (frames_for disk frames.items) (store_of self.old) (store_of self.new)) }
+        ensures goes_on { GoesOn self.old.keeping self.new.keeping }
+    {
         let mut frames = self.log_frames(config, frames);
         if self.queue.append(&mut frames).is_err() {
             self.tell(config, Fault::UnsentMemory(frames.len()));

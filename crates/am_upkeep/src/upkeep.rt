@@ -1,9 +1,10 @@
 //! A member apart from what it holds, and from those who connect to it.
 
-ghost use Rattle.std.specs.Prelude.{Result};
+ghost use Rattle.std.specs.Prelude.{◌≡◌, Result};
 ghost use Rattle.am_instance.specs.OneStep.{IsStep};
 ghost use Rattle.am_instance.specs.declared.reply.Outcome.{Outcome};
 ghost use Rattle.am_refusals.specs.declared.error.StepError.{StepError};
+ghost use Rattle.am_upkeep.specs.Stores.{IsFollowed, store_of};
 
 use crate::compaction::Compacting;
 use crate::keeping::Keeping;
@@ -96,7 +97,9 @@ pub fn place_of(config: &Config, name: Option<&str>) -> Option<Place> {
 
 impl<R: Clock + Eprint> Upkeep<'_, R> {
     /// Prints a fault.
-    pub(crate) fn tell(&mut self, config: &Config, fault: Fault) {
+    pub(crate) fn tell(&mut self, config: &Config, fault: Fault)
+        ensures { store_of self.new ≡ store_of self.old }
+    {
         let told = Told { fault, peer: None };
         self.lines.tell(self.rt, config.members(), told);
     }
@@ -107,7 +110,9 @@ impl<R: Clock + Eprint> Upkeep<'_, R> {
     }
 
     /// Prints how many frames are not sent.
-    fn tell_unsent(&mut self, config: &Config, unsent: Unsent) {
+    fn tell_unsent(&mut self, config: &Config, unsent: Unsent)
+        ensures { store_of self.new ≡ store_of self.old }
+    {
         if unsent.memory > 0 {
             self.tell(config, Fault::UnsentMemory(unsent.memory));
         }
@@ -133,7 +138,9 @@ impl<R: Clock + Eprint> Upkeep<'_, R> {
 
 impl<R: AllocGlobal + Clock + Eprint> Upkeep<'_, R> {
     /// Follows up a step: its frames go out.
-    pub(crate) fn follow_step(&mut self, config: &Config, outbox: FrameSender) {
+    pub(crate) fn follow_step(&mut self, config: &Config, outbox: FrameSender)
+        ensures { IsFollowed outbox (store_of self.old) (store_of self.new) }
+    {
         let FrameSender { frames, unsent } = outbox;
         if unsent.memory > 0 || unsent.limit > 0 {
             self.keeping.lose();

@@ -1,6 +1,9 @@
 //! The work that a member does for the loop that serves it.
 
 ghost use Rattle.std.specs.Prelude.{◌≡◌, false};
+ghost use Rattle.am_dialogue.specs.Talks.{IsReleased, Lasts, talk_of};
+ghost use Rattle.am_upkeep.specs.Keepings.{kept, uncommitted};
+ghost use Rattle.am_upkeep.specs.Stores.{IsKept};
 
 use super::clerk::Clerk;
 use super::counting::{count_broken, count_where_done};
@@ -36,7 +39,7 @@ fn fault_of(broken: Broken, is_over: bool) -> Option<Fault> {
 
 impl<U: Keeper> Attendant for Clerk<'_, U> {
     // (this says nothing about the bytes, only that all that came before them was committed)
-    ghost offers = { λ clerk peer bytes clerk'. (U.keeping_of clerk.desk.upkeep).has_news ≡ false };
+    ghost offers = { λ clerk peer bytes clerk'. uncommitted (U.store_of clerk.desk.upkeep).keeping ≡ false };
 
     fn begin(&mut self, entrance: Entrance) -> Conversation {
         self.desk.upkeep.figures().begin();
@@ -89,15 +92,23 @@ impl<U: Keeper> Attendant for Clerk<'_, U> {
         self.desk.go_on(instance, dialogue);
     }
 
-    fn has_uncommitted(&self) -> bool {
+    fn has_uncommitted(&self) -> bool
+        ensures { result ≡ uncommitted (U.store_of self.now.desk.upkeep).keeping }
+    {
         self.desk.upkeep.keeping().has_news()
     }
 
-    fn commit(&mut self, instance: &Instance) {
+    fn commit(&mut self, instance: &Instance)
+        ensures { IsKept (U.store_of self.old.desk.upkeep) (U.store_of self.new.desk.upkeep) }
+    {
         self.desk.upkeep.keep(instance);
     }
 
-    fn release(&mut self, dialogue: &mut Conversation) {
+    fn release(&mut self, dialogue: &mut Conversation)
+        ensures lasts { Lasts (talk_of dialogue.old) (talk_of dialogue.new) }
+        // PROMISE: A reply that says that something changed goes out after a commit only if the commit has kept everything, and otherwise a line with status 500 does.
+        ensures kept { IsReleased (kept (U.store_of self.old.desk.upkeep).keeping) dialogue.old.work (talk_of dialogue.new).saying }
+    {
         let is_kept = self.desk.upkeep.keeping().is_kept();
         dialogue.release(self.desk.alloc, is_kept);
     }
