@@ -1,13 +1,18 @@
--- A list that is being written is taken out, and goes on.
-use Rattle.std.proofs.Common.{◌≡◌, refl, subst}
+-- What is being made is taken out, and goes on.
+use Rattle.std.proofs.Common.{◌≡◌, refl, subst, sym}
 use Rattle.am_api_silences.specs.declared.pending_reply.PendingReply.{PendingReply}
-use Rattle.am_dialogue.proofs.Sayings.{making_lasts}
+use Rattle.am_dialogue.proofs.Sayings.{elsewhere_lasts, making_lasts}
 use Rattle.am_dialogue.proofs.Steps.{nothing_made}
-use Rattle.am_dialogue.specs.Talks.{KeepsBy, Stays, Talk, saying_in, waiting_in}
+use Rattle.am_dialogue.specs.Answered.{ForPages}
+use Rattle.am_dialogue.specs.Calls.{IsProgressOf}
+use Rattle.am_dialogue.specs.Talks.{IsOwed, KeepsBy, KeepsGone, Lasts, Rests, Stays, Talk, saying_in, waiting_in}
+use Rattle.am_dialogue.specs.Talks.Owed.{Answer}
+use Rattle.am_dialogue.specs.declared.conversation.CallProgress.{CallProgress}
 use Rattle.am_dialogue.specs.declared.conversation.Work.{Work}
 use Rattle.am_dialogue.specs.declared.conversation.Work.TheVariants as works
 use Rattle.am_gate.specs.Gates.{Way}
 use Rattle.am_http.specs.Sessions.{Standing}
+use Rattle.am_http.specs.declared.request.Request.{Request}
 use Rattle.am_instance.specs.InstanceStates.{InstanceState}
 use Rattle.am_living.specs.Talking.{IsTakenUp}
 use Rattle.am_member.specs.Lives.{IsPagingEvent}
@@ -27,3 +32,23 @@ list_taken_up way session work left old new next making emptied is same stays by
           (subst (λ (w : Work). Stays (talk_with way session w) next) emptied stays)
           (subst (λ (w : Work). KeepsBy making (saying_in w) next.saying) emptied by);
     })
+
+-- ---- an answer that isn't about silences
+
+module _ (way : Way) (session : Standing) (work left : Work) (next : Talk) (call : CallProgress) (emptied : left ≡ works.Nothing) (is : works.Call call ≡ work)
+    (rests : Rests (talk_with way session left) next) (gone : KeepsGone (saying_in left) next.saying)
+    (replied : (request : Request) → IsOwed (Answer request) (saying_in left) → IsProgressOf request call → IsOwed (Answer request) next.saying) where
+  went_on : Lasts (talk_with way session (works.Call call)) next
+  went_on = elsewhere_lasts call (talk_with way session (works.Call call)) next refl refl
+      (subst (λ (w : Work). Rests (talk_with way session w) next) emptied rests)
+      (subst (λ (w : Work). KeepsGone (saying_in w) next.saying) emptied gone)
+      (λ request came. replied request (subst (λ (w : Work). IsOwed (Answer request) (saying_in w)) (sym emptied) tt) came)
+
+  -- it goes on
+  pub call_lasts : Lasts (talk_with way session work) next
+  call_lasts = subst (λ (w : Work). Lasts (talk_with way session w) next) is went_on
+
+  -- it goes on in its place in the line
+  pub call_taken_up : (old new : InstanceState) → ForPages old new → IsTakenUp (waiting_in work) old (talk_with way session work) new next
+  call_taken_up old new steps =
+      subst (λ (w : Work). IsTakenUp (waiting_in w) old (talk_with way session w) new next) is (record { steps = steps; lasts = went_on })

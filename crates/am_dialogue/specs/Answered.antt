@@ -14,7 +14,7 @@ use Rattle.am_member.specs.declared.session_answer.SessionAnswer.{SessionAnswer}
 use Rattle.am_member.specs.Exchanging.{IsSessionAnswer, left_at}
 use Rattle.am_member.specs.Lives.{IsOwnEvent, IsPagingEvent}
 use Rattle.am_member.specs.Sparing.{spared}
-use Rattle.am_dialogue.specs.Talks.{Closes, IsElsewhere, IsRequest, Keeps, KeepsBy, KeepsGone, Saying, Talk, WaitsNoMore}
+use Rattle.am_dialogue.specs.Talks.{Closes, IsElsewhere, IsOwed, IsRequest, Keeps, KeepsBy, KeepsGone, Owed, Owes, Saying, Talk, WaitsNoMore}
 use Rattle.am_dialogue.specs.Talks.Saying.{Silent}
 
 -- ---- steps that are no turns of a connection
@@ -73,11 +73,15 @@ pub record IsRefused (old : InstanceState) (saying : Saying) (new : InstanceStat
   pub same : new ≡ old
   pub line : Keeps saying saying'
 
--- A request isn't about silences: nothing was done but steps for a program that sends pages, and nothing more went out.
+-- A request isn't about silences: nothing was done but steps for a program that sends pages, and nothing more went out. What is
+-- replied is what the request is owed.
 pub record IsElsewhereDone (said : Spoken) (old : InstanceState) (saying : Saying) (new : InstanceState) (saying' : Saying) : Type 0 where
   pub elsewhere : IsElsewhere said
   pub steps : ForPages old new
   pub gone : KeepsGone saying saying'
+  pub owed : Owed
+  pub owes : Owes said owed
+  pub replied : IsOwed owed saying → IsOwed owed saying'
 
 -- No more is heard: what was said is refused, or isn't about silences.
 pub record IsLeft (said : Spoken) (old : InstanceState) (talk : Talk) (new : InstanceState) (talk' : Talk) : Type 0 where

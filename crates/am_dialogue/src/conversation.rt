@@ -7,7 +7,8 @@ ghost use Rattle.am_http.specs.Hosts.{texts};
 ghost use Rattle.am_http.specs.Lines.{line_seen};
 ghost use Rattle.am_http.specs.Sessions.{fresh, nothing, spoken};
 ghost use Rattle.am_dialogue.specs.Answered.{SaysBy};
-ghost use Rattle.am_dialogue.specs.Talks.{Closes, IsClosed, IsOwnLine, IsRequest, IsScreenedBy, Keeps, KeepsBy, KeepsGone, Lasts, Rests, Stays, pending_in, pending_of, released, said_next, sent_in, sent_on, talk_of};
+ghost use Rattle.am_dialogue.specs.Calls.{WhenTold};
+ghost use Rattle.am_dialogue.specs.Talks.{Closes, IsClosed, IsComing, IsOwnLine, IsReplyTo, IsRequest, IsScreenedBy, Keeps, KeepsBy, KeepsGone, KeepsIf, Lasts, Rests, Stays, pending_in, pending_of, released, said_next, sent_in, sent_on, talk_of};
 ghost use Rattle.am_dialogue.specs.Talks.Saying.{Silent};
 
 use crate::counting::{Account, Census};
@@ -224,6 +225,7 @@ impl Conversation {
         ensures refused { IsOwnLine (line_seen refusal.now) → IsClosed (talk_of self.old) (talk_of self.new) }
         ensures closes { Closes (talk_of self.old) (talk_of self.new) }
         ensures gone { KeepsGone (talk_of self.old).saying (talk_of self.new).saying }
+        ensures told { KeepsIf (λ owed. WhenTold (IsReplyTo owed) (line_seen refusal.now)) (talk_of self.old).saying (talk_of self.new).saying }
     {
         self.session.stop();
         let PendingAnswer { making, .. } = refuse(alloc, refusal);
@@ -352,6 +354,7 @@ impl Conversation {
     pub fn put_off(&mut self, call: CallProgress)
         ensures stays { Stays (talk_of self.old) (talk_of self.new) }
         ensures gone { KeepsGone (talk_of self.old).saying (talk_of self.new).saying }
+        ensures comes { KeepsIf (λ owed. IsComing owed call) (talk_of self.old).saying (talk_of self.new).saying }
     {
         if !matches!(self.work, Work::Reply(_)) {
             self.set(Work::Call(call));
@@ -362,6 +365,8 @@ impl Conversation {
     pub fn go_on_log(&mut self, alloc: Global, writing: LogWriting)
         ensures rests { Rests (talk_of self.old) (talk_of self.new) }
         ensures gone { KeepsGone (talk_of self.old).saying (talk_of self.new).saying }
+        // PROMISE: The log that is written in stretches is answered whole, as it was when that began.
+        ensures comes { KeepsIf (λ owed. IsComing owed (CallProgress.Log writing)) (talk_of self.old).saying (talk_of self.new).saying }
     {
         if writing.is_written() {
             return self.say(writing.finish(alloc));

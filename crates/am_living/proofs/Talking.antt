@@ -353,6 +353,21 @@ keeps_saying talk talk' (inr closes) = closes.saying
 silent_owed : (owed : Owed) (saying : Saying) → saying ≡ Silent → IsOwed owed saying
 silent_owed owed saying silent = subst (IsOwed owed) (sym silent) tt
 
+-- what is owed elsewhere stays so
+still_elsewhere : (fed : List ℕ) (standing : Standing) (turns : List Turn) (Is Then : Owed → Type 0) → ((owed : Owed) → Is owed → Then owed) →
+    HasAskedElsewhere fed standing turns Is → HasAskedElsewhere fed standing turns Then
+still_elsewhere fed standing turns Is Then on asks = record {
+  came = asks.came;
+  said = asks.said;
+  left = asks.left;
+  tells = asks.tells;
+  elsewhere = asks.elsewhere;
+  bytes = asks.bytes;
+  owed = asks.owed;
+  owes = asks.owes;
+  such = on asks.owed asks.such;
+}
+
 -- where it stands
 abbrev Stands : List ℕ → Standing → List Turn → Talk → Type 0
 Stands fed standing turns talk = IsHeard talk fed standing turns ⊎ (HasAsked talk fed standing turns ⊎ IsDone talk fed standing turns)
@@ -404,7 +419,10 @@ module _ (fed : List ℕ) (standing : Standing) (turns : List Turn) (talk talk' 
     waiting = no_more_waits talk talk' done.waiting lasts;
     ended = ended_on talk talk' done.ended lasts;
     bytes = along talk.way talk'.way fed turns done.rest (same_way talk talk' lasts) done.bytes;
-    owed = elim done.owed [ inl owed ↦ inl ((keeps_saying talk talk' lasts).owed (owed_by turns) owed) | inr asks ↦ inr asks ];
+    owed = elim done.owed [
+      | inl owed ↦ inl ((keeps_saying talk talk' lasts).owed (owed_by turns) owed)
+      | inr asks ↦ inr (still_elsewhere fed standing turns (λ o. IsOwed o talk.saying) (λ o. IsOwed o talk'.saying) (keeps_saying talk talk' lasts).owed asks)
+    ];
   }))
 
 -- the session of what lasts is the same, or over
@@ -535,7 +553,8 @@ module _ (connection : ℕ) (standings : ℕ → Standing) (old new : InstanceSt
         }));
       })
 
-  left_owed : Comes → IsLeft said old talk new talk' → IsOwed (owed_by turns) talk'.saying ⊎ HasAskedElsewhere passed.fed (standings connection) turns
+  left_owed : Comes → IsLeft said old talk new talk' →
+      IsOwed (owed_by turns) talk'.saying ⊎ HasAskedElsewhere passed.fed (standings connection) turns (λ o. IsOwed o talk'.saying)
   left_owed comes left = elim left.done [
     | inl refused ↦ inl (refused.line.owed (owed_by turns) (silent_owed (owed_by turns) talk.saying comes.silent))
     | inr done ↦ inr (record {
@@ -545,6 +564,9 @@ module _ (connection : ℕ) (standings : ℕ → Standing) (old new : InstanceSt
       tells = comes.tells;
       elsewhere = done.elsewhere;
       bytes = comes.plain done.elsewhere;
+      owed = done.owed;
+      owes = done.owes;
+      such = done.replied (silent_owed done.owed talk.saying comes.silent);
     })
   ]
 
@@ -735,7 +757,7 @@ gate_through kind (Some lock) challenge shut session piece told way' session' so
 sent_owed : (count : ℕ) (owed : Owed) (saying : Saying) → IsOwed owed saying → IsOwed owed (sent_on count saying)
 sent_owed count owed Silent was = was
 sent_owed count owed (Making making) was = was
-sent_owed count owed Elsewhere was = was
+sent_owed count owed (Elsewhere call) was = was
 sent_owed count owed (HeldBack reply) was = was
 sent_owed count owed (Out reply written) was = was
 
@@ -784,7 +806,11 @@ module _ (fed : List ℕ) (standing : Standing) (turns : List Turn) (talk : Talk
     waiting = done.waiting;
     ended = done.ended;
     bytes = sent_fed talk.way done.rest first_of done.bytes;
-    owed = elim done.owed [ inl owed ↦ inl (sent_owed count (owed_by turns) talk.saying owed) | inr asks ↦ inr asks ];
+    owed = elim done.owed [
+      | inl owed ↦ inl (sent_owed count (owed_by turns) talk.saying owed)
+      | inr asks ↦ inr (still_elsewhere fed standing turns (λ o. IsOwed o talk.saying) (λ o. IsOwed o (sent_on count talk.saying))
+          (λ o was. sent_owed count o talk.saying was) asks)
+    ];
   }))
 
 -- what passed, by what was fed more, or went out
@@ -952,10 +978,10 @@ module _ (passed : Passed) (standing : Standing) (turns : List Turn) where
   abbrev Replies : Saying → Type 0
   Replies saying = (gone_of saying ≡ []) ⊎ ((reply : ReplyBytes) × IsFirstPart (gone_of saying) (reply_bytes reply) × IsMeantFor passed.fed standing turns reply)
 
-  owed_replied : (saying : Saying) → IsOwed (owed_by turns) saying ⊎ HasAskedElsewhere passed.fed standing turns → Replies saying
+  owed_replied : (saying : Saying) → IsOwed (owed_by turns) saying ⊎ HasAskedElsewhere passed.fed standing turns (λ o. IsOwed o saying) → Replies saying
   owed_replied Silent owed = inl refl
   owed_replied (Making making) owed = inl refl
-  owed_replied Elsewhere owed = inl refl
+  owed_replied (Elsewhere call) owed = inl refl
   owed_replied (HeldBack reply) owed = inl refl
   owed_replied (Out reply written) owed = inr (reply, first_taken written (reply_bytes reply), owed)
 

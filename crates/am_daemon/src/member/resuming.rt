@@ -2,7 +2,10 @@
 
 ghost use Rattle.am_http.specs.Sessions.{spoken};
 ghost use Rattle.am_dialogue.specs.Answered.{ForPages, IsAnswered};
-ghost use Rattle.am_dialogue.specs.Talks.{KeepsGone, Lasts, Rests, talk_of};
+ghost use Rattle.am_dialogue.specs.Calls.{IsProgressOf};
+ghost use Rattle.am_dialogue.specs.Talks.{IsOwed, KeepsGone, Lasts, Rests, talk_of};
+ghost use Rattle.am_dialogue.specs.Talks.Owed.{Answer};
+ghost use Rattle.am_http.specs.declared.request.Request.{Request};
 ghost use Rattle.am_living.specs.Talking.{IsTakenUp};
 
 use super::desk::Desk;
@@ -37,6 +40,8 @@ impl<U: Keeper> Desk<'_, U> {
         ensures steps { ForPages instance.old instance.new }
         ensures rests { Rests (talk_of dialogue.old) (talk_of dialogue.new) }
         ensures gone { KeepsGone (talk_of dialogue.old).saying (talk_of dialogue.new).saying }
+        ensures replied { (request : Request) → IsOwed (Answer request) (talk_of dialogue.old).saying → IsProgressOf request call →
+            IsOwed (Answer request) (talk_of dialogue.new).saying }
     {
         match call {
             CallProgress::Turn(turn) => dialogue.put_off(CallProgress::Turn(turn)),

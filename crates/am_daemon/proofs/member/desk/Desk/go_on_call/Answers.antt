@@ -1,0 +1,22 @@
+use Rattle.std.proofs.Common.{subst}
+use Rattle.am_daemon.specs.Calling.{IsCalled}
+use Rattle.am_dialogue.specs.Talks.Owed.{Answer}
+use Rattle.am_http.specs.declared.request.Request.{Request}
+use Rattle.am_daemon.proofs.member.desk.Desk.go_on_call.Goals as goal
+
+pub returns-in-Turn-clause-replied : goal.returns-in-Turn-clause-replied
+returns-in-Turn-clause-replied g c = rw c.in-Turn.is (λ request was came. c.put_off.ensures.comes (Answer request) was came)
+
+pub returns-in-Due-clause-replied : goal.returns-in-Due-clause-replied
+returns-in-Due-clause-replied g c = rw c.in-Due.is (λ request was came.
+    c.follow_call.ensures.follows request _ _ was (subst (λ (r : Request). IsCalled r _ _ _) came c.answer_due-called.ensures.called))
+
+pub returns-in-Deciding-clause-replied : goal.returns-in-Deciding-clause-replied
+returns-in-Deciding-clause-replied g c = rw c.in-Deciding.is (λ request was came.
+    c.follow_call-2.ensures.follows request _ _ was (c.go_on_deciding-called.ensures.called request came))
+
+pub returns-in-Log-clause-replied : goal.returns-in-Log-clause-replied
+returns-in-Log-clause-replied g c = rw c.in-Log.is (λ request was came. c.go_on_log.ensures.comes (Answer request) was came)
+
+pub returns-in-Counting-clause-replied : goal.returns-in-Counting-clause-replied
+returns-in-Counting-clause-replied g c = rw c.in-Counting.is (λ request was came. absurd came)

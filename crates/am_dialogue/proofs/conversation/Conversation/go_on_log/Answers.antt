@@ -1,0 +1,14 @@
+use Rattle.std.proofs.Common.{ap}
+use Rattle.am_api_decisions.specs.Entries.{Telling}
+use Rattle.am_dialogue.specs.Talks.{Talk}
+use Rattle.am_dialogue.proofs.Calls.{log_on, log_said, log_short}
+use Rattle.am_dialogue.proofs.conversation.Conversation.go_on_log.Goals as goal
+
+pub returns-then-is_written-clause-comes : goal.returns-then-is_written-clause-comes
+returns-then-is_written-clause-comes c = log_said _ _ _ _ (ap (λ (t : Talk). t.saying) c.say.ensures) c.finish.ensures
+
+pub returns-in-Ok-clause-comes : goal.returns-in-Ok-clause-comes
+returns-in-Ok-clause-comes c = log_on _ _ _ _ (ap (λ (w : Telling). w.rows) c.in-Ok.ensures.written) c.put_off.ensures.comes
+
+pub returns-in-Err-clause-comes : goal.returns-in-Err-clause-comes
+returns-in-Err-clause-comes c = log_short _ _ _ _ c.in-Err.ensures.refused c.refuse.ensures.told
