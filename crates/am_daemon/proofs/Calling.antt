@@ -74,3 +74,11 @@ module _ (request : Request) (question : Question) (start : InstanceState) (repl
   given_called (outcomes.Made making news) answers gives = λ other made.
       let same : other ≡ reply = subst (λ (m : PendingReply). IsMadeOf m other) gives made in
       subst (λ (r : ReplyBytes). IsCallReply request start r new) (sym same) (question_replied request question start reply new asked answers)
+
+-- the request waits that is still unheard
+pub put_off_waits : (reply : ReplyBytes) (unheard : Option Request) (request : Request) (called : Called) → unheard ≡ Some request → IsPutOff request called →
+    GivesOrWaits reply unheard called
+put_off_waits reply unheard request outcomes.Nothing some is = absurd is
+put_off_waits reply unheard request (outcomes.Later call) some is = (request, some, is)
+put_off_waits reply unheard request (outcomes.Refused refusal) some is = (request, some, is)
+put_off_waits reply unheard request (outcomes.Made making news) some is = absurd is

@@ -1,4 +1,5 @@
-use Rattle.am_api_decisions.proofs.Same.{same_on, same_self}
+use Rattle.std.proofs.lemmas.Result.{err_from_is_err_and}
+use Rattle.am_api_decisions.proofs.Same.{same_on}
 use Rattle.am_dialogue.proofs.Calls.{on_underway, stopped_answer}
 use Rattle.am_dialogue.proofs.Steps.{going_on_made, made_on}
 use Rattle.am_daemon.proofs.member.deciding.ask_on.Goals as goal
@@ -12,9 +13,11 @@ pub returns-in_err-left-clause-same : goal.returns-in_err-left-clause-same
 returns-in_err-left-clause-same g c = same_on _ _ _ c.loop.invariant.same c.go_on.ensures.same
 
 pub returns-in_err-left-clause-stopped : goal.returns-in_err-left-clause-stopped
-returns-in_err-left-clause-stopped g c = λ question underway.
+returns-in_err-left-clause-stopped g c =
+    let p = err_from_is_err_and c.from_residual.result c.from_residual.ensures.1 in
+    rw (p.1, p.2) (λ question underway.
     stopped_answer question c.next_moment-now.result c.loop.left _ c.loop.instance _ c.go_on.new.instance (c.loop.invariant.asked question underway) c.loop.invariant.same
-    c.in_err-left.ensures.asked
+    c.in_err-left.ensures.asked)
 
 pub loop-preserved : goal.loop-preserved
 loop-preserved g c = record {

@@ -9,11 +9,12 @@ returns-in-Turn-clause-replied g c = rw c.in-Turn.is (λ request was came. c.put
 
 pub returns-in-Due-clause-replied : goal.returns-in-Due-clause-replied
 returns-in-Due-clause-replied g c = rw c.in-Due.is (λ request was came.
-    c.follow_call.ensures.follows request _ _ was (subst (λ (r : Request). IsCalled r _ _ _) came c.answer_due-called.ensures.called))
+    c.follow_call.ensures.follows request c.args.instance.now c.answer_due-called.new.instance was
+    (subst (λ (r : Request). IsCalled r c.args.instance.now c.answer_due-called.result c.answer_due-called.new.instance) came c.answer_due-called.ensures.called))
 
 pub returns-in-Deciding-clause-replied : goal.returns-in-Deciding-clause-replied
 returns-in-Deciding-clause-replied g c = rw c.in-Deciding.is (λ request was came.
-    c.follow_call-2.ensures.follows request _ _ was (c.go_on_deciding-called.ensures.called request came))
+    c.follow_call-in-Deciding.ensures.follows request c.args.instance.now c.go_on_deciding-called.new.instance was (c.go_on_deciding-called.ensures.called request came))
 
 pub returns-in-Log-clause-replied : goal.returns-in-Log-clause-replied
 returns-in-Log-clause-replied g c = rw c.in-Log.is (λ request was came. c.go_on_log.ensures.comes (Answer request) was came)

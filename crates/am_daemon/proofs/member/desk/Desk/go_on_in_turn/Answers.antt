@@ -3,4 +3,4 @@ use Rattle.am_daemon.proofs.member.desk.Desk.go_on_in_turn.Goals as goal
 
 pub returns-in-Call-clause-lasts : goal.returns-in-Call-clause-lasts
 returns-in-Call-clause-lasts g c = call_lasts _ _ _ _ _ _ c.in-Call.ensures.after c.in-Call.ensures.value c.follow_call.ensures.rests c.follow_call.ensures.gone
-    (λ request was came. c.follow_call.ensures.follows request _ _ was (c.take_moment-called.ensures.called request came))
+    (λ request was came. c.follow_call.ensures.follows request c.args.instance.now c.take_moment-called.new.instance was (c.take_moment-called.ensures.called request came))
