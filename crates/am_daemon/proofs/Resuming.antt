@@ -1,12 +1,13 @@
 -- What is being made is taken out, and goes on.
-use Rattle.std.proofs.Common.{◌≡◌, refl, subst, sym}
+use Rattle.std.proofs.Common.{◌≡◌, ap, refl, subst, sym}
 use Rattle.am_api_silences.specs.declared.pending_reply.PendingReply.{PendingReply}
 use Rattle.am_dialogue.proofs.Sayings.{elsewhere_lasts, making_lasts}
 use Rattle.am_dialogue.proofs.Steps.{nothing_made}
 use Rattle.am_dialogue.specs.Answered.{ForPages}
 use Rattle.am_dialogue.specs.Calls.{IsProgressOf}
-use Rattle.am_dialogue.specs.Talks.{IsOwed, KeepsBy, KeepsGone, Lasts, Rests, Stays, Talk, saying_in, waiting_in}
+use Rattle.am_dialogue.specs.Talks.{IsGiven, IsGivenOn, IsOwed, KeepsBy, KeepsGone, Lasts, Rests, Saying, Stays, Talk, saying_in, waiting_in}
 use Rattle.am_dialogue.specs.Talks.Owed.{Answer}
+use Rattle.am_dialogue.specs.Talks.Saying.{Silent}
 use Rattle.am_dialogue.specs.declared.conversation.CallProgress.{CallProgress}
 use Rattle.am_dialogue.specs.declared.conversation.Work.{Work}
 use Rattle.am_dialogue.specs.declared.conversation.Work.TheVariants as works
@@ -27,10 +28,13 @@ pub list_taken_up : (way : Way) (session : Standing) (work left : Work) (old new
     KeepsBy making (saying_in left) next.saying → IsTakenUp (waiting_in work) old (talk_with way session work) new next
 list_taken_up way session work left old new next making emptied is same stays by =
     subst (λ (w : Work). IsTakenUp (waiting_in w) old (talk_with way session w) new next) is (record {
-      steps = nothing_made IsPagingEvent old new same;
-      lasts = making_lasts making (talk_with way session (works.PendingReply making)) next refl
-          (subst (λ (w : Work). Stays (talk_with way session w) next) emptied stays)
-          (subst (λ (w : Work). KeepsBy making (saying_in w) next.saying) emptied by);
+      pages = record {
+        steps = nothing_made IsPagingEvent old new same;
+        lasts = making_lasts making (talk_with way session (works.PendingReply making)) next refl
+            (subst (λ (w : Work). Stays (talk_with way session w) next) emptied stays)
+            (subst (λ (w : Work). KeepsBy making (saying_in w) next.saying) emptied by);
+      };
+      given = tt;
     })
 
 -- ---- an answer that isn't about silences
@@ -49,6 +53,14 @@ module _ (way : Way) (session : Standing) (work left : Work) (next : Talk) (call
   call_lasts = subst (λ (w : Work). Lasts (talk_with way session w) next) is went_on
 
   -- it goes on in its place in the line
-  pub call_taken_up : (old new : InstanceState) → ForPages old new → IsTakenUp (waiting_in work) old (talk_with way session work) new next
-  call_taken_up old new steps =
-      subst (λ (w : Work). IsTakenUp (waiting_in w) old (talk_with way session w) new next) is (record { steps = steps; lasts = went_on })
+  pub call_taken_up : (old new : InstanceState) → ForPages old new →
+      ((request : Request) → saying_in left ≡ Silent → IsProgressOf request call → IsGiven request old new next.saying) →
+      IsTakenUp (waiting_in work) old (talk_with way session work) new next
+  call_taken_up old new steps given = subst (λ (w : Work). IsTakenUp (waiting_in w) old (talk_with way session w) new next) is
+      (record { pages = record { steps = steps; lasts = went_on }; given = λ request came. given request (ap saying_in emptied) came })
+
+-- what was coming is given
+pub call_given : (work left : Work) (old new : InstanceState) (saying' : Saying) (call : CallProgress) → left ≡ works.Nothing → works.Call call ≡ work →
+    ((request : Request) → saying_in left ≡ Silent → IsProgressOf request call → IsGiven request old new saying') → IsGivenOn old (saying_in work) new saying'
+call_given work left old new saying' call emptied is given =
+    subst (λ (w : Work). IsGivenOn old (saying_in w) new saying') is (λ request came. given request (ap saying_in emptied) came)

@@ -20,7 +20,7 @@ use Rattle.am_instance.specs.InstanceStates.{InstanceState}
 use Rattle.am_dialogue.proofs.Resting.{stays_same}
 use Rattle.am_dialogue.specs.Calls.{IsProgressOf, WhenTold}
 use Rattle.am_dialogue.specs.Talks.{IsClosed, IsComing, IsLine, IsOwed, IsOwnLine, OwnCause, IsReplyTo, Keeps, KeepsBy, KeepsGone, KeepsIf, Lasts, Owed, Rests, Saying, Stays, Talk, WaitsNoMore, gone_of, own_line, said_next}
-use Rattle.am_dialogue.specs.Talks.Owed.{Line, Reply, Answer, Other}
+use Rattle.am_dialogue.specs.Talks.Owed.{Line, Reply, Answer, Given, Other}
 use Rattle.am_dialogue.specs.Talks.OwnCause.{IsForeign, NotReady, StateTooLarge, FilterTooLarge, PatternTooLarge, NotKept, OutOfMemory}
 use Rattle.am_silence.specs.declared.error.SilenceError.TheVariants.{BadPattern}
 use Rattle.am_http.specs.declared.request.Request.{Request}
@@ -46,6 +46,7 @@ line_to : (owed : Owed) (reply : ReplyBytes) → IsLine reply → IsReplyTo owed
 line_to Line reply line = line
 line_to (Reply begun) reply line = inr line
 line_to (Answer request) reply line = (no_instance, no_instance, inr (inr line))
+line_to (Given request old new) reply line = inr (inr line)
 line_to Other reply line = tt
 
 pub next_owed : (owed : Owed) (reply : ReplyBytes) (old : Saying) → IsOwed owed old → IsReplyTo owed reply → IsOwed owed (said_next reply old)
@@ -144,6 +145,7 @@ coming_owed : (call : CallProgress) (new : Saying) → ((request : Request) → 
 coming_owed call new answered Line coming = absurd coming
 coming_owed call new answered (Reply begun) coming = absurd coming
 coming_owed call new answered (Answer request) coming = answered request coming
+coming_owed call new answered (Given request start end) coming = absurd coming
 coming_owed call new answered Other coming = other_owed new
 
 pub elsewhere_keeps : (call : CallProgress) (new : Saying) → ((request : Request) → IsProgressOf request call → IsOwed (Answer request) new) →

@@ -104,11 +104,13 @@ abbrev pub IsCallReply : Request → InstanceState → ReplyBytes → InstanceSt
 IsCallReply request old reply new = IsAnswer request old reply new ⊎ (IsTurnedAway reply ⊎ IsLine reply)
 
 -- the reply that a connection is owed: nothing but such a line; the reply that its step has begun, or a line; the answer to the
--- call of a program that sends pages, or a line; or any reply to a request about the member itself
+-- call of a program that sends pages, or a line; that answer between these states; or any reply to a request about the member
+-- itself
 pub data Owed : Type 0 where
   Line : Owed
   Reply : PendingReply → Owed
   Answer : Request → Owed
+  Given : Request → InstanceState → InstanceState → Owed
   Other : Owed
 
 -- The connection may be given this reply, by what it is owed.
@@ -116,6 +118,7 @@ abbrev pub IsReplyTo : Owed → ReplyBytes → Type 0
 IsReplyTo Line reply = IsLine reply
 IsReplyTo (Reply begun) reply = IsMadeOf begun reply ⊎ IsLine reply
 IsReplyTo (Answer request) reply = (old : InstanceState) × (new : InstanceState) × IsCallReply request old reply new
+IsReplyTo (Given request old new) reply = IsCallReply request old reply new
 IsReplyTo Other reply = ⊤
 
 -- A reply that has come this far is one that the connection is owed.
@@ -123,6 +126,7 @@ abbrev pub IsComing : Owed → CallProgress → Type 0
 IsComing Line call = ⊥
 IsComing (Reply begun) call = ⊥
 IsComing (Answer request) call = IsProgressOf request call
+IsComing (Given request old new) call = ⊥
 IsComing Other call = ⊤
 
 -- If a reply is made, waits or goes out, it is one that the connection is owed.
@@ -132,6 +136,11 @@ IsOwed owed (Making making) = Makes (IsReplyTo owed) making
 IsOwed owed (Elsewhere call) = IsComing owed call
 IsOwed owed (Held reply) = IsReplyTo owed reply
 IsOwed owed (Out reply written) = IsReplyTo owed reply
+
+-- If a reply is made, waits or goes out, it is the answer to the request between these states, or a line.
+abbrev pub IsGiven : Request → InstanceState → InstanceState → Saying → Type 0
+IsGiven request old new (Elsewhere call) = ⊤
+IsGiven request old new saying = IsOwed (Given request old new) saying
 
 -- Nothing more went out.
 abbrev pub KeepsGone : Saying → Saying → Type 0
@@ -150,6 +159,16 @@ pub record KeepsBy (making : PendingReply) (old new : Saying) : Type 0 where
 -- If this is such as is owed, the reply is or stays one that is owed.
 abbrev pub KeepsIf : (Owed → Type 0) → Saying → Saying → Type 0
 KeepsIf IsSuch old new = (owed : Owed) → IsOwed owed old → IsSuch owed → IsOwed owed new
+
+-- the reply once a call is put off, unless one goes out already
+abbrev pub put_next : CallProgress → Saying → Saying
+put_next call (Out reply written) = Out reply written
+put_next call _ = Elsewhere call
+
+-- An answer that had come so far is given between these states, if it is given.
+abbrev pub IsGivenOn : InstanceState → Saying → InstanceState → Saying → Type 0
+IsGivenOn old (Elsewhere call) new saying' = (request : Request) → IsProgressOf request call → IsGiven request old new saying'
+IsGivenOn old saying new saying' = ⊤
 
 -- ---- a connection, as the member's life sees it
 

@@ -50,7 +50,7 @@ use Rattle.am_seal.specs.declared.seal.SealError.{SealError}
 use Rattle.am_seal.specs.declared.sequence.Sequence.{Sequence}
 use Rattle.am_seal.specs.Sequences.{after, first_in}
 use Rattle.am_living.specs.Living.{AreOf, AreOwn, LivesOn, Passed, nothing_passed, passed_on}
-use Rattle.am_living.specs.Talking.{AreFed, HasAskedElsewhere, Does, HasAsked, IsDone, IsEnded, IsFed, IsForPages, IsFront, IsHeard, IsInAccord, IsLetIn, IsMeantFor, IsReplied, IsSent, IsStill, IsTakenUp, fresh_talk, owed_after, owed_by, owed_on}
+use Rattle.am_living.specs.Talking.{AreFed, HasAskedElsewhere, Does, HasAsked, IsCalledOn, IsDone, IsEnded, IsFed, IsForPages, IsFront, IsHeard, IsInAccord, IsLetIn, IsMeantFor, IsReplied, IsSent, IsStill, IsTakenUp, fresh_talk, owed_after, owed_by, owed_on}
 use Rattle.am_living.proofs.Fronts.{asked_then, front_bound, front_ends, front_on, front_then, gate_fronts, gone_then, order_then}
 use Rattle.am_living.proofs.Lived.{chosen_is}
 
@@ -927,13 +927,16 @@ module _ (connection : ℕ) (standings : ℕ → Standing) (old new : InstanceSt
   abbrev taken_up : Option Spoken → Type 0
   taken_up waiting = IsTakenUp waiting old talk new talk'
 
+  called_on : taken_up None → IsCalledOn old talk new talk'
+  called_on call = call
+
   resumed_lives : IsInAccord talk passed (standings connection) turns → IsTakenUp talk.waiting old talk new talk' → OnBehind passed
   resumed_lives accord call = elim accord.stands [
-    | inl is ↦ alone_lives accord (subst taken_up is.waiting call)
+    | inl is ↦ alone_lives accord (called_on (subst taken_up is.waiting call)).pages
     | inr (inl asked) ↦ answered_lives connection standings old new turns passed asked.said asked.came (record talk { waiting = None }) talk'
         (record { none = refl; silent = asked.silent; front = accord.front; gone = accord.gone; asked = accord.asked; tells = asked.tells; are = asked.bytes; plain = asked.plain })
         (subst taken_up asked.waiting call asked.request)
-    | inr (inr done) ↦ alone_lives accord (subst taken_up done.waiting call)
+    | inr (inr done) ↦ alone_lives accord (called_on (subst taken_up done.waiting call)).pages
   ]
 
   sent_lives : (bytes : List ℕ) → IsInAccord talk passed (standings connection) turns → IsSent bytes old talk new talk' → OnBehind (both passed.fed (passed.gone ++ bytes))
@@ -956,7 +959,7 @@ module _ (connection : ℕ) (standings : ℕ → Standing) (old new : InstanceSt
   does_lives lock Resumed accord call = nothing_more (resumed_lives accord call)
   does_lives lock (Sent bytes) accord call = subst OnBehind (passed_same _ _ _ _ (sym (append-nil passed.fed)) (ap (λ (l : List ℕ). passed.gone ++ l) (sym (append-nil bytes)))) (sent_lives bytes accord call)
   does_lives lock Released accord call = nothing_more (still_lives accord call)
-  does_lives lock CameDue accord call = nothing_more (alone_lives accord call)
+  does_lives lock CameDue accord call = nothing_more (alone_lives accord call.pages)
   does_lives lock Hurried accord call = nothing_more (still_lives accord call)
   does_lives lock (BrokenOff broken) accord call = nothing_more (still_lives accord call)
 

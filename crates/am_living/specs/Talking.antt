@@ -4,7 +4,7 @@ use Rattle.am_api_silences.specs.Replies.{bytes_of as reply_bytes}
 use Rattle.am_api_silences.specs.declared.pending_reply.PendingReply.{PendingReply}
 use Rattle.am_api_silences.specs.declared.replies.ReplyBytes.{ReplyBytes}
 use Rattle.am_dialogue.specs.Answered.{ForPages, IsAnswered}
-use Rattle.am_dialogue.specs.Talks.{IsClosed, IsElsewhere, IsOwed, IsReplyTo, IsRequest, Lasts, Owed, Owes, Talk, gone_of, pending_in, sent_in}
+use Rattle.am_dialogue.specs.Talks.{IsClosed, IsElsewhere, IsGivenOn, IsOwed, IsReplyTo, IsRequest, Lasts, Owed, Owes, Talk, gone_of, pending_in, sent_in}
 use Rattle.am_dialogue.specs.Talks.Owed.{Line, Reply}
 use Rattle.am_dialogue.specs.Talks.Saying.{Silent}
 use Rattle.am_gate.specs.declared.passing.Hears.{Hears}
@@ -162,6 +162,11 @@ pub record IsForPages (old : InstanceState) (talk : Talk) (new : InstanceState) 
   pub steps : ForPages old new
   pub lasts : Lasts talk talk'
 
+-- So it is, and the answer that had come so far is given between these states, if it is given.
+pub record IsCalledOn (old : InstanceState) (talk : Talk) (new : InstanceState) (talk' : Talk) : Type 0 where
+  pub pages : IsForPages old talk new talk'
+  pub given : IsGivenOn old talk.saying new talk'.saying
+
 -- Nothing comes of the call for the instance.
 pub record IsStill (old : InstanceState) (talk : Talk) (new : InstanceState) (talk' : Talk) : Type 0 where
   pub same : new ≡ old
@@ -175,7 +180,7 @@ pub record IsSent (bytes : List ℕ) (old : InstanceState) (talk : Talk) (new : 
 
 -- The input that waits is taken up, if there is one.
 abbrev pub IsTakenUp : Option Spoken → InstanceState → Talk → InstanceState → Talk → Type 0
-IsTakenUp None old talk new talk' = IsForPages old talk new talk'
+IsTakenUp None old talk new talk' = IsCalledOn old talk new talk'
 IsTakenUp (Some said) old talk new talk' = IsRequest said → IsAnswered said old (record talk { waiting = None }) new talk'
 
 -- A call for a connection changes the instance and the connection in this way, behind this lock or none.
@@ -185,6 +190,6 @@ Does lock Ended old talk new talk' = IsEnded old talk new talk'
 Does lock Resumed old talk new talk' = IsTakenUp talk.waiting old talk new talk'
 Does lock (Sent bytes) old talk new talk' = IsSent bytes old talk new talk'
 Does lock Released old talk new talk' = IsStill old talk new talk'
-Does lock CameDue old talk new talk' = IsForPages old talk new talk'
+Does lock CameDue old talk new talk' = IsCalledOn old talk new talk'
 Does lock Hurried old talk new talk' = IsStill old talk new talk'
 Does lock (BrokenOff broken) old talk new talk' = IsStill old talk new talk'

@@ -11,8 +11,9 @@ ghost use Rattle.am_api_decisions.specs.Asking.{HoldsSame};
 ghost use Rattle.am_dialogue.specs.Answered.{ForPages};
 ghost use Rattle.am_dialogue.specs.Calls.{AnswersQuestion, IsOnly, IsProgressOf, IsUnderway, WhenTold};
 ghost use Rattle.am_dialogue.specs.Calls.CallCause.{Stops};
-ghost use Rattle.am_dialogue.specs.Talks.{Closes, IsOwed, KeepsGone, Rests, talk_of};
+ghost use Rattle.am_dialogue.specs.Talks.{Closes, IsGiven, IsOwed, KeepsGone, Rests, talk_of};
 ghost use Rattle.am_dialogue.specs.Talks.Owed.{Answer};
+ghost use Rattle.am_dialogue.specs.Talks.Saying.{Silent};
 ghost use Rattle.am_dialogue.specs.Waiting.{request_of};
 ghost use Rattle.am_daemon.specs.Calling.{Follows, GivesOrWaits, IsCalled, IsPutOff, IsTurnedAwayFor};
 
@@ -170,6 +171,8 @@ impl<U: Keeper> Desk<'_, U> {
         // PROMISE: A program that sends pages is replied what it asks for: the decision of its question, what came of its notice, or the log's list.
         ensures replied { (request : Request) → (spoken said).request ≡ Some (Read.Whole request) →
             IsOwed (Answer request) (talk_of dialogue.old).saying → IsOwed (Answer request) (talk_of dialogue.new).saying }
+        ensures given { (request : Request) → (spoken said).request ≡ Some (Read.Whole request) → (talk_of dialogue.old).saying ≡ Silent →
+            IsGiven request instance.old instance.new (talk_of dialogue.new).saying }
     {
         dialogue.session.stop();
         let SessionOutput { request, .. } = said;
