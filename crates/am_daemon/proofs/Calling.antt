@@ -10,8 +10,7 @@ use Rattle.am_api_silences.specs.declared.replies.ReplyBytes.{ReplyBytes}
 use Rattle.am_dialogue.proofs.Calls.{away_replied, made_given, put_given, question_replied, same_given, told_given}
 use Rattle.am_dialogue.specs.Calls.{AnswersQuestion, CallCause, IsOnly, WhenTold}
 use Rattle.am_dialogue.specs.Calls.CallCause.{TooManyWait}
-use Rattle.am_dialogue.specs.Talks.{IsCallReply, IsComing, IsOwed, IsReplyTo, KeepsBy, KeepsIf, Saying, put_next}
-use Rattle.am_dialogue.specs.Talks.Owed.{Answer}
+use Rattle.am_dialogue.specs.Talks.{IsCallReply, IsReplyTo, KeepsBy, KeepsIf, Saying, put_next}
 use Rattle.am_dialogue.specs.declared.conversation.CallProgress.{CallProgress}
 use Rattle.am_dialogue.specs.declared.conversation.CallProgress.TheVariants as progress
 use Rattle.am_http.specs.Lines.{line_seen}
@@ -25,28 +24,16 @@ use Rattle.am_daemon.specs.declared.member.deciding.Called.TheVariants as outcom
 -- ---- what is replied
 
 pub nothing_follows : (old new : Saying) → new ≡ old → Follows outcomes.Nothing old new
-nothing_follows old new same = record {
-  owed = λ request start end was called. subst (IsOwed (Answer request)) (sym same) was;
-  given = λ request start end silent called. same_given request start end old new silent same;
-}
+nothing_follows old new same request start end silent called = same_given request start end old new silent same
 
-pub later_follows : (call : CallProgress) (old new : Saying) → KeepsIf (λ owed. IsComing owed call) old new → new ≡ put_next call old → Follows (outcomes.Later call) old new
-later_follows call old new comes puts = record {
-  owed = λ request start end was called. comes (Answer request) was called;
-  given = λ request start end silent called. put_given call request start end old new silent puts;
-}
+pub later_follows : (call : CallProgress) (old new : Saying) → new ≡ put_next call old → Follows (outcomes.Later call) old new
+later_follows call old new puts request start end silent called = put_given call request start end old new silent puts called
 
 pub refused_follows : (refusal : Refusal) (old new : Saying) → KeepsIf (λ owed. WhenTold (IsReplyTo owed) (line_seen refusal)) old new → Follows (outcomes.Refused refusal) old new
-refused_follows refusal old new told = record {
-  owed = λ request start end was called. told (Answer request) was (λ reply says. (start, end, called reply says));
-  given = λ request start end silent called. told_given request (line_seen refusal) start end old new silent told called;
-}
+refused_follows refusal old new told request start end silent called = told_given request (line_seen refusal) start end old new silent told called
 
 pub made_follows : (making : PendingReply) (news : ℕ) (old new : Saying) → KeepsBy making old new → Follows (outcomes.Made making news) old new
-made_follows making news old new by = record {
-  owed = λ request start end was called. by.owed (Answer request) was (λ reply made. (start, end, called reply made));
-  given = λ request start end silent called. made_given request making start end old new silent by called;
-}
+made_follows making news old new by request start end silent called = made_given request making start end old new silent by called
 
 -- ---- outcomes
 

@@ -1,12 +1,12 @@
 -- What is being made is taken out, and goes on.
-use Rattle.std.proofs.Common.{◌≡◌, ap, refl, subst, sym}
+use Rattle.std.proofs.Common.{◌≡◌, ap, refl, subst}
 use Rattle.am_api_silences.specs.declared.pending_reply.PendingReply.{PendingReply}
+use Rattle.am_dialogue.proofs.Calls.{given_owed}
 use Rattle.am_dialogue.proofs.Sayings.{elsewhere_lasts, making_lasts}
 use Rattle.am_dialogue.proofs.Steps.{nothing_made}
 use Rattle.am_dialogue.specs.Answered.{ForPages}
 use Rattle.am_dialogue.specs.Calls.{IsProgressOf}
-use Rattle.am_dialogue.specs.Talks.{IsGiven, IsGivenOn, IsOwed, KeepsBy, KeepsGone, Lasts, Rests, Saying, Stays, Talk, saying_in, waiting_in}
-use Rattle.am_dialogue.specs.Talks.Owed.{Answer}
+use Rattle.am_dialogue.specs.Talks.{IsGiven, IsGivenOn, KeepsBy, KeepsGone, Lasts, Rests, Stays, Talk, saying_in, waiting_in}
 use Rattle.am_dialogue.specs.Talks.Saying.{Silent}
 use Rattle.am_dialogue.specs.declared.conversation.CallProgress.{CallProgress}
 use Rattle.am_dialogue.specs.declared.conversation.Work.{Work}
@@ -39,28 +39,27 @@ list_taken_up way session work left old new next making emptied is same stays by
 
 -- ---- an answer that isn't about silences
 
-module _ (way : Way) (session : Standing) (work left : Work) (next : Talk) (call : CallProgress) (emptied : left ≡ works.Nothing) (is : works.Call call ≡ work)
-    (rests : Rests (talk_with way session left) next) (gone : KeepsGone (saying_in left) next.saying)
-    (replied : (request : Request) → IsOwed (Answer request) (saying_in left) → IsProgressOf request call → IsOwed (Answer request) next.saying) where
+module _ (way : Way) (session : Standing) (work left : Work) (old new : InstanceState) (next : Talk) (call : CallProgress) (emptied : left ≡ works.Nothing)
+    (is : works.Call call ≡ work) (rests : Rests (talk_with way session left) next) (gone : KeepsGone (saying_in left) next.saying)
+    (given : (request : Request) → saying_in left ≡ Silent → IsProgressOf request call → IsGiven request old new next.saying) where
+  given_then : (request : Request) → IsProgressOf request call → IsGiven request old new next.saying
+  given_then request came = given request (ap saying_in emptied) came
+
   went_on : Lasts (talk_with way session (works.Call call)) next
   went_on = elsewhere_lasts call (talk_with way session (works.Call call)) next refl refl
       (subst (λ (w : Work). Rests (talk_with way session w) next) emptied rests)
       (subst (λ (w : Work). KeepsGone (saying_in w) next.saying) emptied gone)
-      (λ request came. replied request (subst (λ (w : Work). IsOwed (Answer request) (saying_in w)) (sym emptied) tt) came)
+      (λ request came. given_owed request old new next.saying (given_then request came))
 
   -- it goes on
   pub call_lasts : Lasts (talk_with way session work) next
   call_lasts = subst (λ (w : Work). Lasts (talk_with way session w) next) is went_on
 
-  -- it goes on in its place in the line
-  pub call_taken_up : (old new : InstanceState) → ForPages old new →
-      ((request : Request) → saying_in left ≡ Silent → IsProgressOf request call → IsGiven request old new next.saying) →
-      IsTakenUp (waiting_in work) old (talk_with way session work) new next
-  call_taken_up old new steps given = subst (λ (w : Work). IsTakenUp (waiting_in w) old (talk_with way session w) new next) is
-      (record { pages = record { steps = steps; lasts = went_on }; given = λ request came. given request (ap saying_in emptied) came })
+  -- it is given, or comes further
+  pub call_given : IsGivenOn old (saying_in work) new next.saying
+  call_given = subst (λ (w : Work). IsGivenOn old (saying_in w) new next.saying) is given_then
 
--- what was coming is given
-pub call_given : (work left : Work) (old new : InstanceState) (saying' : Saying) (call : CallProgress) → left ≡ works.Nothing → works.Call call ≡ work →
-    ((request : Request) → saying_in left ≡ Silent → IsProgressOf request call → IsGiven request old new saying') → IsGivenOn old (saying_in work) new saying'
-call_given work left old new saying' call emptied is given =
-    subst (λ (w : Work). IsGivenOn old (saying_in w) new saying') is (λ request came. given request (ap saying_in emptied) came)
+  -- it goes on in its place in the line
+  pub call_taken_up : ForPages old new → IsTakenUp (waiting_in work) old (talk_with way session work) new next
+  call_taken_up steps = subst (λ (w : Work). IsTakenUp (waiting_in w) old (talk_with way session w) new next) is
+      (record { pages = record { steps = steps; lasts = went_on }; given = given_then })

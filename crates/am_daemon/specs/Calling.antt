@@ -5,8 +5,7 @@ use Rattle.am_api_silences.specs.declared.pending_reply.PendingReply.TheVariants
 use Rattle.am_api_silences.specs.declared.replies.ReplyBytes.{ReplyBytes}
 use Rattle.am_dialogue.specs.Calls.{CallCause, IsProgressOf, WhenTold, call_line}
 use Rattle.am_dialogue.specs.Calls.CallCause.{TooManyWait}
-use Rattle.am_dialogue.specs.Talks.{IsCallReply, IsGiven, IsOwed, Saying}
-use Rattle.am_dialogue.specs.Talks.Owed.{Answer}
+use Rattle.am_dialogue.specs.Talks.{IsCallReply, IsGiven, Saying}
 use Rattle.am_dialogue.specs.Talks.Saying.{Silent}
 use Rattle.am_dialogue.specs.Waiting.{request_of}
 use Rattle.am_dialogue.specs.declared.conversation.CallProgress.TheVariants.{Turn as InTurn}
@@ -40,7 +39,6 @@ abbrev pub GivesOrWaits : ReplyBytes → Option Request → Called → Type 0
 GivesOrWaits reply unheard (outcomes.Made making news) = making ≡ Whole reply
 GivesOrWaits reply unheard called = (request : Request) × (unheard ≡ Some request) × IsPutOff request called
 
--- What is replied to a call follows from its outcome; if nothing was replied before, it is given between the same states.
-pub record Follows (called : Called) (old new : Saying) : Type 0 where
-  pub owed : (request : Request) (start : InstanceState) (end : InstanceState) → IsOwed (Answer request) old → IsCalled request start called end → IsOwed (Answer request) new
-  pub given : (request : Request) (start : InstanceState) (end : InstanceState) → old ≡ Silent → IsCalled request start called end → IsGiven request start end new
+-- If nothing was replied before, what is replied to a call follows from its outcome, between the same states.
+abbrev pub Follows : Called → Saying → Saying → Type 0
+Follows called old new = (request : Request) (start : InstanceState) (end : InstanceState) → old ≡ Silent → IsCalled request start called end → IsGiven request start end new

@@ -32,9 +32,9 @@ use Rattle.am_http.specs.declared.request.Read.TheVariants.{More, Whole, Refused
 use Rattle.am_http.specs.declared.request.Request.{Request}
 use Rattle.am_instance.specs.InstanceStates.{InstanceState, log_in_view}
 use Rattle.am_dialogue.proofs.Sayings.{next_owed, other_owed, says_line}
-use Rattle.am_dialogue.specs.Answered.{ForPages, IsAnswered}
+use Rattle.am_dialogue.specs.Answered.{ForPages, IsAnswered, IsGivenFor}
 use Rattle.am_dialogue.specs.Calls.{AnswersQuestion, CallCause, IsProgressOf, IsUnderway, WasAsked, WhenTold, call_line}
-use Rattle.am_dialogue.specs.Talks.{AsksElsewhere, Closes, IsCallReply, IsComing, IsElsewhere, IsGiven, IsGivenOn, IsOwed, IsOwnLine, IsReplyTo, KeepsBy, KeepsGone, KeepsIf, Owes, Saying, Talk, put_next, said_next}
+use Rattle.am_dialogue.specs.Talks.{AsksElsewhere, Closes, IsCallReply, IsElsewhere, IsGiven, IsGivenOn, IsOwed, IsOwnLine, IsReplyTo, KeepsBy, KeepsGone, KeepsIf, Owed, Owes, Saying, Talk, put_next, said_next}
 use Rattle.am_dialogue.specs.Talks.Owed.{Line, Reply, Answer, Given, Other}
 use Rattle.am_dialogue.specs.Talks.Saying.{Silent, Making, Elsewhere, Held, Out}
 use Rattle.am_dialogue.specs.Talks.OwnCause.{OutOfMemory}
@@ -141,42 +141,13 @@ log_listed : (request : Request) (writing : Telling) (old : InstanceState) (repl
 log_listed request writing old reply new came says =
     inl (Ok asks.Log, came.0, (came.1, came.2, subst (λ rows. Says (λ bytes. bytes ≡ log_bytes rows) reply) came.3 says))
 
--- all of it is written
-pub log_said : (writing : Telling) (reply : ReplyBytes) (old new : Saying) → new ≡ said_next reply old → Says (λ bytes. bytes ≡ log_bytes writing.rows) reply →
-    KeepsIf (λ owed. IsComing owed (progress.Log writing)) old new
-log_said writing reply old new is says Line was coming = absurd coming
-log_said writing reply old new is says (Reply begun) was coming = absurd coming
-log_said writing reply old new is says (Answer request) was coming =
-    subst (IsOwed (Answer request)) (sym is) (next_owed (Answer request) reply old was (coming.2, coming.2, log_listed request writing coming.2 reply coming.2 coming says))
-log_said writing reply old new is says (Given request start end) was coming = absurd coming
-log_said writing reply old new is says Other was coming = other_owed new
-
--- more of it is written
-pub log_on : (writing more : Telling) (old new : Saying) → more.rows ≡ writing.rows → KeepsIf (λ owed. IsComing owed (progress.Log more)) old new →
-    KeepsIf (λ owed. IsComing owed (progress.Log writing)) old new
-log_on writing more old new same comes Line was coming = absurd coming
-log_on writing more old new same comes (Reply begun) was coming = absurd coming
-log_on writing more old new same comes (Answer request) was coming = comes (Answer request) was (coming.0, coming.1, coming.2, same ∙ coming.3)
-log_on writing more old new same comes (Given request start end) was coming = absurd coming
-log_on writing more old new same comes Other was coming = other_owed new
-
--- there is no memory for more of it
-pub log_short : (writing : Telling) (told : RefusalLine) (old new : Saying) → told ≡ memory_line → KeepsIf (λ owed. WhenTold (IsReplyTo owed) told) old new →
-    KeepsIf (λ owed. IsComing owed (progress.Log writing)) old new
-log_short writing told old new is tells Line was coming = absurd coming
-log_short writing told old new is tells (Reply begun) was coming = absurd coming
-log_short writing told old new is tells (Answer request) was coming =
-    tells (Answer request) was (λ reply says. (coming.2, coming.2, own_replied request told coming.2 coming.2 (OutOfMemory, rw is refl) reply says))
-log_short writing told old new is tells (Given request start end) was coming = absurd coming
-log_short writing told old new is tells Other was coming = other_owed new
-
 -- ---- answers between two states
 
 -- what is owed so is given so
 pub owed_given : (request : Request) (old new : InstanceState) (saying : Saying) → IsOwed (Given request old new) saying → IsGiven request old new saying
 owed_given request old new Silent owed = owed
 owed_given request old new (Making making) owed = owed
-owed_given request old new (Elsewhere call) owed = tt
+owed_given request old new (Elsewhere call) owed = absurd owed
 owed_given request old new (Held reply) owed = owed
 owed_given request old new (Out reply written) owed = owed
 
@@ -188,8 +159,9 @@ pub same_given : (request : Request) (old new : InstanceState) (saying saying' :
 same_given request old new saying saying' silent same = owed_given request old new saying' (silent_given request old new saying' (same ∙ silent))
 
 -- a call is put off
-pub put_given : (call : CallProgress) (request : Request) (old new : InstanceState) (saying saying' : Saying) → saying ≡ Silent → saying' ≡ put_next call saying → IsGiven request old new saying'
-put_given call request old new saying saying' silent puts = subst (IsGiven request old new) (sym (puts ∙ ap (put_next call) silent)) tt
+pub put_given : (call : CallProgress) (request : Request) (old new : InstanceState) (saying saying' : Saying) → saying ≡ Silent → saying' ≡ put_next call saying →
+    IsProgressOf request call → IsGiven request old new saying'
+put_given call request old new saying saying' silent puts came = subst (IsGiven request old new) (sym (puts ∙ ap (put_next call) silent)) came
 
 -- a reply is made
 pub made_given : (request : Request) (making : PendingReply) (old new : InstanceState) (saying saying' : Saying) → saying ≡ Silent → KeepsBy making saying saying' →
@@ -209,11 +181,31 @@ pub log_given : (writing : Telling) (reply : ReplyBytes) (request : Request) (ol
 log_given writing reply request old new saying saying' silent is says came =
     subst (IsGiven request old new) (sym (is ∙ ap (said_next reply) silent)) (log_listed request writing old reply new came says)
 
+-- more of it is written
+pub log_goes_on : (request : Request) (writing more : Telling) → more.rows ≡ writing.rows → IsProgressOf request (progress.Log writing) → IsProgressOf request (progress.Log more)
+log_goes_on request writing more same came = (came.0, came.1, came.2, same ∙ came.3)
+
+-- what is given is owed
+pub given_owed : (request : Request) (old new : InstanceState) (saying : Saying) → IsGiven request old new saying → IsOwed (Answer request) saying
+given_owed request old new Silent given = given
+given_owed request old new (Making making) given = λ reply made. (old, new, given reply made)
+given_owed request old new (Elsewhere call) given = given
+given_owed request old new (Held reply) given = (old, new, given)
+given_owed request old new (Out reply written) given = (old, new, given)
+
+-- so is what a request is owed
+pub owes_owed : (said : Spoken) (owed : Owed) (old new : InstanceState) (saying : Saying) → Owes said owed → IsGivenFor owed old new saying → IsOwed owed saying
+owes_owed said Line old new saying owes given = absurd owes
+owes_owed said (Reply begun) old new saying owes given = absurd owes
+owes_owed said (Answer request) old new saying owes given = given_owed request old new saying given
+owes_owed said (Given request start end) old new saying owes given = absurd owes
+owes_owed said Other old new saying owes given = other_owed saying
+
 -- an answer that has come no further
 pub given_same : (old new : InstanceState) (saying saying' : Saying) → saying' ≡ saying → IsGivenOn old saying new saying'
 given_same old new Silent saying' same = tt
 given_same old new (Making making) saying' same = tt
-given_same old new (Elsewhere call) saying' same = λ request came. subst (IsGiven request old new) (sym same) tt
+given_same old new (Elsewhere call) saying' same = λ request came. subst (IsGiven request old new) (sym same) came
 given_same old new (Held reply) saying' same = tt
 given_same old new (Out reply written) saying' same = tt
 
@@ -226,12 +218,11 @@ whole_read A said (Refused refusal) is asks then = absurd asks
 
 -- a call is answered, or its answer has begun
 pub call_answered : (said : Spoken) (old new : InstanceState) (talk talk' : Talk) → IsElsewhere said → ForPages old new → Closes talk talk' → KeepsGone talk.saying talk'.saying →
-    ((request : Request) → said.request ≡ Some (Whole request) → IsOwed (Answer request) talk.saying → IsOwed (Answer request) talk'.saying) →
     ((request : Request) → said.request ≡ Some (Whole request) → talk.saying ≡ Silent → IsGiven request old new talk'.saying) → IsAnswered said old talk new talk'
-call_answered said old new talk talk' elsewhere steps closes gone replied given =
+call_answered said old new talk talk' elsewhere steps closes gone given =
     whole_read (IsAnswered said old talk new talk') said elsewhere.0 elsewhere.1 elsewhere.2 (λ request is. inr (inr (record {
       closes = closes;
-      done = inr (record { elsewhere = elsewhere; steps = steps; gone = gone; owed = Answer request; owes = is; replied = replied request is; given = given request is });
+      done = inr (record { elsewhere = elsewhere; steps = steps; gone = gone; owed = Answer request; owes = is; given = given request is });
     })))
 
 -- a request for a page about the member is answered
@@ -239,5 +230,5 @@ pub page_answered : (said : Spoken) (old new : InstanceState) (talk talk' : Talk
     KeepsGone talk.saying talk'.saying → IsAnswered said old talk new talk'
 page_answered said old new talk talk' elsewhere owes steps closes gone = inr (inr (record {
   closes = closes;
-  done = inr (record { elsewhere = elsewhere; steps = steps; gone = gone; owed = Other; owes = owes; replied = λ was. other_owed talk'.saying; given = λ silent. tt });
+  done = inr (record { elsewhere = elsewhere; steps = steps; gone = gone; owed = Other; owes = owes; given = λ silent. tt });
 }))

@@ -14,7 +14,7 @@ use Rattle.am_member.specs.declared.session_answer.SessionAnswer.{SessionAnswer}
 use Rattle.am_member.specs.Exchanging.{IsSessionAnswer, left_at}
 use Rattle.am_member.specs.Lives.{IsOwnEvent, IsPagingEvent}
 use Rattle.am_member.specs.Sparing.{spared}
-use Rattle.am_dialogue.specs.Talks.{Closes, IsElsewhere, IsGiven, IsOwed, IsRequest, Keeps, KeepsBy, KeepsGone, Owed, Owes, Saying, Talk, WaitsNoMore}
+use Rattle.am_dialogue.specs.Talks.{Closes, IsElsewhere, IsGiven, IsRequest, Keeps, KeepsBy, KeepsGone, Owed, Owes, Saying, Talk, WaitsNoMore}
 use Rattle.am_dialogue.specs.Talks.Owed.{Answer}
 use Rattle.am_dialogue.specs.Talks.Saying.{Silent}
 
@@ -74,7 +74,7 @@ pub record IsRefused (old : InstanceState) (saying : Saying) (new : InstanceStat
   pub same : new ≡ old
   pub line : Keeps saying saying'
 
--- What was asked for is given between these states, if it is the answer to a call.
+-- What is owed is given between these states, if it is the answer to a call.
 abbrev pub IsGivenFor : Owed → InstanceState → InstanceState → Saying → Type 0
 IsGivenFor (Answer request) old new saying = IsGiven request old new saying
 IsGivenFor owed old new saying = ⊤
@@ -87,7 +87,6 @@ pub record IsElsewhereDone (said : Spoken) (old : InstanceState) (saying : Sayin
   pub gone : KeepsGone saying saying'
   pub owed : Owed
   pub owes : Owes said owed
-  pub replied : IsOwed owed saying → IsOwed owed saying'
   pub given : saying ≡ Silent → IsGivenFor owed old new saying'
 
 -- No more is heard: what was said is refused, or isn't about silences.

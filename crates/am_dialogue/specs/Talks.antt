@@ -137,9 +137,10 @@ IsOwed owed (Elsewhere call) = IsComing owed call
 IsOwed owed (Held reply) = IsReplyTo owed reply
 IsOwed owed (Out reply written) = IsReplyTo owed reply
 
--- If a reply is made, waits or goes out, it is the answer to the request between these states, or a line.
+-- If a reply is made, waits or goes out, it is the answer to the request between these states, or a line; and if none is yet, the
+-- answer has come so far.
 abbrev pub IsGiven : Request → InstanceState → InstanceState → Saying → Type 0
-IsGiven request old new (Elsewhere call) = ⊤
+IsGiven request old new (Elsewhere call) = IsProgressOf request call
 IsGiven request old new saying = IsOwed (Given request old new) saying
 
 -- Nothing more went out.
@@ -165,7 +166,7 @@ abbrev pub put_next : CallProgress → Saying → Saying
 put_next call (Out reply written) = Out reply written
 put_next call _ = Elsewhere call
 
--- An answer that had come so far is given between these states, if it is given.
+-- An answer that had come so far is given between these states, or comes further.
 abbrev pub IsGivenOn : InstanceState → Saying → InstanceState → Saying → Type 0
 IsGivenOn old (Elsewhere call) new saying' = (request : Request) → IsProgressOf request call → IsGiven request old new saying'
 IsGivenOn old saying new saying' = ⊤

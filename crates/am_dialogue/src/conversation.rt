@@ -9,7 +9,7 @@ ghost use Rattle.am_http.specs.Sessions.{fresh, nothing, spoken};
 ghost use Rattle.am_dialogue.specs.Answered.{SaysBy};
 ghost use Rattle.am_instance.specs.InstanceStates.{InstanceState};
 ghost use Rattle.am_dialogue.specs.Calls.{IsProgressOf, WhenTold};
-ghost use Rattle.am_dialogue.specs.Talks.{Closes, IsClosed, IsComing, IsGiven, IsOwnLine, IsReplyTo, IsRequest, IsScreenedBy, Keeps, KeepsBy, KeepsGone, KeepsIf, Lasts, Rests, Stays, pending_in, pending_of, put_next, released, said_next, sent_in, sent_on, talk_of};
+ghost use Rattle.am_dialogue.specs.Talks.{Closes, IsClosed, IsGiven, IsOwnLine, IsReplyTo, IsRequest, IsScreenedBy, Keeps, KeepsBy, KeepsGone, KeepsIf, Lasts, Rests, Stays, pending_in, pending_of, put_next, released, said_next, sent_in, sent_on, talk_of};
 ghost use Rattle.am_dialogue.specs.Talks.Saying.{Silent};
 
 use crate::counting::{Account, Census};
@@ -355,7 +355,6 @@ impl Conversation {
     pub fn put_off(&mut self, call: CallProgress)
         ensures stays { Stays (talk_of self.old) (talk_of self.new) }
         ensures gone { KeepsGone (talk_of self.old).saying (talk_of self.new).saying }
-        ensures comes { KeepsIf (λ owed. IsComing owed call) (talk_of self.old).saying (talk_of self.new).saying }
         ensures puts { (talk_of self.new).saying ≡ put_next call (talk_of self.old).saying }
     {
         if !matches!(self.work, Work::Reply(_)) {
@@ -368,7 +367,6 @@ impl Conversation {
         ensures rests { Rests (talk_of self.old) (talk_of self.new) }
         ensures gone { KeepsGone (talk_of self.old).saying (talk_of self.new).saying }
         // PROMISE: The log that is written in stretches is answered whole, as it was when that began.
-        ensures comes { KeepsIf (λ owed. IsComing owed (CallProgress.Log writing)) (talk_of self.old).saying (talk_of self.new).saying }
         ensures given { (request : Request) (start : InstanceState) (end : InstanceState) → (talk_of self.old).saying ≡ Silent →
             IsProgressOf request (CallProgress.Log writing) → IsGiven request start end (talk_of self.new).saying }
     {

@@ -4,6 +4,7 @@ use Rattle.std.proofs.Common.{◌≡◌, ◌≢◌, ◌⊎◌, ◌∙◌, ◌-�
 use Rattle.std.proofs.lemmas.Bool.{cases_lt}
 use Rattle.std.proofs.lemmas.Bool.{cases_order}
 use Rattle.std.proofs.lemmas.Option.{none-some}
+use Rattle.am_dialogue.proofs.Calls.{owes_owed}
 use Rattle.am_dialogue.proofs.Sayings.{keeps_same}
 use Rattle.am_dialogue.proofs.Steps.{nothing_made}
 use Rattle.am_dialogue.specs.Answered.{AreStepsOf, ByItself, ForPages, IsAnswered, IsKept, IsLeft, IsTaken}
@@ -566,7 +567,7 @@ module _ (connection : ℕ) (standings : ℕ → Standing) (old new : InstanceSt
       bytes = comes.plain done.elsewhere;
       owed = done.owed;
       owes = done.owes;
-      such = done.replied (silent_owed done.owed talk.saying comes.silent);
+      such = owes_owed said done.owed old new talk'.saying done.owes (done.given comes.silent);
     })
   ]
 

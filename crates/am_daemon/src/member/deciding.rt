@@ -11,8 +11,7 @@ ghost use Rattle.am_api_decisions.specs.Asking.{HoldsSame};
 ghost use Rattle.am_dialogue.specs.Answered.{ForPages};
 ghost use Rattle.am_dialogue.specs.Calls.{AnswersQuestion, IsOnly, IsProgressOf, IsUnderway, WhenTold};
 ghost use Rattle.am_dialogue.specs.Calls.CallCause.{Stops};
-ghost use Rattle.am_dialogue.specs.Talks.{Closes, IsGiven, IsOwed, KeepsGone, Rests, talk_of};
-ghost use Rattle.am_dialogue.specs.Talks.Owed.{Answer};
+ghost use Rattle.am_dialogue.specs.Talks.{Closes, IsGiven, KeepsGone, Rests, talk_of};
 ghost use Rattle.am_dialogue.specs.Talks.Saying.{Silent};
 ghost use Rattle.am_dialogue.specs.Waiting.{request_of};
 ghost use Rattle.am_daemon.specs.Calling.{Follows, GivesOrWaits, IsCalled, IsPutOff, IsTurnedAwayFor};
@@ -169,8 +168,6 @@ impl<U: Keeper> Desk<'_, U> {
         ensures closes { Closes (talk_of dialogue.old) (talk_of dialogue.new) }
         ensures gone { KeepsGone (talk_of dialogue.old).saying (talk_of dialogue.new).saying }
         // PROMISE: A program that sends pages is replied what it asks for: the decision of its question, what came of its notice, or the log's list.
-        ensures replied { (request : Request) → (spoken said).request ≡ Some (Read.Whole request) →
-            IsOwed (Answer request) (talk_of dialogue.old).saying → IsOwed (Answer request) (talk_of dialogue.new).saying }
         ensures given { (request : Request) → (spoken said).request ≡ Some (Read.Whole request) → (talk_of dialogue.old).saying ≡ Silent →
             IsGiven request instance.old instance.new (talk_of dialogue.new).saying }
     {

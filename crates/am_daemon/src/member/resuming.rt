@@ -4,8 +4,7 @@ ghost use Rattle.std.specs.Prelude.{◌≡◌};
 ghost use Rattle.am_http.specs.Sessions.{spoken};
 ghost use Rattle.am_dialogue.specs.Answered.{ForPages, IsAnswered};
 ghost use Rattle.am_dialogue.specs.Calls.{IsProgressOf};
-ghost use Rattle.am_dialogue.specs.Talks.{IsGiven, IsGivenOn, IsOwed, KeepsGone, Lasts, Rests, talk_of};
-ghost use Rattle.am_dialogue.specs.Talks.Owed.{Answer};
+ghost use Rattle.am_dialogue.specs.Talks.{IsGiven, IsGivenOn, KeepsGone, Lasts, Rests, talk_of};
 ghost use Rattle.am_dialogue.specs.Talks.Saying.{Silent};
 ghost use Rattle.am_http.specs.declared.request.Request.{Request};
 ghost use Rattle.am_living.specs.Talking.{IsTakenUp};
@@ -42,8 +41,6 @@ impl<U: Keeper> Desk<'_, U> {
         ensures steps { ForPages instance.old instance.new }
         ensures rests { Rests (talk_of dialogue.old) (talk_of dialogue.new) }
         ensures gone { KeepsGone (talk_of dialogue.old).saying (talk_of dialogue.new).saying }
-        ensures replied { (request : Request) → IsOwed (Answer request) (talk_of dialogue.old).saying → IsProgressOf request call →
-            IsOwed (Answer request) (talk_of dialogue.new).saying }
         ensures given { (request : Request) → (talk_of dialogue.old).saying ≡ Silent → IsProgressOf request call →
             IsGiven request instance.old instance.new (talk_of dialogue.new).saying }
     {

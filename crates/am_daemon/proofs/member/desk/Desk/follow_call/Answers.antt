@@ -6,7 +6,7 @@ pub returns-in-Nothing-clause-follows : goal.returns-in-Nothing-clause-follows
 returns-in-Nothing-clause-follows g c = rw c.in-Nothing.is (nothing_follows _ _ refl)
 
 pub returns-in-Later-clause-follows : goal.returns-in-Later-clause-follows
-returns-in-Later-clause-follows g c = rw c.in-Later.is (later_follows c.in-Later.call _ _ c.put_off.ensures.comes c.put_off.ensures.puts)
+returns-in-Later-clause-follows g c = rw c.in-Later.is (later_follows c.in-Later.call _ _ c.put_off.ensures.puts)
 
 pub returns-in-Refused-clause-follows : goal.returns-in-Refused-clause-follows
 returns-in-Refused-clause-follows g c = rw c.in-Refused.is (refused_follows c.in-Refused.refusal _ _ c.refuse.ensures.told)

@@ -8,5 +8,5 @@ returns-in-PendingReply g c =
 
 pub returns-in-Call : goal.returns-in-Call
 returns-in-Call g c =
-    call_taken_up _ _ _ _ _ _ c.in-Call.ensures.after c.in-Call.ensures.value c.go_on_call.ensures.rests c.go_on_call.ensures.gone c.go_on_call.ensures.replied
-    _ _ c.go_on_call.ensures.steps c.go_on_call.ensures.given
+    call_taken_up _ _ _ _ _ _ _ _ c.in-Call.ensures.after c.in-Call.ensures.value c.go_on_call.ensures.rests c.go_on_call.ensures.gone c.go_on_call.ensures.given
+    c.go_on_call.ensures.steps
