@@ -2,7 +2,7 @@
 
 ghost use Rattle.std.specs.Prelude.{◌≡◌, ◌↔◌, ◌⊎◌, ◌≤◌, ℕ, List, IfSome, IsTrue, ⊤, length};
 ghost use Rattle.am_dialogue.specs.Answered.{ByItself, ForPages, IsAnswered};
-ghost use Rattle.am_dialogue.specs.Talks.{Lasts, pending_in, talk_of};
+ghost use Rattle.am_dialogue.specs.Talks.{IsGivenOn, Lasts, pending_in, talk_of};
 ghost use Rattle.am_http.specs.Sessions.{SaysEnd, Spoken, name_of, over as ended_under};
 ghost use Rattle.am_living.specs.Talking.{Does, IsLetIn, IsScreened, IsTakenUp, fresh_talk};
 ghost use Rattle.am_attendant.specs.Members.{IsSameMember};
@@ -69,7 +69,8 @@ pub trait Attendant {
 
     fn come_due(&mut self, instance: &mut Instance, dialogue: &mut Conversation)
         ensures steps { ForPages instance.old instance.new }
-        ensures lasts { Lasts (talk_of dialogue.old) (talk_of dialogue.new) };
+        ensures lasts { Lasts (talk_of dialogue.old) (talk_of dialogue.new) }
+        ensures given { IsGivenOn instance.old (talk_of dialogue.old).saying instance.new (talk_of dialogue.new).saying };
 
     fn hurry(&mut self, dialogue: &mut Conversation)
         ensures { Lasts (talk_of dialogue.old) (talk_of dialogue.new) };

@@ -1,3 +1,4 @@
 pub mod Answering
+pub mod Calling
 pub mod Comings
 pub mod Resuming

@@ -1,13 +1,19 @@
--- A list that is being written is taken out, and goes on.
-use Rattle.std.proofs.Common.{◌≡◌, refl, subst}
+-- What is being made is taken out, and goes on.
+use Rattle.std.proofs.Common.{◌≡◌, ap, refl, subst}
 use Rattle.am_api_silences.specs.declared.pending_reply.PendingReply.{PendingReply}
-use Rattle.am_dialogue.proofs.Sayings.{making_lasts}
+use Rattle.am_dialogue.proofs.Calls.{given_owed}
+use Rattle.am_dialogue.proofs.Sayings.{elsewhere_lasts, making_lasts}
 use Rattle.am_dialogue.proofs.Steps.{nothing_made}
-use Rattle.am_dialogue.specs.Talks.{KeepsBy, Stays, Talk, saying_in, waiting_in}
+use Rattle.am_dialogue.specs.Answered.{ForPages}
+use Rattle.am_dialogue.specs.Calls.{IsProgressOf}
+use Rattle.am_dialogue.specs.Talks.{IsGiven, IsGivenOn, KeepsBy, KeepsGone, Lasts, Rests, Stays, Talk, saying_in, waiting_in}
+use Rattle.am_dialogue.specs.Talks.Saying.{Silent}
+use Rattle.am_dialogue.specs.declared.conversation.CallProgress.{CallProgress}
 use Rattle.am_dialogue.specs.declared.conversation.Work.{Work}
 use Rattle.am_dialogue.specs.declared.conversation.Work.TheVariants as works
 use Rattle.am_gate.specs.Gates.{Way}
 use Rattle.am_http.specs.Sessions.{Standing}
+use Rattle.am_http.specs.declared.request.Request.{Request}
 use Rattle.am_instance.specs.InstanceStates.{InstanceState}
 use Rattle.am_living.specs.Talking.{IsTakenUp}
 use Rattle.am_member.specs.Lives.{IsPagingEvent}
@@ -22,8 +28,38 @@ pub list_taken_up : (way : Way) (session : Standing) (work left : Work) (old new
     KeepsBy making (saying_in left) next.saying → IsTakenUp (waiting_in work) old (talk_with way session work) new next
 list_taken_up way session work left old new next making emptied is same stays by =
     subst (λ (w : Work). IsTakenUp (waiting_in w) old (talk_with way session w) new next) is (record {
-      steps = nothing_made IsPagingEvent old new same;
-      lasts = making_lasts making (talk_with way session (works.PendingReply making)) next refl
-          (subst (λ (w : Work). Stays (talk_with way session w) next) emptied stays)
-          (subst (λ (w : Work). KeepsBy making (saying_in w) next.saying) emptied by);
+      pages = record {
+        steps = nothing_made IsPagingEvent old new same;
+        lasts = making_lasts making (talk_with way session (works.PendingReply making)) next refl
+            (subst (λ (w : Work). Stays (talk_with way session w) next) emptied stays)
+            (subst (λ (w : Work). KeepsBy making (saying_in w) next.saying) emptied by);
+      };
+      given = tt;
     })
+
+-- ---- an answer that isn't about silences
+
+module _ (way : Way) (session : Standing) (work left : Work) (old new : InstanceState) (next : Talk) (call : CallProgress) (emptied : left ≡ works.Nothing)
+    (is : works.Call call ≡ work) (rests : Rests (talk_with way session left) next) (gone : KeepsGone (saying_in left) next.saying)
+    (given : (request : Request) → saying_in left ≡ Silent → IsProgressOf request call → IsGiven request old new next.saying) where
+  given_then : (request : Request) → IsProgressOf request call → IsGiven request old new next.saying
+  given_then request came = given request (ap saying_in emptied) came
+
+  went_on : Lasts (talk_with way session (works.Call call)) next
+  went_on = elsewhere_lasts call (talk_with way session (works.Call call)) next refl refl
+      (subst (λ (w : Work). Rests (talk_with way session w) next) emptied rests)
+      (subst (λ (w : Work). KeepsGone (saying_in w) next.saying) emptied gone)
+      (λ request came. given_owed request old new next.saying (given_then request came))
+
+  -- it goes on
+  pub call_lasts : Lasts (talk_with way session work) next
+  call_lasts = subst (λ (w : Work). Lasts (talk_with way session w) next) is went_on
+
+  -- it is given, or comes further
+  pub call_given : IsGivenOn old (saying_in work) new next.saying
+  call_given = subst (λ (w : Work). IsGivenOn old (saying_in w) new next.saying) is given_then
+
+  -- it goes on in its place in the line
+  pub call_taken_up : ForPages old new → IsTakenUp (waiting_in work) old (talk_with way session work) new next
+  call_taken_up steps = subst (λ (w : Work). IsTakenUp (waiting_in w) old (talk_with way session w) new next) is
+      (record { pages = record { steps = steps; lasts = went_on }; given = given_then })

@@ -2,3 +2,4 @@ pub mod Resting
 pub mod Sayings
 pub mod Sendings
 pub mod Steps
+pub mod Calls

@@ -21,10 +21,13 @@ use Rattle.am_dialogue.specs.declared.conversation.HeldBack.{HeldBack}
 use Rattle.am_dialogue.specs.declared.conversation.Work.{Work}
 use Rattle.am_dialogue.specs.declared.conversation.Work.TheVariants.{HeldBack as HeldBackAs}
 use Rattle.am_dialogue.proofs.Resting.{stays_same}
-use Rattle.am_dialogue.specs.Talks.{IsClosed, IsLine, IsOwed, IsOwnLine, IsReleased, OwnCause, IsReplyTo, Keeps, KeepsBy, KeepsGone, Lasts, Owed, Rests, Saying, Stays, Talk, TellsLine, WaitsNoMore, gone_of, own_line, said_next}
-use Rattle.am_dialogue.specs.Talks.Owed.{Line, Reply, Other}
+use Rattle.am_dialogue.specs.Calls.{IsProgressOf, WhenTold}
+use Rattle.am_dialogue.specs.Talks.{IsClosed, IsComing, IsLine, IsOwed, IsOwnLine, IsReleased, OwnCause, IsReplyTo, Keeps, KeepsBy, KeepsGone, KeepsIf, Lasts, Owed, Rests, Saying, Stays, Talk, TellsLine, WaitsNoMore, gone_of, own_line, said_next}
+use Rattle.am_dialogue.specs.Talks.Owed.{Line, Reply, Answer, Given, Other}
 use Rattle.am_dialogue.specs.Talks.OwnCause.{IsForeign, NotReady, StateTooLarge, FilterTooLarge, PatternTooLarge, NotKept, OutOfMemory}
 use Rattle.am_silence.specs.declared.error.SilenceError.TheVariants.{BadPattern}
+use Rattle.am_http.specs.declared.request.Request.{Request}
+use Rattle.am_dialogue.specs.declared.conversation.CallProgress.{CallProgress}
 use Rattle.am_dialogue.specs.Talks.Saying.{Silent, Making, Elsewhere, Held, Out}
 
 pub keeps_same : (old new : Saying) → new ≡ old → Keeps old new
@@ -37,23 +40,29 @@ keeps_on a b c first then = record { owed = λ owed was. then.owed owed (first.o
 pub by_on : (making : PendingReply) (a b c : Saying) → KeepsBy making a b → Keeps b c → KeepsBy making a c
 by_on making a b c first then = record { owed = λ owed was makes. then.owed owed (first.owed owed was makes); gone = then.gone ∙ first.gone }
 
+-- (whatever an instance is, a refusal tells nothing of it)
+no_instance : InstanceState
+no_instance = record { config = record { members = []; place = 0; retention = 0; peer_timeout = 0; dialect = Regex; unknown = Drop }; silences = []; log = []; last = 0 }
+
 -- a line is replied whatever was owed
 line_to : (owed : Owed) (reply : ReplyBytes) → IsLine reply → IsReplyTo owed reply
 line_to Line reply line = line
 line_to (Reply begun) reply line = inr line
+line_to (Answer request) reply line = (no_instance, no_instance, inr (inr line))
+line_to (Given request old new) reply line = inr (inr line)
 line_to Other reply line = tt
 
-next_owed : (owed : Owed) (reply : ReplyBytes) (old : Saying) → IsOwed owed old → IsReplyTo owed reply → IsOwed owed (said_next reply old)
+pub next_owed : (owed : Owed) (reply : ReplyBytes) (old : Saying) → IsOwed owed old → IsReplyTo owed reply → IsOwed owed (said_next reply old)
 next_owed owed reply Silent was is = is
 next_owed owed reply (Making making) was is = is
-next_owed owed reply Elsewhere was is = is
+next_owed owed reply (Elsewhere call) was is = is
 next_owed owed reply (Held held) was is = is
 next_owed owed reply (Out other written) was is = was
 
 pub next_gone : (reply : ReplyBytes) (old : Saying) → KeepsGone old (said_next reply old)
 next_gone reply Silent = refl
 next_gone reply (Making making) = refl
-next_gone reply Elsewhere = refl
+next_gone reply (Elsewhere call) = refl
 next_gone reply (Held held) = refl
 next_gone reply (Out other written) = refl
 
@@ -96,17 +105,13 @@ patterns_own told (inl is) = told_own FilterTooLarge told is
 patterns_own told (inr is) = told_own PatternTooLarge told is
 
 -- such a line is what a refusal is told by
-says_line : (line : RefusalLine) (reply : ReplyBytes) → IsOwnLine line → Says (λ bytes. bytes ≡ line_bytes line) reply → IsLine reply
+pub says_line : (line : RefusalLine) (reply : ReplyBytes) → IsOwnLine line → Says (λ bytes. bytes ≡ line_bytes line) reply → IsLine reply
 says_line line (Own bytes) own says = (line, own, says)
 says_line line (Fixed bytes) own says = (memory_line, (OutOfMemory, refl), says)
 
 tells_line : (line : RefusalLine) (reply : ReplyBytes) → Says (λ bytes. bytes ≡ line_bytes line) reply → TellsLine line reply
 tells_line line (Own bytes) says = inl says
 tells_line line (Fixed bytes) says = inr says
-
--- (whatever an instance is, a refusal tells nothing of it)
-no_instance : InstanceState
-no_instance = record { config = record { members = []; place = 0; retention = 0; peer_timeout = 0; dialect = Regex; unknown = Drop }; silences = []; log = []; last = 0 }
 
 pub line_made : (refusal : Refusal) (begun : PendingAnswer) (reply : ReplyBytes) → ((stand : InstanceState) → WhenMade (λ answered. IsRefusalAnswer refusal stand answered stand) begun)
     → IsOwnLine (line_seen refusal) → IsMadeOf begun.making reply → IsLine reply
@@ -131,19 +136,36 @@ pub by_more : (making more : PendingReply) (old new : Saying) → Makes (IsMadeO
 by_more making more old new same by =
     record { owed = λ owed was makes. by.owed owed was (λ reply made. makes reply (same reply made)); gone = by.gone }
 
--- of what isn't about silences nothing is said
+-- what is said to go out stays as it was, or tells the line
+pub told_keeps : (refusal : Refusal) (begun : PendingAnswer) (reply : ReplyBytes) (old new : Saying) →
+    ((stand : InstanceState) → WhenMade (λ answered. IsRefusalAnswer refusal stand answered stand) begun) → IsMadeOf begun.making reply → new ≡ said_next reply old →
+    KeepsIf (λ owed. WhenTold (IsReplyTo owed) (line_seen refusal)) old new
+told_keeps refusal begun reply old new refused made is owed was told =
+    subst (IsOwed owed) (sym is) (next_owed owed reply old was (told reply (refused no_instance reply made).says))
+
+-- of what is about the member itself nothing is said
 pub other_owed : (saying : Saying) → IsOwed Other saying
 other_owed Silent = tt
 other_owed (Making making) = λ reply made. tt
-other_owed Elsewhere = refl
+other_owed (Elsewhere call) = tt
 other_owed (Held reply) = tt
 other_owed (Out reply written) = tt
 
-pub elsewhere_keeps : (new : Saying) → KeepsGone Elsewhere new → Keeps Elsewhere new
-elsewhere_keeps new gone = record { owed = λ owed is. subst (λ (o : Owed). IsOwed o new) (sym is) (other_owed new); gone = gone }
+-- an answer that has come this far
+coming_owed : (call : CallProgress) (new : Saying) → ((request : Request) → IsProgressOf request call → IsOwed (Answer request) new) →
+    (owed : Owed) → IsComing owed call → IsOwed owed new
+coming_owed call new answered Line coming = absurd coming
+coming_owed call new answered (Reply begun) coming = absurd coming
+coming_owed call new answered (Answer request) coming = answered request coming
+coming_owed call new answered (Given request start end) coming = absurd coming
+coming_owed call new answered Other coming = other_owed new
 
-elsewhere_loud : Elsewhere ≡ Silent → ⊥
-elsewhere_loud e = cc
+pub elsewhere_keeps : (call : CallProgress) (new : Saying) → ((request : Request) → IsProgressOf request call → IsOwed (Answer request) new) →
+    KeepsGone (Elsewhere call) new → Keeps (Elsewhere call) new
+elsewhere_keeps call new answered gone = record { owed = coming_owed call new answered; gone = gone }
+
+elsewhere_loud : (call : CallProgress) → Elsewhere call ≡ Silent → ⊥
+elsewhere_loud call e = cc
 
 making_loud : (making : PendingReply) → Making making ≡ Silent → ⊥
 making_loud making e = cc
@@ -179,16 +201,17 @@ silent_closes old new none closed = record {
 }
 
 -- what isn't about silences goes on
-pub elsewhere_lasts : (old new : Talk) → old.saying ≡ Elsewhere → old.waiting ≡ None → Rests (record old { saying = Silent }) new → KeepsGone Silent new.saying → Lasts old new
-elsewhere_lasts old new here none (inl stays) gone = lasts_by old new
+pub elsewhere_lasts : (call : CallProgress) (old new : Talk) → old.saying ≡ Elsewhere call → old.waiting ≡ None → Rests (record old { saying = Silent }) new →
+    KeepsGone Silent new.saying → ((request : Request) → IsProgressOf request call → IsOwed (Answer request) new.saying) → Lasts old new
+elsewhere_lasts call old new here none (inl stays) gone answered = lasts_by old new
     (record { way = stays.way; session = stays.session; waiting = stays.waiting })
-    (λ e. absurd (elsewhere_loud (sym here ∙ e)))
-    (subst (λ (s : Saying). Keeps s new.saying) (sym here) (elsewhere_keeps new.saying gone))
-elsewhere_lasts old new here none (inr closes) gone = inr (record {
+    (λ e. absurd (elsewhere_loud call (sym here ∙ e)))
+    (subst (λ (s : Saying). Keeps s new.saying) (sym here) (elsewhere_keeps call new.saying answered gone))
+elsewhere_lasts call old new here none (inr closes) gone answered = inr (record {
   way = closes.way;
   session = closes.session;
   waiting = none_waits old new none closes.waiting;
-  saying = subst (λ (s : Saying). Keeps s new.saying) (sym here) (elsewhere_keeps new.saying gone);
+  saying = subst (λ (s : Saying). Keeps s new.saying) (sym here) (elsewhere_keeps call new.saying answered gone);
 })
 
 -- a list goes on being made

@@ -43,7 +43,7 @@ challenge_rest count shut = drop_none count
 reply_rest : (count : ℕ) (saying : Saying) → pending_of (sent_on count saying) ≡ drop count (pending_of saying)
 reply_rest count Silent = drop_none count
 reply_rest count (Making making) = drop_none count
-reply_rest count Elsewhere = drop_none count
+reply_rest count (Elsewhere call) = drop_none count
 reply_rest count (Held reply) = drop_none count
 reply_rest count (Out reply written) = sym (drop-drop count written (bytes_of reply))
 

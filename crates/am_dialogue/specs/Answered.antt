@@ -1,5 +1,5 @@
 -- The results of what a connection said, and of steps that are no turns of one.
-use Rattle.std.specs.Prelude.{◌≡◌, ◌⊎◌, ℕ, List, [], ◌∷◌, Option, None, Some, Result}
+use Rattle.std.specs.Prelude.{◌≡◌, ◌⊎◌, ℕ, List, [], ◌∷◌, Option, None, Some, Result, ⊤}
 use Rattle.am_api_silences.specs.declared.pending_reply.PendingReply.{PendingReply}
 use Rattle.am_http.specs.Sessions.{Spoken, name_of}
 use Rattle.am_instance.specs.declared.event.Event.{Event}
@@ -14,7 +14,8 @@ use Rattle.am_member.specs.declared.session_answer.SessionAnswer.{SessionAnswer}
 use Rattle.am_member.specs.Exchanging.{IsSessionAnswer, left_at}
 use Rattle.am_member.specs.Lives.{IsOwnEvent, IsPagingEvent}
 use Rattle.am_member.specs.Sparing.{spared}
-use Rattle.am_dialogue.specs.Talks.{Closes, IsElsewhere, IsRequest, Keeps, KeepsBy, KeepsGone, Saying, Talk, WaitsNoMore}
+use Rattle.am_dialogue.specs.Talks.{Closes, IsElsewhere, IsGiven, IsRequest, Keeps, KeepsBy, KeepsGone, Owed, Owes, Saying, Talk, WaitsNoMore}
+use Rattle.am_dialogue.specs.Talks.Owed.{Answer}
 use Rattle.am_dialogue.specs.Talks.Saying.{Silent}
 
 -- ---- steps that are no turns of a connection
@@ -73,11 +74,20 @@ pub record IsRefused (old : InstanceState) (saying : Saying) (new : InstanceStat
   pub same : new ≡ old
   pub line : Keeps saying saying'
 
--- A request isn't about silences: nothing was done but steps for a program that sends pages, and nothing more went out.
+-- What is owed is given between these states, if it is the answer to a call.
+abbrev pub IsGivenFor : Owed → InstanceState → InstanceState → Saying → Type 0
+IsGivenFor (Answer request) old new saying = IsGiven request old new saying
+IsGivenFor owed old new saying = ⊤
+
+-- A request isn't about silences: nothing was done but steps for a program that sends pages, and nothing more went out. What is
+-- replied is what the request is owed, between these states.
 pub record IsElsewhereDone (said : Spoken) (old : InstanceState) (saying : Saying) (new : InstanceState) (saying' : Saying) : Type 0 where
   pub elsewhere : IsElsewhere said
   pub steps : ForPages old new
   pub gone : KeepsGone saying saying'
+  pub owed : Owed
+  pub owes : Owes said owed
+  pub given : saying ≡ Silent → IsGivenFor owed old new saying'
 
 -- No more is heard: what was said is refused, or isn't about silences.
 pub record IsLeft (said : Spoken) (old : InstanceState) (talk : Talk) (new : InstanceState) (talk' : Talk) : Type 0 where

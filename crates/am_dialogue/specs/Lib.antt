@@ -1,3 +1,4 @@
 pub mod Talks
 pub mod Answered
 pub mod Waiting
+pub mod Calls

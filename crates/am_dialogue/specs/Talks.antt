@@ -1,21 +1,28 @@
 -- A connection in a member's life: the progress of its gate and its session, what it said that waits, and what is replied.
-use Rattle.std.specs.Prelude.{◌≡◌, ◌⊎◌, ◌+◌, ◌-◌, ◌++◌, ℕ, min, Bool, false, not, ◌||◌, MatchBool, List, [], length, take, drop, codes, Option, Some, None, Err, ⊤}
+use Rattle.std.specs.Prelude.{◌≡◌, ◌⊎◌, ◌+◌, ◌-◌, ◌++◌, ℕ, min, Bool, false, not, ◌||◌, MatchBool, List, [], length, take, drop, codes, string_bytes, Option, Some, None, Err, ⊤}
 use Rattle.am_api_silences.specs.Events.{IsCall}
 use Rattle.am_api_silences.specs.PendingReply.{IsMadeOf, Makes}
 use Rattle.am_api_silences.specs.Replies.{bytes_of, line_bytes}
 use Rattle.am_api_silences.specs.Table.{memory_line, refused_line}
 use Rattle.am_api_silences.specs.declared.pending_reply.PendingReply.{PendingReply}
 use Rattle.am_api_silences.specs.declared.replies.ReplyBytes.{ReplyBytes}
+use Rattle.am_api_status.specs.Calls.{path_at}
+use Rattle.am_api_status.specs.declared.routes.Resource.{Resource}
 use Rattle.am_gate.specs.Gates.{Way, challenge_left, challenge_sent}
 use Rattle.am_http.specs.Hosts.{line_of_foreign}
 use Rattle.am_http.specs.Lines.{RefusalLine, line, line_of}
+use Rattle.am_http.specs.Paths.{path_of}
 use Rattle.am_http.specs.declared.cause.Cause.TheVariants.{BadFilter, Memory, NoSuchPath}
 use Rattle.am_http.specs.declared.hosts.Foreign.{Foreign}
 use Rattle.am_http.specs.declared.hosts.Screened.TheVariants.{Foreign as ForeignTo}
 use Rattle.am_http.specs.declared.request.Read.{Read}
 use Rattle.am_http.specs.declared.request.Read.TheVariants.{Whole}
+use Rattle.am_http.specs.declared.request.Request.{Request}
 use Rattle.am_http.specs.Sessions.{Screens, Spoken, Standing, name_of, over, spoken}
+use Rattle.am_instance.specs.InstanceStates.{InstanceState}
 use Rattle.am_silence.specs.declared.error.SilenceError.TheVariants.{BadPattern}
+use Rattle.am_dialogue.specs.Calls.{IsAnswer, IsProgressOf, IsTurnedAway}
+use Rattle.am_dialogue.specs.declared.conversation.CallProgress.{CallProgress}
 use Rattle.am_dialogue.specs.declared.conversation.Conversation.{Conversation}
 use Rattle.am_dialogue.specs.declared.conversation.Work.{Work}
 use Rattle.am_dialogue.specs.declared.conversation.Work.TheVariants as works
@@ -23,12 +30,12 @@ use Rattle.am_dialogue.specs.declared.conversation.Work.TheVariants as works
 -- ---- what is replied
 
 -- the reply to a connection: nothing yet; a reply that a step has begun, which is being made; a reply to a request that
--- isn't about silences, which is being made; a whole reply, which waits for the next commit; or one of which this many bytes went
--- out
+-- isn't about silences, which has come this far; a whole reply, which waits for the next commit; or one of which this many bytes
+-- went out
 pub data Saying : Type 0 where
   Silent : Saying
   Making : PendingReply → Saying
-  Elsewhere : Saying
+  Elsewhere : CallProgress → Saying
   Held : ReplyBytes → Saying
   Out : ReplyBytes → ℕ → Saying
 
@@ -91,26 +98,49 @@ IsScreenedBy session piece names told =
 abbrev pub TellsLine : RefusalLine → ReplyBytes → Type 0
 TellsLine told reply = (bytes_of reply ≡ line_bytes told) ⊎ (bytes_of reply ≡ line_bytes memory_line)
 
--- the reply that a connection is owed: nothing but such a line; the reply that its step has begun, or a line; or any reply to a
--- request that isn't about silences
+-- The reply to a call of a program that sends pages: its answer between these states, or a line of the member's own.
+abbrev pub IsCallReply : Request → InstanceState → ReplyBytes → InstanceState → Type 0
+IsCallReply request old reply new = IsAnswer request old reply new ⊎ (IsTurnedAway reply ⊎ IsLine reply)
+
+-- the reply that a connection is owed: nothing but such a line; the reply that its step has begun, or a line; the answer to the
+-- call of a program that sends pages, or a line; that answer between these states; or any reply to a request about the member
+-- itself
 pub data Owed : Type 0 where
   Line : Owed
   Reply : PendingReply → Owed
+  Answer : Request → Owed
+  Given : Request → InstanceState → InstanceState → Owed
   Other : Owed
 
 -- The connection may be given this reply, by what it is owed.
 abbrev pub IsReplyTo : Owed → ReplyBytes → Type 0
 IsReplyTo Line reply = IsLine reply
 IsReplyTo (Reply begun) reply = IsMadeOf begun reply ⊎ IsLine reply
+IsReplyTo (Answer request) reply = (old : InstanceState) × (new : InstanceState) × IsCallReply request old reply new
+IsReplyTo (Given request old new) reply = IsCallReply request old reply new
 IsReplyTo Other reply = ⊤
+
+-- A reply that has come this far is one that the connection is owed.
+abbrev pub IsComing : Owed → CallProgress → Type 0
+IsComing Line call = ⊥
+IsComing (Reply begun) call = ⊥
+IsComing (Answer request) call = IsProgressOf request call
+IsComing (Given request old new) call = ⊥
+IsComing Other call = ⊤
 
 -- If a reply is made, waits or goes out, it is one that the connection is owed.
 abbrev pub IsOwed : Owed → Saying → Type 0
 IsOwed owed Silent = ⊤
 IsOwed owed (Making making) = Makes (IsReplyTo owed) making
-IsOwed owed Elsewhere = owed ≡ Other
+IsOwed owed (Elsewhere call) = IsComing owed call
 IsOwed owed (Held reply) = IsReplyTo owed reply
 IsOwed owed (Out reply written) = IsReplyTo owed reply
+
+-- If a reply is made, waits or goes out, it is the answer to the request between these states, or a line; and if none is yet, the
+-- answer has come so far.
+abbrev pub IsGiven : Request → InstanceState → InstanceState → Saying → Type 0
+IsGiven request old new (Elsewhere call) = IsProgressOf request call
+IsGiven request old new saying = IsOwed (Given request old new) saying
 
 -- Nothing more went out.
 abbrev pub KeepsGone : Saying → Saying → Type 0
@@ -125,6 +155,20 @@ pub record Keeps (old new : Saying) : Type 0 where
 pub record KeepsBy (making : PendingReply) (old new : Saying) : Type 0 where
   pub owed : (owed : Owed) → IsOwed owed old → Makes (IsReplyTo owed) making → IsOwed owed new
   pub gone : KeepsGone old new
+
+-- If this is such as is owed, the reply is or stays one that is owed.
+abbrev pub KeepsIf : (Owed → Type 0) → Saying → Saying → Type 0
+KeepsIf IsSuch old new = (owed : Owed) → IsOwed owed old → IsSuch owed → IsOwed owed new
+
+-- the reply once a call is put off, unless one goes out already
+abbrev pub put_next : CallProgress → Saying → Saying
+put_next call (Out reply written) = Out reply written
+put_next call _ = Elsewhere call
+
+-- An answer that had come so far is given between these states, or comes further.
+abbrev pub IsGivenOn : InstanceState → Saying → InstanceState → Saying → Type 0
+IsGivenOn old (Elsewhere call) new saying' = (request : Request) → IsProgressOf request call → IsGiven request old new saying'
+IsGivenOn old saying new saying' = ⊤
 
 -- ---- a connection, as the member's life sees it
 
@@ -146,7 +190,7 @@ saying_in works.Nothing = Silent
 saying_in (works.Request said) = Silent
 saying_in (works.Judging said judging) = Silent
 saying_in (works.PendingReply making) = Making making
-saying_in (works.Call call) = Elsewhere
+saying_in (works.Call call) = Elsewhere call
 saying_in (works.HeldBack held) = Held held.reply
 saying_in (works.Reply outgoing) = Out outgoing.reply outgoing.written
 
@@ -224,3 +268,14 @@ AsksElsewhere _ = ⊥
 -- Such a request was said.
 abbrev pub IsElsewhere : Spoken → Type 0
 IsElsewhere said = (read : Read) × (said.request ≡ Some read) × AsksElsewhere read
+
+-- A whole request was read, whose path names a page about the member.
+abbrev pub AsksOfMember : Read → Type 0
+AsksOfMember (Whole request) = (resource : Resource) × (path_of (string_bytes request.target) ≡ path_at resource)
+AsksOfMember _ = ⊥
+
+-- Such a request is owed this: any reply if its path names a page about the member, and otherwise its answer.
+abbrev pub Owes : Spoken → Owed → Type 0
+Owes said (Answer request) = said.request ≡ Some (Whole request)
+Owes said Other = (read : Read) × (said.request ≡ Some read) × AsksOfMember read
+Owes said _ = ⊥

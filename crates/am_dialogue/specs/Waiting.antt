@@ -1,6 +1,7 @@
--- The limits until which requests for decisions wait.
+-- Requests for decisions that wait, and the limits until which they do.
 use Rattle.std.specs.Prelude.{Bool, true, false}
 use Rattle.std.specs.declared.time.Instant.{Instant}
+use Rattle.am_http.specs.declared.request.Request.{Request}
 use Rattle.am_dialogue.specs.declared.turns.Turn.{Turn}
 use Rattle.am_dialogue.specs.declared.turns.Wait.{Wait}
 use Rattle.am_dialogue.specs.declared.turns.Wait.TheVariants as waits
@@ -14,3 +15,7 @@ waits_until waits.Turn are_over limit = limit
 -- the moment until which a request waits
 abbrev pub due_of : Turn → Bool → Instant
 due_of turn are_over = waits_until turn.wait are_over turn.limit
+
+-- the request that waits
+abbrev pub request_of : Turn → Request
+request_of turn = turn.request

@@ -8,7 +8,9 @@ ghost use Rattle.am_http.specs.Hosts.{texts};
 ghost use Rattle.am_http.specs.Lines.{line_seen};
 ghost use Rattle.am_http.specs.Sessions.{fresh, nothing, spoken};
 ghost use Rattle.am_dialogue.specs.Answered.{SaysBy};
-ghost use Rattle.am_dialogue.specs.Talks.{Closes, IsClosed, IsOwnLine, IsReleased, IsRequest, IsScreenedBy, Keeps, KeepsBy, KeepsGone, Lasts, Rests, Stays, TellsLine, pending_in, pending_of, said_next, sent_in, sent_on, talk_of};
+ghost use Rattle.am_instance.specs.InstanceStates.{InstanceState};
+ghost use Rattle.am_dialogue.specs.Calls.{IsProgressOf, WhenTold};
+ghost use Rattle.am_dialogue.specs.Talks.{Closes, IsClosed, IsGiven, IsOwnLine, IsReleased, IsReplyTo, IsRequest, IsScreenedBy, Keeps, KeepsBy, KeepsGone, KeepsIf, Lasts, Rests, Stays, TellsLine, pending_in, pending_of, put_next, said_next, sent_in, sent_on, talk_of};
 ghost use Rattle.am_dialogue.specs.Talks.Saying.{Silent};
 
 use crate::counting::{Account, Census};
@@ -225,7 +227,8 @@ impl Conversation {
         ensures refused { IsOwnLine (line_seen refusal.now) → IsClosed (talk_of self.old) (talk_of self.new) }
         ensures closes { Closes (talk_of self.old) (talk_of self.new) }
         ensures gone { KeepsGone (talk_of self.old).saying (talk_of self.new).saying }
-        ensures told { (reply : Reply) × TellsLine (line_seen refusal.now) reply × ((talk_of self.new).saying ≡ said_next reply (talk_of self.old).saying) }
+        ensures line { (reply : Reply) × TellsLine (line_seen refusal.now) reply × ((talk_of self.new).saying ≡ said_next reply (talk_of self.old).saying) }
+        ensures told { KeepsIf (λ owed. WhenTold (IsReplyTo owed) (line_seen refusal.now)) (talk_of self.old).saying (talk_of self.new).saying }
     {
         self.session.stop();
         let PendingAnswer { making, .. } = refuse(alloc, refusal);
@@ -354,6 +357,7 @@ impl Conversation {
     pub fn put_off(&mut self, call: CallProgress)
         ensures stays { Stays (talk_of self.old) (talk_of self.new) }
         ensures gone { KeepsGone (talk_of self.old).saying (talk_of self.new).saying }
+        ensures puts { (talk_of self.new).saying ≡ put_next call (talk_of self.old).saying }
     {
         if !matches!(self.work, Work::Reply(_)) {
             self.set(Work::Call(call));
@@ -364,6 +368,9 @@ impl Conversation {
     pub fn go_on_log(&mut self, alloc: Global, writing: LogWriting)
         ensures rests { Rests (talk_of self.old) (talk_of self.new) }
         ensures gone { KeepsGone (talk_of self.old).saying (talk_of self.new).saying }
+        // PROMISE: The log that is written in stretches is answered whole, as it was when that began.
+        ensures given { (request : Request) (start : InstanceState) (end : InstanceState) → (talk_of self.old).saying ≡ Silent →
+            IsProgressOf request (CallProgress.Log writing) → IsGiven request start end (talk_of self.new).saying }
     {
         if writing.is_written() {
             return self.say(writing.finish(alloc));

@@ -2,7 +2,8 @@
 
 ghost use Rattle.std.specs.Prelude.{◌<◌, IfSome};
 ghost use Rattle.am_http.specs.Sessions.{spoken};
-ghost use Rattle.am_dialogue.specs.Talks.{IsElsewhere};
+ghost use Rattle.am_dialogue.specs.Talks.{AsksOfMember, IsElsewhere, Owes};
+ghost use Rattle.am_dialogue.specs.Talks.Owed.{Other};
 
 use crate::turns::is_elsewhere;
 use am_api_decisions as decisions;
@@ -23,7 +24,8 @@ const STRETCH: usize = 8_192;
 
 /// Returns the resource of the member itself that was asked for, if one was.
 pub fn asked_of_itself(said: &SessionOutput) -> Option<Resource>
-    ensures { IfSome result (λ _. IsElsewhere (spoken said.now)) }
+    ensures elsewhere { IfSome result (λ _. IsElsewhere (spoken said.now)) }
+    ensures owes { IfSome result (λ _. Owes (spoken said.now) Other) }
 {
     match &said.request {
         Some(read) if is_elsewhere(read) => resource_in(read),
@@ -32,7 +34,9 @@ pub fn asked_of_itself(said: &SessionOutput) -> Option<Resource>
 }
 
 /// Returns the resource of the member that a request names, if it names one.
-fn resource_in(read: &Read) -> Option<Resource> {
+fn resource_in(read: &Read) -> Option<Resource>
+    ensures { IfSome result (λ _. AsksOfMember read.now) }
+{
     match read {
         Read::Whole(request) => resource_of(&request.target),
         _ => None,

@@ -3,7 +3,7 @@
 ghost use Rattle.std.specs.Prelude.{◌≡◌, Bool, true, false, IsTrue};
 ghost use Rattle.am_http.specs.Sessions.{spoken};
 ghost use Rattle.am_dialogue.specs.Talks.{AsksElsewhere, IsElsewhere};
-ghost use Rattle.am_dialogue.specs.Waiting.{due_of};
+ghost use Rattle.am_dialogue.specs.Waiting.{due_of, request_of};
 
 use am_api_decisions::is_for_decisions;
 use am_api_silences::{Read, Request};
@@ -37,7 +37,8 @@ pub struct Turn {
 impl Turn {
     /// Returns a request that waits for the member's turn, which comes at `due`.
     pub fn new(request: Request, due: Instant) -> Turn
-        ensures { (are_over : Bool) → due_of result are_over ≡ due }
+        ensures due { (are_over : Bool) → due_of result are_over ≡ due }
+        ensures same { request_of result ≡ request }
     {
         Turn {
             request,
@@ -50,6 +51,7 @@ impl Turn {
     pub fn for_exchanges(request: Request, round: u64, since: Instant, limit: Instant) -> Turn
         ensures over { due_of result true ≡ since }
         ensures under_way { due_of result false ≡ limit }
+        ensures same { request_of result ≡ request }
     {
         Turn {
             request,
@@ -59,7 +61,9 @@ impl Turn {
     }
 
     /// Returns the request, which now waits only for its place in the line, until the limit at the latest.
-    pub fn into_due(self, limit: Option<Instant>) -> Due {
+    pub fn into_due(self, limit: Option<Instant>) -> Due
+        ensures { result.request ≡ request_of self }
+    {
         let stage = match self.wait {
             Wait::Turn => Stage::InTurn,
             Wait::Exchanges { .. } => Stage::Heard,

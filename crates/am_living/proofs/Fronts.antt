@@ -207,7 +207,7 @@ front_sent count shut session fed front f = subst (λ (l : List ℕ). IsFront sh
 reply_gone : (count : ℕ) (saying : Saying) → gone_of (sent_on count saying) ≡ gone_of saying ++ take count (pending_of saying)
 reply_gone count Silent = sym (take_none count)
 reply_gone count (Making making) = sym (take_none count)
-reply_gone count Elsewhere = sym (take_none count)
+reply_gone count (Elsewhere call) = sym (take_none count)
 reply_gone count (HeldBack reply) = sym (take_none count)
 reply_gone count (Out reply written) = take-add written count (reply_bytes reply)
 

@@ -4,6 +4,7 @@ use Rattle.std.proofs.Common.{◌≡◌, ◌≢◌, ◌⊎◌, ◌∙◌, ◌-�
 use Rattle.std.proofs.lemmas.Bool.{cases_lt}
 use Rattle.std.proofs.lemmas.Bool.{cases_order}
 use Rattle.std.proofs.lemmas.Option.{none-some}
+use Rattle.am_dialogue.proofs.Calls.{owes_owed}
 use Rattle.am_dialogue.proofs.Sayings.{keeps_same}
 use Rattle.am_dialogue.proofs.Steps.{nothing_made}
 use Rattle.am_dialogue.specs.Answered.{AreStepsOf, ByItself, ForPages, IsAnswered, IsKept, IsLeft, IsTaken}
@@ -50,7 +51,7 @@ use Rattle.am_seal.specs.declared.seal.SealError.{SealError}
 use Rattle.am_seal.specs.declared.sequence.Sequence.{Sequence}
 use Rattle.am_seal.specs.Sequences.{after, first_in}
 use Rattle.am_living.specs.Living.{AreOf, AreOwn, LivesOn, Passed, nothing_passed, passed_on}
-use Rattle.am_living.specs.Talking.{AreFed, HasAskedElsewhere, Does, HasAsked, IsDone, IsEnded, IsFed, IsForPages, IsFront, IsHeard, IsInAccord, IsLetIn, IsMeantFor, IsReplied, IsSent, IsStill, IsTakenUp, fresh_talk, owed_after, owed_by, owed_on}
+use Rattle.am_living.specs.Talking.{AreFed, HasAskedElsewhere, Does, HasAsked, IsCalledOn, IsDone, IsEnded, IsFed, IsForPages, IsFront, IsHeard, IsInAccord, IsLetIn, IsMeantFor, IsReplied, IsSent, IsStill, IsTakenUp, fresh_talk, owed_after, owed_by, owed_on}
 use Rattle.am_living.proofs.Fronts.{asked_then, front_bound, front_ends, front_on, front_then, gate_fronts, gone_then, order_then}
 use Rattle.am_living.proofs.Lived.{chosen_is}
 
@@ -353,6 +354,21 @@ keeps_saying talk talk' (inr closes) = closes.saying
 silent_owed : (owed : Owed) (saying : Saying) → saying ≡ Silent → IsOwed owed saying
 silent_owed owed saying silent = subst (IsOwed owed) (sym silent) tt
 
+-- what is owed elsewhere stays so
+still_elsewhere : (fed : List ℕ) (standing : Standing) (turns : List Turn) (Is Then : Owed → Type 0) → ((owed : Owed) → Is owed → Then owed) →
+    HasAskedElsewhere fed standing turns Is → HasAskedElsewhere fed standing turns Then
+still_elsewhere fed standing turns Is Then on asks = record {
+  came = asks.came;
+  said = asks.said;
+  left = asks.left;
+  tells = asks.tells;
+  elsewhere = asks.elsewhere;
+  bytes = asks.bytes;
+  owed = asks.owed;
+  owes = asks.owes;
+  such = on asks.owed asks.such;
+}
+
 -- where it stands
 abbrev Stands : List ℕ → Standing → List Turn → Talk → Type 0
 Stands fed standing turns talk = IsHeard talk fed standing turns ⊎ (HasAsked talk fed standing turns ⊎ IsDone talk fed standing turns)
@@ -404,7 +420,10 @@ module _ (fed : List ℕ) (standing : Standing) (turns : List Turn) (talk talk' 
     waiting = no_more_waits talk talk' done.waiting lasts;
     ended = ended_on talk talk' done.ended lasts;
     bytes = along talk.way talk'.way fed turns done.rest (same_way talk talk' lasts) done.bytes;
-    owed = elim done.owed [ inl owed ↦ inl ((keeps_saying talk talk' lasts).owed (owed_by turns) owed) | inr asks ↦ inr asks ];
+    owed = elim done.owed [
+      | inl owed ↦ inl ((keeps_saying talk talk' lasts).owed (owed_by turns) owed)
+      | inr asks ↦ inr (still_elsewhere fed standing turns (λ o. IsOwed o talk.saying) (λ o. IsOwed o talk'.saying) (keeps_saying talk talk' lasts).owed asks)
+    ];
   }))
 
 -- the session of what lasts is the same, or over
@@ -535,7 +554,8 @@ module _ (connection : ℕ) (standings : ℕ → Standing) (old new : InstanceSt
         }));
       })
 
-  left_owed : Comes → IsLeft said old talk new talk' → IsOwed (owed_by turns) talk'.saying ⊎ HasAskedElsewhere passed.fed (standings connection) turns
+  left_owed : Comes → IsLeft said old talk new talk' →
+      IsOwed (owed_by turns) talk'.saying ⊎ HasAskedElsewhere passed.fed (standings connection) turns (λ o. IsOwed o talk'.saying)
   left_owed comes left = elim left.done [
     | inl refused ↦ inl (refused.line.owed (owed_by turns) (silent_owed (owed_by turns) talk.saying comes.silent))
     | inr done ↦ inr (record {
@@ -545,6 +565,9 @@ module _ (connection : ℕ) (standings : ℕ → Standing) (old new : InstanceSt
       tells = comes.tells;
       elsewhere = done.elsewhere;
       bytes = comes.plain done.elsewhere;
+      owed = done.owed;
+      owes = done.owes;
+      such = owes_owed said done.owed old new talk'.saying done.owes (done.given comes.silent);
     })
   ]
 
@@ -735,7 +758,7 @@ gate_through kind (Some lock) challenge shut session piece told way' session' so
 sent_owed : (count : ℕ) (owed : Owed) (saying : Saying) → IsOwed owed saying → IsOwed owed (sent_on count saying)
 sent_owed count owed Silent was = was
 sent_owed count owed (Making making) was = was
-sent_owed count owed Elsewhere was = was
+sent_owed count owed (Elsewhere call) was = was
 sent_owed count owed (HeldBack reply) was = was
 sent_owed count owed (Out reply written) was = was
 
@@ -784,7 +807,11 @@ module _ (fed : List ℕ) (standing : Standing) (turns : List Turn) (talk : Talk
     waiting = done.waiting;
     ended = done.ended;
     bytes = sent_fed talk.way done.rest first_of done.bytes;
-    owed = elim done.owed [ inl owed ↦ inl (sent_owed count (owed_by turns) talk.saying owed) | inr asks ↦ inr asks ];
+    owed = elim done.owed [
+      | inl owed ↦ inl (sent_owed count (owed_by turns) talk.saying owed)
+      | inr asks ↦ inr (still_elsewhere fed standing turns (λ o. IsOwed o talk.saying) (λ o. IsOwed o (sent_on count talk.saying))
+          (λ o was. sent_owed count o talk.saying was) asks)
+    ];
   }))
 
 -- what passed, by what was fed more, or went out
@@ -901,13 +928,16 @@ module _ (connection : ℕ) (standings : ℕ → Standing) (old new : InstanceSt
   abbrev taken_up : Option Spoken → Type 0
   taken_up waiting = IsTakenUp waiting old talk new talk'
 
+  called_on : taken_up None → IsCalledOn old talk new talk'
+  called_on call = call
+
   resumed_lives : IsInAccord talk passed (standings connection) turns → IsTakenUp talk.waiting old talk new talk' → OnBehind passed
   resumed_lives accord call = elim accord.stands [
-    | inl is ↦ alone_lives accord (subst taken_up is.waiting call)
+    | inl is ↦ alone_lives accord (called_on (subst taken_up is.waiting call)).pages
     | inr (inl asked) ↦ answered_lives connection standings old new turns passed asked.said asked.came (record talk { waiting = None }) talk'
         (record { none = refl; silent = asked.silent; front = accord.front; gone = accord.gone; asked = accord.asked; tells = asked.tells; are = asked.bytes; plain = asked.plain })
         (subst taken_up asked.waiting call asked.request)
-    | inr (inr done) ↦ alone_lives accord (subst taken_up done.waiting call)
+    | inr (inr done) ↦ alone_lives accord (called_on (subst taken_up done.waiting call)).pages
   ]
 
   sent_lives : (bytes : List ℕ) → IsInAccord talk passed (standings connection) turns → IsSent bytes old talk new talk' → OnBehind (both passed.fed (passed.gone ++ bytes))
@@ -930,7 +960,7 @@ module _ (connection : ℕ) (standings : ℕ → Standing) (old new : InstanceSt
   does_lives lock Resumed accord call = nothing_more (resumed_lives accord call)
   does_lives lock (Sent bytes) accord call = subst OnBehind (passed_same _ _ _ _ (sym (append-nil passed.fed)) (ap (λ (l : List ℕ). passed.gone ++ l) (sym (append-nil bytes)))) (sent_lives bytes accord call)
   does_lives lock Released accord call = nothing_more (still_lives accord call)
-  does_lives lock CameDue accord call = nothing_more (alone_lives accord call)
+  does_lives lock CameDue accord call = nothing_more (alone_lives accord call.pages)
   does_lives lock Hurried accord call = nothing_more (still_lives accord call)
   does_lives lock (BrokenOff broken) accord call = nothing_more (still_lives accord call)
 
@@ -952,10 +982,10 @@ module _ (passed : Passed) (standing : Standing) (turns : List Turn) where
   abbrev Replies : Saying → Type 0
   Replies saying = (gone_of saying ≡ []) ⊎ ((reply : ReplyBytes) × IsFirstPart (gone_of saying) (reply_bytes reply) × IsMeantFor passed.fed standing turns reply)
 
-  owed_replied : (saying : Saying) → IsOwed (owed_by turns) saying ⊎ HasAskedElsewhere passed.fed standing turns → Replies saying
+  owed_replied : (saying : Saying) → IsOwed (owed_by turns) saying ⊎ HasAskedElsewhere passed.fed standing turns (λ o. IsOwed o saying) → Replies saying
   owed_replied Silent owed = inl refl
   owed_replied (Making making) owed = inl refl
-  owed_replied Elsewhere owed = inl refl
+  owed_replied (Elsewhere call) owed = inl refl
   owed_replied (HeldBack reply) owed = inl refl
   owed_replied (Out reply written) owed = inr (reply, first_taken written (reply_bytes reply), owed)
 

@@ -4,7 +4,7 @@ use Rattle.am_api_silences.specs.Replies.{bytes_of as reply_bytes}
 use Rattle.am_api_silences.specs.declared.pending_reply.PendingReply.{PendingReply}
 use Rattle.am_api_silences.specs.declared.replies.ReplyBytes.{ReplyBytes}
 use Rattle.am_dialogue.specs.Answered.{ForPages, IsAnswered}
-use Rattle.am_dialogue.specs.Talks.{IsClosed, IsElsewhere, IsOwed, IsReplyTo, IsRequest, Lasts, Owed, Talk, gone_of, pending_in, sent_in}
+use Rattle.am_dialogue.specs.Talks.{IsClosed, IsElsewhere, IsGivenOn, IsOwed, IsReplyTo, IsRequest, Lasts, Owed, Owes, Talk, gone_of, pending_in, sent_in}
 use Rattle.am_dialogue.specs.Talks.Owed.{Line, Reply}
 use Rattle.am_dialogue.specs.Talks.Saying.{Silent}
 use Rattle.am_gate.specs.declared.passing.Hears.{Hears}
@@ -45,14 +45,17 @@ abbrev pub owed_by : List Turn → Owed
 owed_by turns = owed_on Line turns
 
 -- The bytes that were fed last, after the turns, say a request that isn't about silences, from where the connection stands in the
--- life.
-pub record HasAskedElsewhere (fed : List ℕ) (standing : Standing) (turns : List Turn) : Type 0 where
+-- life; and what that request is owed is such.
+pub record HasAskedElsewhere (fed : List ℕ) (standing : Standing) (turns : List Turn) (IsSuch : Owed → Type 0) : Type 0 where
   pub came : Came
   pub said : Spoken
   pub left : Standing
   pub tells : Tells standing came said left
   pub elsewhere : IsElsewhere said
   pub bytes : fed ≡ bytes_in turns ++ bytes_of came
+  pub owed : Owed
+  pub owes : Owes said owed
+  pub such : IsSuch owed
 
 -- The session stands where its connection does in the life, all that came was heard in turns, and nothing waits. What is replied
 -- is what its turns owe, and nothing is replied as long as more is heard.
@@ -76,14 +79,14 @@ pub record HasAsked (talk : Talk) (fed : List ℕ) (standing : Standing) (turns 
   pub plain : IsElsewhere said → fed ≡ bytes_in turns ++ bytes_of came
   pub silent : talk.saying ≡ Silent
 
--- No more is heard, and no more turns come; the turns had a first part of what was fed. What is replied is what the turns owe,
--- except for a request that isn't about silences.
+-- No more is heard, and no more turns come; the turns had a first part of what was fed. What is replied is what the turns owe, or
+-- what a request that isn't about silences is owed.
 pub record IsDone (talk : Talk) (fed : List ℕ) (standing : Standing) (turns : List Turn) : Type 0 where
   pub rest : List ℕ
   pub waiting : talk.waiting ≡ None
   pub ended : talk.session ≡ over (name_of talk.session)
   pub bytes : AreFed talk.way fed turns rest
-  pub owed : IsOwed (owed_by turns) talk.saying ⊎ HasAskedElsewhere fed standing turns
+  pub owed : IsOwed (owed_by turns) talk.saying ⊎ HasAskedElsewhere fed standing turns (λ owed. IsOwed owed talk.saying)
 
 -- The first byte of a sealed connection came first.
 abbrev pub BeginsSealed : List ℕ → Type 0
@@ -107,16 +110,16 @@ pub record IsInAccord (talk : Talk) (passed : Passed) (standing : Standing) (tur
   pub order : (challenge_left talk.way ≡ []) ⊎ (gone_of talk.saying ≡ [])
   pub stands : IsHeard talk passed.fed standing turns ⊎ (HasAsked talk passed.fed standing turns ⊎ IsDone talk passed.fed standing turns)
 
--- The reply is one that the turns owe, or one to a request that isn't about silences.
+-- The reply is one that the turns owe, or one that a request which isn't about silences is owed.
 abbrev pub IsMeantFor : List ℕ → Standing → List Turn → ReplyBytes → Type 0
-IsMeantFor fed standing turns reply = IsReplyTo (owed_by turns) reply ⊎ HasAskedElsewhere fed standing turns
+IsMeantFor fed standing turns reply = IsReplyTo (owed_by turns) reply ⊎ HasAskedElsewhere fed standing turns (λ owed. IsReplyTo owed reply)
 
 -- At most the 32 bytes of a challenge went out, and only over a connection that began as sealed ones do.
 abbrev pub IsAskedBack : List ℕ → List ℕ → Type 0
 IsAskedBack fed front = (front ≡ []) ⊎ ((length front ≤ 32) × BeginsSealed fed)
 
 -- All that went out over a connection, except for the challenge of a sealed one before it, is a first part of one reply: the one
--- that the step of its own request has begun, or a line; or one to a request that isn't about silences.
+-- that the step of its own request has begun, or a line; or, if its request isn't about silences, one that this is owed.
 pub record IsReplied (passed : Passed) (standing : Standing) (turns : List Turn) : Type 0 where
   pub front : List ℕ
   pub rest : List ℕ
@@ -159,6 +162,11 @@ pub record IsForPages (old : InstanceState) (talk : Talk) (new : InstanceState) 
   pub steps : ForPages old new
   pub lasts : Lasts talk talk'
 
+-- So it is, and the answer that had come so far is given between these states, if it is given.
+pub record IsCalledOn (old : InstanceState) (talk : Talk) (new : InstanceState) (talk' : Talk) : Type 0 where
+  pub pages : IsForPages old talk new talk'
+  pub given : IsGivenOn old talk.saying new talk'.saying
+
 -- Nothing comes of the call for the instance.
 pub record IsStill (old : InstanceState) (talk : Talk) (new : InstanceState) (talk' : Talk) : Type 0 where
   pub same : new ≡ old
@@ -172,7 +180,7 @@ pub record IsSent (bytes : List ℕ) (old : InstanceState) (talk : Talk) (new : 
 
 -- The input that waits is taken up, if there is one.
 abbrev pub IsTakenUp : Option Spoken → InstanceState → Talk → InstanceState → Talk → Type 0
-IsTakenUp None old talk new talk' = IsForPages old talk new talk'
+IsTakenUp None old talk new talk' = IsCalledOn old talk new talk'
 IsTakenUp (Some said) old talk new talk' = IsRequest said → IsAnswered said old (record talk { waiting = None }) new talk'
 
 -- A call for a connection changes the instance and the connection in this way, behind this lock or none.
@@ -182,6 +190,6 @@ Does lock Ended old talk new talk' = IsEnded old talk new talk'
 Does lock Resumed old talk new talk' = IsTakenUp talk.waiting old talk new talk'
 Does lock (Sent bytes) old talk new talk' = IsSent bytes old talk new talk'
 Does lock Released old talk new talk' = IsStill old talk new talk'
-Does lock CameDue old talk new talk' = IsForPages old talk new talk'
+Does lock CameDue old talk new talk' = IsCalledOn old talk new talk'
 Does lock Hurried old talk new talk' = IsStill old talk new talk'
 Does lock (BrokenOff broken) old talk new talk' = IsStill old talk new talk'

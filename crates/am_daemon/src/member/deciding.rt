@@ -2,8 +2,19 @@
 //! to be notified is given only when the Alertmanagers beside the member have been heard since the question, or their time is
 //! over.
 
+ghost use Rattle.std.specs.Prelude.{◌≡◌, IfErr, IfOk, ℕ};
+ghost use Rattle.am_http.specs.Lines.{line_seen};
+ghost use Rattle.am_http.specs.Sessions.{spoken};
+ghost use Rattle.am_instance.specs.InstanceStates.{InstanceState};
+ghost use Rattle.am_api_decisions.specs.Asked.{IsAsked};
+ghost use Rattle.am_api_decisions.specs.Asking.{HoldsSame};
 ghost use Rattle.am_dialogue.specs.Answered.{ForPages};
-ghost use Rattle.am_dialogue.specs.Talks.{Closes, KeepsGone, Rests, talk_of};
+ghost use Rattle.am_dialogue.specs.Calls.{AnswersQuestion, IsOnly, IsProgressOf, IsUnderway, WhenTold};
+ghost use Rattle.am_dialogue.specs.Calls.CallCause.{Stops};
+ghost use Rattle.am_dialogue.specs.Talks.{Closes, IsGiven, KeepsGone, Rests, talk_of};
+ghost use Rattle.am_dialogue.specs.Talks.Saying.{Silent};
+ghost use Rattle.am_dialogue.specs.Waiting.{request_of};
+ghost use Rattle.am_daemon.specs.Calling.{Follows, GivesOrWaits, IsCalled, IsPutOff, IsTurnedAwayFor};
 
 use super::counting::{count_decided, count_decision, is_to_notify};
 use super::desk::Desk;
@@ -100,7 +111,11 @@ fn ask_on<U: Keeper>(
     instance: &mut Instance,
     deciding: Deciding,
 ) -> Result<Reached, Refusal>
-    ensures { ForPages instance.old instance.new }
+    ensures steps { ForPages instance.old instance.new }
+    ensures same { HoldsSame instance.old instance.new }
+    ensures asked { IfOk result (λ reached. (question : Question) → IsUnderway question deciding → IsUnderway question reached.deciding) }
+    ensures stopped { IfErr result (λ refusal. (question : Question) → IsUnderway question deciding →
+        WhenTold (λ reply. AnswersQuestion question instance.old reply instance.new) (line_seen refusal)) }
 {
     let begun = upkeep.now();
     let most = stretch_over(instance.silences().len());
@@ -151,12 +166,16 @@ struct Span {
 }
 
 /// Returns the refusal of a request that comes while the member stops.
-fn refused_by_stop() -> Called {
+fn refused_by_stop() -> Called
+    ensures { IsTurnedAwayFor Stops result }
+{
     Called::Refused(Refusal::new(503, "member stops"))
 }
 
 /// Keeps a request waiting, or refuses it if too many wait.
-fn wait_for_turn(turns: &mut Turns, turn: Turn) -> Called {
+fn wait_for_turn(turns: &mut Turns, turn: Turn) -> Called
+    ensures { IsPutOff (request_of turn) result }
+{
     if turns.begin() {
         Called::Later(CallProgress::Turn(turn))
     } else {
@@ -175,6 +194,9 @@ impl<U: Keeper> Desk<'_, U> {
         ensures steps { ForPages instance.old instance.new }
         ensures closes { Closes (talk_of dialogue.old) (talk_of dialogue.new) }
         ensures gone { KeepsGone (talk_of dialogue.old).saying (talk_of dialogue.new).saying }
+        // PROMISE: A program that sends pages is replied what it asks for: the decision of its question, what came of its notice, or the log's list.
+        ensures given { (request : Request) → (spoken said).request ≡ Some (Read.Whole request) → (talk_of dialogue.old).saying ≡ Silent →
+            IsGiven request instance.old instance.new (talk_of dialogue.new).saying }
     {
         dialogue.session.stop();
         let SessionOutput { request, .. } = said;
@@ -190,6 +212,7 @@ impl<U: Keeper> Desk<'_, U> {
     pub(super) fn follow_call(&self, dialogue: &mut Conversation, called: Called)
         ensures rests { Rests (talk_of dialogue.old) (talk_of dialogue.new) }
         ensures gone { KeepsGone (talk_of dialogue.old).saying (talk_of dialogue.new).saying }
+        ensures follows { Follows called (talk_of dialogue.old).saying (talk_of dialogue.new).saying }
     {
         match called {
             Called::Nothing => {}
@@ -201,7 +224,8 @@ impl<U: Keeper> Desk<'_, U> {
 
     /// Answers a request, or keeps it until its turn. A long one isn't read before its place in the line has come.
     fn take_up(&mut self, instance: &mut Instance, request: Request) -> Called
-        ensures { ForPages instance.old instance.new }
+        ensures steps { ForPages instance.old instance.new }
+        ensures called { IsCalled request instance.old result instance.new }
     {
         let due = Due {
             request,
@@ -219,7 +243,8 @@ impl<U: Keeper> Desk<'_, U> {
 
     /// Answers a request, or keeps it waiting for its place in the line if it is long.
     fn answer_in_line(&mut self, instance: &mut Instance, due: Due) -> Called
-        ensures { ForPages instance.old instance.new }
+        ensures steps { ForPages instance.old instance.new }
+        ensures called { IsCalled due.request instance.old result instance.new }
     {
         if is_long(&due.request) {
             Called::Later(CallProgress::Due(due))
@@ -230,7 +255,8 @@ impl<U: Keeper> Desk<'_, U> {
 
     /// Begins to answer a request whose place in the line has come.
     pub(super) fn answer_due(&mut self, instance: &mut Instance, due: Due) -> Called
-        ensures { ForPages instance.old instance.new }
+        ensures steps { ForPages instance.old instance.new }
+        ensures called { IsCalled due.request instance.old result instance.new }
     {
         if due.stage == Stage::Unread {
             self.answer_unread(instance, due.request, due.limit)
@@ -246,7 +272,8 @@ impl<U: Keeper> Desk<'_, U> {
         request: Request,
         limit: Option<Instant>,
     ) -> Called
-        ensures { ForPages instance.old instance.new }
+        ensures steps { ForPages instance.old instance.new }
+        ensures called { IsCalled request instance.old result instance.new }
     {
         match asked_of(self.alloc, &request) {
             Ok(Asked::Decide(question)) => match turn_of(&self.upkeep, instance, &question) {
@@ -268,7 +295,9 @@ impl<U: Keeper> Desk<'_, U> {
     }
 
     /// Returns the request if there are Alertmanagers to be heard.
-    fn unheard(&self, request: Request) -> Option<Request> {
+    fn unheard(&self, request: Request) -> Option<Request>
+        ensures { IsOnly request result }
+    {
         if self.asked.iter().any(|address| address.is_some()) {
             Some(request)
         } else {
@@ -278,7 +307,8 @@ impl<U: Keeper> Desk<'_, U> {
 
     /// Answers a request whose moment has come, or puts it into the line. If the member stops, the request is turned away.
     fn take_turn(&mut self, instance: &mut Instance, turn: Turn) -> Called
-        ensures { ForPages instance.old instance.new }
+        ensures steps { ForPages instance.old instance.new }
+        ensures called { IsCalled (request_of turn) instance.old result instance.new }
     {
         self.turns.end();
         if self.stops {
@@ -290,7 +320,8 @@ impl<U: Keeper> Desk<'_, U> {
 
     /// Continues a call whose moment has come. If the member stops, the call is turned away.
     pub(super) fn take_moment(&mut self, instance: &mut Instance, call: CallProgress) -> Called
-        ensures { ForPages instance.old instance.new }
+        ensures steps { ForPages instance.old instance.new }
+        ensures called { (request : Request) → IsProgressOf request call → IsCalled request instance.old result instance.new }
     {
         match call {
             CallProgress::Turn(turn) => self.take_turn(instance, turn),
@@ -303,7 +334,8 @@ impl<U: Keeper> Desk<'_, U> {
 
     /// Begins to answer a request that no longer waits.
     fn answer_in_turn(&mut self, instance: &mut Instance, due: Due) -> Called
-        ensures { ForPages instance.old instance.new }
+        ensures steps { ForPages instance.old instance.new }
+        ensures called { IsCalled due.request instance.old result instance.new }
     {
         let Due {
             request,
@@ -333,7 +365,8 @@ impl<U: Keeper> Desk<'_, U> {
         unheard: Option<Request>,
         limit: Option<Instant>,
     ) -> Called
-        ensures { ForPages instance.old instance.new }
+        ensures steps { ForPages instance.old instance.new }
+        ensures called { (request : Request) → IsAsked request (Ok (Asked.Decide question)) → IsOnly request unheard → IsCalled request instance.old result instance.new }
     {
         let alerts = question.message.alerts.len() as u64;
         self.upkeep.figures().step(Step::Mutes, alerts);
@@ -355,7 +388,8 @@ impl<U: Keeper> Desk<'_, U> {
         instance: &mut Instance,
         deliberation: Deliberation,
     ) -> Called
-        ensures { ForPages instance.old instance.new }
+        ensures steps { ForPages instance.old instance.new }
+        ensures called { (request : Request) → IsProgressOf request (CallProgress.Deciding deliberation) → IsCalled request instance.old result instance.new }
     {
         let Deliberation {
             deciding,
@@ -393,7 +427,10 @@ impl<U: Keeper> Desk<'_, U> {
         deciding: Deciding,
         unheard: Option<Request>,
     ) -> Called
-        ensures { ForPages instance.old instance.new }
+        ensures steps { ForPages instance.old instance.new }
+        ensures called { (request : Request) (question : Question) (start : InstanceState) → HoldsSame start instance.old →
+            IsAsked request (Ok (Asked.Decide question)) → IsUnderway question deciding → IsOnly request unheard →
+            IsCalled request start result instance.new }
     {
         let now = self.upkeep.next_moment(instance.last());
         let turn_seconds = seconds_in(self.upkeep.options().peer_timeout);
@@ -411,7 +448,10 @@ impl<U: Keeper> Desk<'_, U> {
         unheard: Option<Request>,
         now: Moment,
     ) -> Called
-        ensures { ForPages instance.old instance.new }
+        ensures steps { ForPages instance.old instance.new }
+        ensures called { (request : Request) (question : Question) (start : InstanceState) → HoldsSame start instance.old →
+            IsAsked request (Ok (Asked.Decide question)) → IsUnderway question deciding → IsOnly request unheard →
+            IsCalled request start result instance.new }
     {
         let turn_seconds = seconds_in(self.upkeep.options().peer_timeout);
         let reply = deciding.decide(self.alloc, instance, Timing { now, turn_seconds });
@@ -425,7 +465,9 @@ impl<U: Keeper> Desk<'_, U> {
         instance: &Instance,
         reply: ReplyBytes,
         unheard: Option<Request>,
-    ) -> Called {
+    ) -> Called
+        ensures { GivesOrWaits reply unheard result }
+    {
         match (unheard, self.span()) {
             (Some(request), Some(span)) if is_to_notify(reply.as_slice()) => {
                 self.wait_for_exchanges(request, span)
@@ -446,7 +488,9 @@ impl<U: Keeper> Desk<'_, U> {
     }
 
     /// Keeps a request waiting for exchanges with the Alertmanagers that begin in a new round.
-    fn wait_for_exchanges(&mut self, request: Request, span: Span) -> Called {
+    fn wait_for_exchanges(&mut self, request: Request, span: Span) -> Called
+        ensures { IsPutOff request result }
+    {
         let Span { since, limit } = span;
         self.round = self.round.saturating_add(1);
         let turn = Turn::for_exchanges(request, self.round, since, limit);
@@ -455,7 +499,8 @@ impl<U: Keeper> Desk<'_, U> {
 
     /// Logs what was notified if the log has room for this many bytes.
     fn log_in_room(&mut self, instance: &mut Instance, notice: Notice, bytes: u64) -> Called
-        ensures { ForPages instance.old instance.new }
+        ensures steps { ForPages instance.old instance.new }
+        ensures called { (request : Request) → IsAsked request (Ok (Asked.Notified notice)) → IsCalled request instance.old result instance.new }
     {
         if !self.upkeep.has_room_for_notice(instance, bytes) {
             return Called::Refused(Refusal::new(500, "state too large"));
@@ -466,7 +511,8 @@ impl<U: Keeper> Desk<'_, U> {
 
     /// Logs what was notified.
     fn log(&mut self, instance: &mut Instance, notice: Notice) -> Called
-        ensures { ForPages instance.old instance.new }
+        ensures steps { ForPages instance.old instance.new }
+        ensures called { (request : Request) → IsAsked request (Ok (Asked.Notified notice)) → IsCalled request instance.old result instance.new }
     {
         let now = self.upkeep.next_moment(instance.last());
         let PendingAnswer { making, outbox } = log_notice(self.alloc, instance, notice, now);
@@ -474,7 +520,9 @@ impl<U: Keeper> Desk<'_, U> {
     }
 
     /// Begins to write the log's live entries.
-    fn list_log(&self, instance: &Instance) -> Called {
+    fn list_log(&self, instance: &Instance) -> Called
+        ensures { (request : Request) → IsAsked request (Ok Asked.Log) → IsCalled request instance.now result instance.now }
+    {
         let now = self.upkeep.next_moment(instance.last());
         match begin_log(self.alloc, instance, now) {
             Ok(writing) => Called::Later(CallProgress::Log(writing)),
@@ -483,14 +531,18 @@ impl<U: Keeper> Desk<'_, U> {
     }
 
     /// Lists the alerts of the most recent messages.
-    fn list_recent(&mut self, instance: &Instance) -> Called {
+    fn list_recent(&mut self, instance: &Instance) -> Called
+        ensures { (request : Request) → IsAsked request (Ok Asked.Alerts) → IsCalled request instance.now result instance.now }
+    {
         let reply = self.recent.told(self.alloc);
         let outbox = FrameSender::new(self.alloc);
         self.made(instance, PendingReply::Whole(reply), outbox)
     }
 
     /// Returns the reply that a step has made, and sends the frames of its outbox.
-    fn made(&mut self, instance: &Instance, making: PendingReply, outbox: FrameSender) -> Called {
+    fn made(&mut self, instance: &Instance, making: PendingReply, outbox: FrameSender) -> Called
+        ensures { (news : ℕ) × (result ≡ Called.Made making news) }
+    {
         let news = self.upkeep.keeping().news();
         self.upkeep.follow(instance.config(), None, outbox, None);
         Called::Made(making, news)

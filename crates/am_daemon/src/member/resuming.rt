@@ -1,8 +1,12 @@
 //! The work that waits for its place in the line, and continues there.
 
+ghost use Rattle.std.specs.Prelude.{◌≡◌};
 ghost use Rattle.am_http.specs.Sessions.{spoken};
 ghost use Rattle.am_dialogue.specs.Answered.{ForPages, IsAnswered};
-ghost use Rattle.am_dialogue.specs.Talks.{KeepsGone, Lasts, Rests, talk_of};
+ghost use Rattle.am_dialogue.specs.Calls.{IsProgressOf};
+ghost use Rattle.am_dialogue.specs.Talks.{IsGiven, IsGivenOn, KeepsGone, Lasts, Rests, talk_of};
+ghost use Rattle.am_dialogue.specs.Talks.Saying.{Silent};
+ghost use Rattle.am_http.specs.declared.request.Request.{Request};
 ghost use Rattle.am_living.specs.Talking.{IsTakenUp};
 
 use super::desk::Desk;
@@ -37,6 +41,8 @@ impl<U: Keeper> Desk<'_, U> {
         ensures steps { ForPages instance.old instance.new }
         ensures rests { Rests (talk_of dialogue.old) (talk_of dialogue.new) }
         ensures gone { KeepsGone (talk_of dialogue.old).saying (talk_of dialogue.new).saying }
+        ensures given { (request : Request) → (talk_of dialogue.old).saying ≡ Silent → IsProgressOf request call →
+            IsGiven request instance.old instance.new (talk_of dialogue.new).saying }
     {
         match call {
             CallProgress::Turn(turn) => dialogue.put_off(CallProgress::Turn(turn)),
@@ -76,6 +82,7 @@ impl<U: Keeper> Desk<'_, U> {
     pub(super) fn go_on_in_turn(&mut self, instance: &mut Instance, dialogue: &mut Conversation)
         ensures steps { ForPages instance.old instance.new }
         ensures lasts { Lasts (talk_of dialogue.old) (talk_of dialogue.new) }
+        ensures given { IsGivenOn instance.old (talk_of dialogue.old).saying instance.new (talk_of dialogue.new).saying }
     {
         match mem::replace(&mut dialogue.work, Work::Nothing) {
             Work::Call(call) => {

@@ -1,6 +1,6 @@
 use Rattle.std.proofs.Common.{◌∙◌, ap, inr}
 use Rattle.am_dialogue.specs.Talks.{Talk, gone_of}
-use Rattle.am_dialogue.proofs.Sayings.{keeps_line, line_made, line_told, next_gone}
+use Rattle.am_dialogue.proofs.Sayings.{keeps_line, line_made, line_told, next_gone, told_keeps}
 use Rattle.am_dialogue.proofs.conversation.Conversation.refuse.Goals as goal
 
 pub returns-clause-refused : goal.returns-clause-refused
@@ -22,4 +22,7 @@ pub returns-clause-gone : goal.returns-clause-gone
 returns-clause-gone c = ap gone_of (ap (λ (t : Talk). t.saying) c.say.ensures) ∙ next_gone _ _
 
 pub returns-clause-told : goal.returns-clause-told
-returns-clause-told c = (c.finish.result, line_told _ _ _ c.refuse-making.ensures c.finish.ensures, ap (λ (t : Talk). t.saying) c.say.ensures)
+returns-clause-told c = told_keeps _ _ _ _ _ c.refuse-making.ensures c.finish.ensures (ap (λ (t : Talk). t.saying) c.say.ensures)
+
+pub returns-clause-line : goal.returns-clause-line
+returns-clause-line c = (c.finish.result, line_told _ _ _ c.refuse-making.ensures c.finish.ensures, ap (λ (t : Talk). t.saying) c.say.ensures)

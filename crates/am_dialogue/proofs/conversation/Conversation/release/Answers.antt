@@ -23,5 +23,5 @@ returns-in-HeldBack-2-clause-kept c =
           let field = c.in-HeldBack-2.is in
           let same : c.in-HeldBack-2.field-0 ≡ c.in-HeldBack.held = cc in
           unkept c.args.is_kept c.in-HeldBack-2.field-0 c.args.self.now.work (line_seen c.new.result) (saying_in c.replace.new.dest) (saying_in c.refuse.new.self.work) c.in-HeldBack-2.ensures.value
-          (rw w.if-is_kept.false (ap (λ (it : HeldBack). not it.is_change) same ∙ sym w.value-is ∙ unheld)) c.new.ensures (ap saying_in c.in-HeldBack-2.ensures.after) c.refuse.ensures.told
+          (rw w.if-is_kept.false (ap (λ (it : HeldBack). not it.is_change) same ∙ sym w.value-is ∙ unheld)) c.new.ensures (ap saying_in c.in-HeldBack-2.ensures.after) c.refuse.ensures.line
     ]
