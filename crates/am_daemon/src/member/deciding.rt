@@ -46,6 +46,19 @@ const ENOUGH: u64 = 1_000;
 /// The least number of silences that an alert is counted as held against, since each alert has a cost of its own.
 const BESIDE: usize = 64;
 
+/// The most steps that the long searches for one alert may take, which is about a second's work.
+const MOST_STEPS: usize = 200_000_000;
+
+/// The most time that the searches for one alert of a decision may take.
+#[derive(Clone, Copy)]
+enum Searches {
+    Short,
+    /// They are long, so the clock is looked at after each alert.
+    Long,
+    /// They would keep everyone waiting, so no more alerts are held against the silences.
+    TooLong,
+}
+
 /// The progress of a decision up to a moment.
 #[derive(Drop)]
 struct Reached {
@@ -81,6 +94,15 @@ fn is_enough(begun: Option<Instant>, now: Option<Instant>) -> bool {
     }
 }
 
+/// Returns how long the searches for one alert of a decision may take, by the compiled patterns and the longest value of a label.
+fn searches_for(instance: &Instance, deciding: &Deciding) -> Searches {
+    match instance.patterns().long_steps(deciding.longest_value()) {
+        0 => Searches::Short,
+        1..=MOST_STEPS => Searches::Long,
+        _ => Searches::TooLong,
+    }
+}
+
 /// Compiles patterns of silences for as long as a turn of the loop may take, and returns whether none is left.
 fn compile_on<U: Keeper>(
     upkeep: &U,
@@ -103,7 +125,7 @@ fn compile_on<U: Keeper>(
 }
 
 /// Holds more of the alerts against the silences, for as long as a turn of the loop may take, or all that are left. None is held
-/// against them before their patterns are compiled.
+/// against them before their patterns are compiled, or if that might take too long.
 fn ask_on<U: Keeper>(
     upkeep: &U,
     ahead: &mut PatternsAhead,
@@ -118,11 +140,15 @@ fn ask_on<U: Keeper>(
         WhenTold (λ reply. AnswersQuestion question instance.old reply instance.new) (line_seen refusal)) }
 {
     let begun = upkeep.now();
-    let most = stretch_over(instance.silences().len());
     let mut now = instance.last();
     if !compile_on(upkeep, ahead, instance, begun) {
         return Ok(Reached { deciding, now });
     }
+    let most = match searches_for(instance, &deciding) {
+        Searches::Short => stretch_over(instance.silences().len()),
+        Searches::Long => 1,
+        Searches::TooLong => return Ok(Reached { deciding, now }),
+    };
     let mut left = deciding;
     for _ in 0..u64::MAX {
         now = upkeep.next_moment(instance.last());
@@ -381,8 +407,8 @@ impl<U: Keeper> Desk<'_, U> {
         self.go_on_deciding(instance, deliberation)
     }
 
-    /// Holds more of the alerts against the silences, for as long as a turn of the loop may take. If none is left or the time
-    /// is over, the decision is made.
+    /// Holds more of the alerts against the silences, for as long as a turn of the loop may take. If none is left, the time is
+    /// over, or one might take too long, the decision is made.
     pub(super) fn go_on_deciding(
         &mut self,
         instance: &mut Instance,
@@ -396,7 +422,9 @@ impl<U: Keeper> Desk<'_, U> {
             unheard,
             limit,
         } = deliberation;
-        if is_over(limit, self.upkeep.now()) {
+        if is_over(limit, self.upkeep.now())
+            || matches!(searches_for(instance, &deciding), Searches::TooLong)
+        {
             return self.break_off(instance, deciding, unheard);
         }
         let Reached { deciding, now } = match ask_on(
