@@ -122,6 +122,14 @@ impl PendingReply {
         }
     }
 
+    /// Returns whether a list has a filter that might keep everyone waiting when it is held against one of its silences.
+    pub fn is_too_dear(&self) -> bool {
+        match self {
+            PendingReply::Sifting(sieve) => sieve.is_too_dear(),
+            PendingReply::Whole(_) | PendingReply::List(_) => false,
+        }
+    }
+
     /// Returns whether no silence is left to be judged or written.
     pub fn is_whole(&self) -> bool
         ensures { result ≡ is_whole self.now }

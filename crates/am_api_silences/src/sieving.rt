@@ -18,9 +18,17 @@ const STRETCH_BYTES: usize = 256 << 10;
 /// The number of bytes of a compiled pattern that cost as much as a filter without one.
 const PATTERN_BYTES: usize = 4 << 10;
 
+/// The number of bytes that are counted for a state of a compiled pattern.
+const STATE_BYTES: usize = 160;
+
+/// The most steps that holding one filter against one silence may take: some seconds' work.
+const MOST_STEPS: usize = 1_000_000_000;
+
 /// The silences of a list, of which those are sought that pass all filters.
 pub struct Sieve {
     filters: Vec<Filter>,
+    /// The number of steps that holding one filter against one silence takes at most.
+    steps: usize,
     /// The cost of holding the filters against a byte of a silence.
     weight: usize,
     /// The silences that are still to be judged.
@@ -33,6 +41,7 @@ impl Drop for Sieve {
     fn drop(self) {
         let Sieve {
             filters: _,
+            steps: _,
             weight: _,
             left: _,
             passed: _,
@@ -64,6 +73,20 @@ fn weight_of(filters: &[Filter]) -> usize {
     weight
 }
 
+/// Returns the number of steps that holding one of the filters against one of the silences takes at most: each state of its pattern
+/// at each byte.
+fn steps_of(filters: &[Filter], rows: &[(MeshSilence, State)]) -> usize {
+    let mut states = 0usize;
+    for filter in filters {
+        states = states.max(filter.size() / STATE_BYTES);
+    }
+    let mut bytes = 0usize;
+    for row in rows {
+        bytes = bytes.max(row.0.size() as usize);
+    }
+    states.saturating_mul(bytes)
+}
+
 /// Returns whether the silence of a version passes all filters.
 fn passes_all(version: &MeshSilence, filters: &mut Vec<Filter>) -> Result<bool, AllocError>
     ensures answer { IfOk result (λ yes. yes ≡ list_all (λ f. passes f version.now.silence) filters.old.items) }
@@ -83,11 +106,17 @@ impl Sieve {
         ensures { result ≡ record { rows = passing filters.items rows.items; left = length rows.items } }
     {
         Sieve {
+            steps: steps_of(&filters, &rows),
             weight: weight_of(&filters),
             filters,
             left: rows.into_iter(),
             passed: Vec::new(alloc),
         }
+    }
+
+    /// Returns whether holding one of the filters against one of the silences might keep everyone waiting.
+    pub(crate) fn is_too_dear(&self) -> bool {
+        self.steps > MOST_STEPS
     }
 
     /// Returns whether all silences are judged.
@@ -146,6 +175,7 @@ impl Sieve {
         }
         let Sieve {
             filters: _,
+            steps: _,
             weight: _,
             left: _,
             passed,

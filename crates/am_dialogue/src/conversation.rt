@@ -14,6 +14,7 @@ ghost use Rattle.am_dialogue.specs.Talks.{Closes, IsClosed, IsGiven, IsOwnLine, 
 ghost use Rattle.am_dialogue.specs.Talks.Saying.{Silent};
 
 use crate::counting::{Account, Census};
+use crate::refusals::filter_too_large;
 use crate::turns::{Due, Turn, bytes_of_request, is_list_call, is_long_post};
 use am_api_decisions::{Deciding, LogWriting};
 use am_api_silences::{PendingAnswer, PendingReply, Read, Refusal, ReplyBytes, Request, refuse};
@@ -334,12 +335,24 @@ impl Conversation {
         }
     }
 
-    /// Judges or writes another stretch of a list. If none is left, the list goes out.
+    /// Has the line of a refusal go out, unless a reply does already.
+    fn tell(&mut self, alloc: Global, refusal: &Refusal)
+        ensures stays { Stays (talk_of self.old) (talk_of self.new) }
+        ensures keeps { IsOwnLine (line_seen refusal.now) → Keeps (talk_of self.old).saying (talk_of self.new).saying }
+    {
+        let PendingAnswer { making, .. } = refuse(alloc, refusal);
+        self.say(making.finish(alloc));
+    }
+
+    /// Judges or writes another stretch of a list. If none is left, the list goes out. If a filter might keep everyone waiting, the
+    /// list is refused.
     pub fn go_on(&mut self, alloc: Global, making: PendingReply)
         ensures stays { Stays (talk_of self.old) (talk_of self.new) }
         ensures says { KeepsBy making (talk_of self.old).saying (talk_of self.new).saying }
     {
-        if making.is_whole() {
+        if making.is_too_dear() {
+            self.tell(alloc, &filter_too_large());
+        } else if making.is_whole() {
             self.say(making.finish(alloc));
         } else {
             self.make(making.go_on(STRETCH));

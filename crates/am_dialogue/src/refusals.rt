@@ -20,6 +20,13 @@ pub fn out_of_memory() -> Refusal
     Cause::Memory.refusal()
 }
 
+/// Returns the refusal of a list with a filter that takes too much.
+pub fn filter_too_large() -> Refusal
+    ensures { IsOwnLine (line_seen result) }
+{
+    Cause::BadFilter.refusal()
+}
+
 /// Returns the refusal of a request whose patterns take too much.
 pub fn patterns_too_large(judging: &Judging) -> Refusal
     ensures { IsOwnLine (line_seen result) }

@@ -3,6 +3,11 @@ use Rattle.am_dialogue.specs.Talks.{Talk}
 use Rattle.am_dialogue.proofs.Sayings.{by_more, by_reply}
 use Rattle.am_dialogue.proofs.conversation.Conversation.go_on.Goals as goal
 
+pub returns-then-is_too_dear-clause-says : goal.returns-then-is_too_dear-clause-says
+returns-then-is_too_dear-clause-says c =
+    let keeps = c.tell.ensures.keeps c.filter_too_large.ensures in
+    record { owed = λ owed was makes. keeps.owed owed was; gone = keeps.gone }
+
 pub returns-then-is_whole-clause-says : goal.returns-then-is_whole-clause-says
 returns-then-is_whole-clause-says c = by_reply _ _ _ _ (ap (λ (t : Talk). t.saying) c.say.ensures) c.finish.ensures
 
