@@ -336,7 +336,7 @@ impl Conversation {
     }
 
     /// Has the line of a refusal go out, unless a reply does already.
-    fn tell(&mut self, alloc: Global, refusal: &Refusal)
+    fn say_line(&mut self, alloc: Global, refusal: &Refusal)
         ensures stays { Stays (talk_of self.old) (talk_of self.new) }
         ensures keeps { IsOwnLine (line_seen refusal.now) → Keeps (talk_of self.old).saying (talk_of self.new).saying }
     {
@@ -351,7 +351,7 @@ impl Conversation {
         ensures says { KeepsBy making (talk_of self.old).saying (talk_of self.new).saying }
     {
         if making.is_too_dear() {
-            self.tell(alloc, &filter_too_large());
+            self.say_line(alloc, &filter_too_large());
         } else if making.is_whole() {
             self.say(making.finish(alloc));
         } else {

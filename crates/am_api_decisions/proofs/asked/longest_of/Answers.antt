@@ -16,8 +16,7 @@ loop-label-preserved c =
     let P : Label → Type 0 = λ l. length l.value ≤ new in
     let is : new ≡ max old own = c.max-longest.ensures in
     let size : own ≡ length c.label-item.result.value = ap length c.as_str.ensures.bytes in
-    let here : P c.label-item.result = omega (arith, is, size, le-max_right old own) in
-    (
+    let here : P c.label-item.result = omega (arith, is, size, le-max_right old own) in (
       All-more P labels i c.label-item.result c.loop-label-test.true
           (λ k d within. omega (arith, c.loop-label.invariant.0 k d within, is, le-max_left old own))
           (subst P c.label-item.is here),

@@ -5,7 +5,7 @@ use Rattle.am_dialogue.proofs.conversation.Conversation.go_on.Goals as goal
 
 pub returns-then-is_too_dear-clause-says : goal.returns-then-is_too_dear-clause-says
 returns-then-is_too_dear-clause-says c =
-    let keeps = c.tell.ensures.keeps c.filter_too_large.ensures in
+    let keeps = c.say_line.ensures.keeps c.filter_too_large.ensures in
     record { owed = λ owed was makes. keeps.owed owed was; gone = keeps.gone }
 
 pub returns-then-is_whole-clause-says : goal.returns-then-is_whole-clause-says

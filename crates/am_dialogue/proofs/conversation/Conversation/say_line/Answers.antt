@@ -1,7 +1,7 @@
 use Rattle.std.proofs.Common.{ap}
 use Rattle.am_dialogue.specs.Talks.{Talk}
 use Rattle.am_dialogue.proofs.Sayings.{keeps_line, line_made}
-use Rattle.am_dialogue.proofs.conversation.Conversation.tell.Goals as goal
+use Rattle.am_dialogue.proofs.conversation.Conversation.say_line.Goals as goal
 
 pub returns-clause-keeps : goal.returns-clause-keeps
 returns-clause-keeps c = λ own.
