@@ -1,5 +1,5 @@
 -- A connection in a member's life: the progress of its gate and its session, what it said that waits, and what is replied.
-use Rattle.std.specs.Prelude.{◌≡◌, ◌⊎◌, ◌+◌, ◌-◌, ◌++◌, ℕ, min, Bool, false, not, ◌||◌, MatchBool, List, [], length, take, drop, codes, string_bytes, Option, Some, None, Err, ⊤}
+use Rattle.std.specs.Prelude.{◌≡◌, ◌⊎◌, ◌+◌, ◌-◌, ◌<◌, ◌++◌, ℕ, min, Bool, false, not, ◌||◌, MatchBool, List, [], length, take, drop, codes, string_bytes, Option, Some, None, Err, ⊤}
 use Rattle.am_api_silences.specs.Events.{IsCall}
 use Rattle.am_api_silences.specs.PendingReply.{IsMadeOf, Makes}
 use Rattle.am_api_silences.specs.Replies.{bytes_of, line_bytes}
@@ -200,6 +200,18 @@ abbrev pub IsReleased : Bool → Work → Saying → Type 0
 IsReleased kept (works.HeldBack held) saying =
     MatchBool (kept || not held.is_change) (saying ≡ Out held.reply 0) ((reply : ReplyBytes) × TellsLine (own_line NotKept) reply × (saying ≡ Out reply 0))
 IsReleased kept work saying = saying ≡ saying_in work
+
+-- No reply waits for a commit.
+abbrev pub IsUnheld : Work → Type 0
+IsUnheld (works.HeldBack held) = ⊥
+IsUnheld work = ⊤
+
+-- If there is a whole reply of which nothing went out, it waits for the next commit, as one of a request that has changed something
+-- or not.
+abbrev pub WaitsAs : Bool → Work → Type 0
+WaitsAs is_change (works.Reply outgoing) = 0 < outgoing.written
+WaitsAs is_change (works.HeldBack held) = held.is_change ≡ is_change
+WaitsAs is_change work = ⊤
 
 -- the connection that the code holds
 abbrev pub talk_of : Conversation → Talk

@@ -1,6 +1,6 @@
 //! A connection that is served.
 
-ghost use Rattle.std.specs.Prelude.{◌≡◌, ◌≤◌, [], drop, length, take, true, Some, None, IfSome};
+ghost use Rattle.std.specs.Prelude.{◌≡◌, ◌≤◌, [], drop, length, take, true, Some, None, IfSome, IsSome};
 ghost use Rattle.am_api_silences.specs.Replies.{bytes_of};
 ghost use Rattle.am_api_silences.specs.declared.replies.ReplyBytes.{ReplyBytes as Reply};
 ghost use Rattle.am_gate.specs.Gates.{before};
@@ -10,7 +10,7 @@ ghost use Rattle.am_http.specs.Sessions.{fresh, nothing, spoken};
 ghost use Rattle.am_dialogue.specs.Answered.{SaysBy};
 ghost use Rattle.am_instance.specs.InstanceStates.{InstanceState};
 ghost use Rattle.am_dialogue.specs.Calls.{IsProgressOf, WhenTold};
-ghost use Rattle.am_dialogue.specs.Talks.{Closes, IsClosed, IsGiven, IsOwnLine, IsReleased, IsReplyTo, IsRequest, IsScreenedBy, Keeps, KeepsBy, KeepsGone, KeepsIf, Lasts, Rests, Stays, TellsLine, pending_in, pending_of, put_next, said_next, sent_in, sent_on, talk_of};
+ghost use Rattle.am_dialogue.specs.Talks.{Closes, IsClosed, IsGiven, IsOwnLine, IsReleased, IsReplyTo, IsRequest, IsScreenedBy, IsUnheld, Keeps, KeepsBy, KeepsGone, KeepsIf, Lasts, Rests, Stays, TellsLine, WaitsAs, pending_in, pending_of, put_next, said_next, sent_in, sent_on, talk_of};
 ghost use Rattle.am_dialogue.specs.Talks.Saying.{Silent};
 
 use crate::counting::{Account, Census};
@@ -216,7 +216,8 @@ impl Conversation {
 
     /// Has a whole reply go out, unless one does already.
     fn say(&mut self, reply: ReplyBytes)
-        ensures { talk_of self.new ≡ record (talk_of self.old) { waiting = None; saying = said_next reply (talk_of self.old).saying } }
+        ensures said { talk_of self.new ≡ record (talk_of self.old) { waiting = None; saying = said_next reply (talk_of self.old).saying } }
+        ensures unheld { IsUnheld self.new.work }
     {
         if !matches!(self.work, Work::Reply(_)) {
             self.set(Work::Reply(Outgoing { reply, written: 0 }));
@@ -251,6 +252,7 @@ impl Conversation {
     pub fn reply_with(&mut self, alloc: Global, reply: Option<PendingReply>)
         ensures stays { Stays (talk_of self.old) (talk_of self.new) }
         ensures says { SaysBy reply (talk_of self.old).saying (talk_of self.new).saying }
+        ensures unheld { IsSome reply → IsUnheld self.new.work }
     {
         match reply {
             Some(making) if making.is_whole() => self.say(making.finish(alloc)),
@@ -263,6 +265,7 @@ impl Conversation {
     fn make(&mut self, making: PendingReply)
         ensures stays { Stays (talk_of self.old) (talk_of self.new) }
         ensures says { KeepsBy making (talk_of self.old).saying (talk_of self.new).saying }
+        ensures unheld { IsUnheld self.new.work }
     {
         if !matches!(self.work, Work::Reply(_)) {
             self.set(Work::PendingReply(making));
@@ -303,6 +306,7 @@ impl Conversation {
     pub fn hold_back(&mut self, is_change: bool)
         ensures stays { Stays (talk_of self.old) (talk_of self.new) }
         ensures says { Keeps (talk_of self.old).saying (talk_of self.new).saying }
+        ensures waits { IsUnheld self.old.work → WaitsAs is_change self.new.work }
     {
         let work = match mem::replace(&mut self.work, Work::Nothing) {
             Work::Reply(Outgoing { reply, written: 0 }) => Work::HeldBack(HeldBack {

@@ -1,5 +1,5 @@
 -- What a member is to have on the disk, as contracts see it: the state of that, and the rows of its logs.
-use Rattle.std.specs.Prelude.{◌≡◌, ◌⊎◌, ℕ, ◌+◌, ◌-◌, ◌^◌, ◌<◌, ◌≤◌, Bool, true, false, not, List, [], ◌∷◌, ◌++◌, Option, Some, None, IfSome}
+use Rattle.std.specs.Prelude.{◌≡◌, ◌⊎◌, ℕ, ◌+◌, ◌-◌, ◌^◌, ◌<◌, ◌≤◌, Bool, true, false, not, List, [], ◌∷◌, ◌++◌, Option, Some, None, IfSome, IsSomeAnd}
 use Rattle.std.specs.List.{list_any}
 use Rattle.am_gossip.specs.declared.frame.Frame.{Frame}
 use Rattle.am_gossip.specs.declared.frame.Frame.TheVariants.{Delta}
@@ -74,6 +74,10 @@ pub record IsFollowed (sent : Sent) (old new : Store) : Type 0 where
   pub logged : IfSome (disk_of old.keeping) (λ disk. IsLogged (frames_for disk sent.frames) old new)
   pub unsent : keeps_logs old.keeping ≡ true → 0 < sent.memory + sent.limit → behind new.keeping ≡ true
   pub goes_on : GoesOn old.keeping new.keeping
+
+-- A step sends something to the place of the disk, and it can still be counted.
+abbrev pub SendsNews : Sent → Store → Type 0
+SendsNews sent store = (came store.keeping < 2 ^ 64 - 1) × IsSomeAnd (disk_of store.keeping) (λ disk. list_any brings (frames_for disk sent.frames) ≡ true)
 
 -- ---- what a commit makes sure of
 

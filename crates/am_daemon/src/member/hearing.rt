@@ -1,11 +1,13 @@
 //! The consequences of what a connection said.
 
-ghost use Rattle.std.specs.Prelude.{◌≡◌, ℕ, IsTrue};
+ghost use Rattle.std.specs.Prelude.{◌≡◌, ◌==◌, ℕ, true, not, IsSome, IsTrue};
 ghost use Rattle.am_http.specs.Lines.{line_seen};
 ghost use Rattle.am_http.specs.Sessions.{name_of, spoken};
 ghost use Rattle.am_dialogue.specs.Answered.{IsAnswered, IsTaken, SaysBy};
-ghost use Rattle.am_dialogue.specs.Talks.{Closes, IsClosed, IsOwnLine, KeepsBy, Stays, talk_of};
+ghost use Rattle.am_dialogue.specs.Talks.{Closes, IsClosed, IsOwnLine, KeepsBy, Stays, WaitsAs, talk_of};
 ghost use Rattle.am_member.specs.Exchanging.{IsSessionAnswer, left_at};
+ghost use Rattle.am_upkeep.specs.Keepings.{came, uncommitted};
+ghost use Rattle.am_upkeep.specs.Stores.{SendsNews};
 
 use super::counting::count_said;
 use super::desk::{Desk, random_bits};
@@ -143,6 +145,8 @@ impl<U: Keeper> Desk<'_, U> {
     fn reply(&mut self, config: &Config, dialogue: &mut Conversation, exchanged: SessionAnswer)
         ensures stays { Stays (talk_of dialogue.old) (talk_of dialogue.new) }
         ensures says { SaysBy exchanged.reply (talk_of dialogue.old).saying (talk_of dialogue.new).saying }
+        // PROMISE: With logs, the reply of a step that sends a version to the place of the disk waits for the next commit, as one that has changed something.
+        ensures waits { IsSome exchanged.reply → SendsNews exchanged.effects.outbox (U.store_of self.old.upkeep) → WaitsAs true dialogue.new.work }
     {
         let SessionAnswer {
             reply,
@@ -162,6 +166,7 @@ impl<U: Keeper> Desk<'_, U> {
     pub(super) fn reply_by(&self, dialogue: &mut Conversation, making: PendingReply, news: u64)
         ensures stays { Stays (talk_of dialogue.old) (talk_of dialogue.new) }
         ensures says { KeepsBy making (talk_of dialogue.old).saying (talk_of dialogue.new).saying }
+        ensures waits { uncommitted (U.store_of self.now.upkeep).keeping ≡ true → WaitsAs (not (came (U.store_of self.now.upkeep).keeping == news)) dialogue.new.work }
     {
         dialogue.reply_with(self.alloc, Some(making));
         let keeping = self.upkeep.keeping();

@@ -9,7 +9,7 @@ returns-then-is_too_dear-clause-says c =
     record { owed = λ owed was makes. keeps.owed owed was; gone = keeps.gone }
 
 pub returns-then-is_whole-clause-says : goal.returns-then-is_whole-clause-says
-returns-then-is_whole-clause-says c = by_reply _ _ _ _ (ap (λ (t : Talk). t.saying) c.say.ensures) c.finish.ensures
+returns-then-is_whole-clause-says c = by_reply _ _ _ _ (ap (λ (t : Talk). t.saying) c.say.ensures.said) c.finish.ensures
 
 pub returns-else-is_whole-clause-says : goal.returns-else-is_whole-clause-says
 returns-else-is_whole-clause-says c = by_more _ _ _ _ c.go_on.ensures.same c.make.ensures.says

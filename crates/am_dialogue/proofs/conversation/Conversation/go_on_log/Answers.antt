@@ -8,7 +8,7 @@ use Rattle.am_dialogue.proofs.conversation.Conversation.go_on_log.Goals as goal
 
 pub returns-then-is_written-clause-given : goal.returns-then-is_written-clause-given
 returns-then-is_written-clause-given c = λ request start end silent came.
-    log_given c.args.writing _ request start end _ _ silent (ap (λ (t : Talk). t.saying) c.say.ensures) c.finish.ensures came
+    log_given c.args.writing _ request start end _ _ silent (ap (λ (t : Talk). t.saying) c.say.ensures.said) c.finish.ensures came
 
 pub returns-in-Ok-clause-given : goal.returns-in-Ok-clause-given
 returns-in-Ok-clause-given c = λ request start end silent came.
