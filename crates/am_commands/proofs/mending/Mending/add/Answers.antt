@@ -10,7 +10,7 @@ returns-then-not-is_sent g c = λ before sending.
     not_sent g.V.Version.seen g.V.Key.Ord.cmp (g.V.Message.reads Keep) g.V.Handed.is_hazard c.args.self.now.all c.args.self.now.moment c.args.held.now
     before _ _ _ c.in-Ok.version sending c.in-Ok.ensures
     (elim c.then-not-is_sent.branch [
-      then-not-is_sent-via-then-not-is_sent w ↦ inl (sym w.if-not-is_sent.ensures.sent)
+      | then-not-is_sent-via-then-not-is_sent w ↦ inl (sym w.if-not-is_sent.ensures.sent)
       | then-not-is_sent-via-else-not-is_sent+in_ok-hazard+then-is_some w ↦
           inr (inl (hazardous (λ o. g.V.Handed.is_hazard c.in-Ok.version o) w.in_ok-hazard.field-0 w.in_ok-hazard.ensures w.if-is_some.ensures))
     ])

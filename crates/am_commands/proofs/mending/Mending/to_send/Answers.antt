@@ -1,4 +1,4 @@
-use Rattle.std.proofs.Common.{◌++◌, [], List, Result, take, refl, sym, subst, ap, ◌∙◌}
+use Rattle.std.proofs.Common.{◌++◌, [], take, refl, sym, subst, ap, ◌∙◌}
 use Rattle.std.specs.Prelude.{flat_map}
 use Rattle.am_wire.specs.Fields.{rows_of}
 use Rattle.am_wire.specs.declared.unknown.Unknown.TheVariants.{Keep}
@@ -20,8 +20,8 @@ loop-row-preserved g c =
     let rows = c.deref-row-items.result.now in
     subst
     (λ messages.
-        IsSendingOf g.V.Version.seen g.V.Key.Ord.cmp (g.V.Message.reads Keep) g.V.Handed.is_hazard c.args.self.now.all c.args.self.now.moment c.args.held.now
-        messages c.add_row.new.sent.rows.items c.add_row.new.sent.versions)
+    IsSendingOf g.V.Version.seen g.V.Key.Ord.cmp (g.V.Message.reads Keep) g.V.Handed.is_hazard c.args.self.now.all c.args.self.now.moment c.args.held.now
+    messages c.add_row.new.sent.rows.items c.add_row.new.sent.versions)
     (ap (λ one. flat_map (λ row. rows_of row.items) (take c.loop-row.row-index rows) ++ rows_of one) (c.deref.ensures.value ∙ ap (λ row. row.items) c.row-item.is)
     ∙ sym (flat_more (λ row. rows_of row.items) rows c.loop-row.row-index c.row-item.result c.loop-row-test.true))
     (rows_more g.V.Version.seen g.V.Key.Ord.cmp (g.V.Message.reads Keep) g.V.Handed.is_hazard c.args.self.now.all c.args.self.now.moment c.args.held.now
