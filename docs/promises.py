@@ -69,7 +69,7 @@ TAIL = """## Only tested
 - **Secrets, Alertmanagers, and replies that aren't about silences**: tests/machines.py, tests/gossip.py, tests/beside.py. They see
   - that a member uses its secret, gives each connection a random challenge of its own, and seals by the one that it was given; that what is sealed can be opened; that each listener hears what it should;
   - that a member beside Alertmanagers asks them and sends to them, and answers `notify:true` only when each has been asked since the question;
-  - that the rows which `push` and `mend` send are those of the versions that they pick, without a hazard;
+  - that `push` and `mend` send the rows that they made of what they read;
   - that a reply that isn't about silences is the one of its call.
 - **That the fields of a later release reach** a member's files, logs, peers and the Alertmanagers beside it if it keeps them, and which ones are told as lost, also by a member and of matchers and moments (no clause speaks of `Losses`, am_report): tests/kept_fields.py, beside.py, command_line.py. That a step, a file and a log keep them is proved (`kept` of `IsStep` in am_instance, `recover` in am_files).
 - **Refused memory and hostile input**: tests/refused_memory.py, tests/fuzz.py, am_tests.

@@ -80,8 +80,8 @@ impl<V: Handed + Message + ReportLine> Mending<V> {
     ///
     /// A row at fault, and want of memory.
     pub fn to_send(&self, alloc: Global, held: &Held<V>) -> Result<Sent<V>, SnapshotError>
-        // PROMISE: What a replica is sent are messages of the rows that were read, just those that are for sending, and of each key
-        // one.
+        // PROMISE: `push` and `mend` send messages of the rows that were read, each of a version that is to be sent and has no hazard,
+        // and leave out no key of these.
         ensures { IfOk result (λ sent. IsSendingOf V.seen V.Key.cmp (V.reads Unknown.Keep) V.is_hazard self.now.all self.now.moment held.now
             (flat_map (λ row. rows_of row.items) self.now.rows.items) sent.rows.items sent.versions) }
     {

@@ -1,4 +1,4 @@
-use Rattle.std.proofs.Common.{◌++◌, [], List, Result, take, refl, sym, subst, ap, ◌∙◌}
+use Rattle.std.proofs.Common.{◌++◌, [], take, refl, sym, subst, ap, ◌∙◌}
 use Rattle.std.specs.Prelude.{flat_map}
 use Rattle.am_wire.specs.Fields.{rows_of}
 use Rattle.am_wire.specs.declared.unknown.Unknown.TheVariants.{Keep}
