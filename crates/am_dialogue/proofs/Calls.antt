@@ -1,12 +1,11 @@
 -- The answers to calls, one stretch after the other.
-use Rattle.std.proofs.Common.{◌≡◌, ◌∙◌, ℕ, List, [], ◌∷◌, ◌++◌, map, Option, None, Some, Result, Ok, Err, inl, inr, refl, sym, subst, ap, append_assoc}
+use Rattle.std.proofs.Common.{◌≡◌, ◌∙◌, ℕ, List, [], ◌∷◌, ◌++◌, map, Some, Ok, Err, inl, inr, refl, sym, subst, ap, append_assoc}
 use Rattle.std.proofs.lemmas.List.{map-append}
 use Rattle.std.specs.List.{AllByRecursion}
 use Rattle.am_api_decisions.proofs.AskedMore.{counted_more, counted_none}
-use Rattle.am_api_decisions.proofs.Same.{same_self}
 use Rattle.am_api_decisions.specs.Asked.{IsAsked}
 use Rattle.am_api_decisions.specs.Asking.{AreAsked, AskedAlert, Counted, HoldsSame, IsStopped, counted_with, nothing_counted}
-use Rattle.am_api_decisions.specs.Deciding.{GoesOn, IsGoingOn, Underway, underway_of}
+use Rattle.am_api_decisions.specs.Deciding.{GoesOn, Underway, underway_of}
 use Rattle.am_api_decisions.specs.Entries.{Telling, log_bytes}
 use Rattle.am_api_decisions.specs.Noticing.{IsNoticed}
 use Rattle.am_api_decisions.specs.Settling.{IsBrokenOff, IsDecided}
@@ -14,12 +13,11 @@ use Rattle.am_api_decisions.specs.declared.asked.Asked.TheVariants as asks
 use Rattle.am_api_decisions.specs.declared.asked.Question.{Question}
 use Rattle.am_api_decisions.specs.declared.timing.Timing.{Timing}
 use Rattle.am_api_silences.specs.Answers.{WhenMade}
-use Rattle.am_api_silences.specs.PendingReply.{IsMadeOf, Makes}
+use Rattle.am_api_silences.specs.PendingReply.{Makes}
 use Rattle.am_api_silences.specs.Replies.{Says, line_bytes}
 use Rattle.am_api_silences.specs.Table.{memory_line}
 use Rattle.am_api_silences.specs.declared.answering.PendingAnswer.{PendingAnswer}
 use Rattle.am_api_silences.specs.declared.pending_reply.PendingReply.{PendingReply}
-use Rattle.am_api_silences.specs.declared.pending_reply.PendingReply.TheVariants as makings
 use Rattle.am_api_silences.specs.declared.replies.ReplyBytes.{ReplyBytes}
 use Rattle.am_api_silences.specs.declared.replies.ReplyBytes.TheVariants.{Own, Fixed}
 use Rattle.am_decision_json.specs.declared.message.Alert.{Alert}
@@ -30,8 +28,8 @@ use Rattle.am_http.specs.declared.refusal.Refusal.{Refusal}
 use Rattle.am_http.specs.declared.request.Read.{Read}
 use Rattle.am_http.specs.declared.request.Read.TheVariants.{More, Whole, Refused}
 use Rattle.am_http.specs.declared.request.Request.{Request}
-use Rattle.am_instance.specs.InstanceStates.{InstanceState, log_in_view}
-use Rattle.am_dialogue.proofs.Sayings.{next_owed, other_owed, says_line}
+use Rattle.am_instance.specs.InstanceStates.{InstanceState}
+use Rattle.am_dialogue.proofs.Sayings.{other_owed, says_line}
 use Rattle.am_dialogue.specs.Answered.{ForPages, IsAnswered, IsGivenFor}
 use Rattle.am_dialogue.specs.Calls.{AnswersQuestion, CallCause, IsProgressOf, IsUnderway, WasAsked, WhenTold, call_line}
 use Rattle.am_dialogue.specs.Talks.{AsksElsewhere, Closes, IsCallReply, IsElsewhere, IsGiven, IsGivenOn, IsOwed, IsOwnLine, IsReplyTo, KeepsBy, KeepsGone, KeepsIf, Owed, Owes, Saying, Talk, put_next, said_next}
