@@ -344,8 +344,8 @@ impl Conversation {
         ensures stays { Stays (talk_of self.old) (talk_of self.new) }
         ensures keeps { IsOwnLine (line_seen refusal.now) → Keeps (talk_of self.old).saying (talk_of self.new).saying }
     {
-        let PendingAnswer { making, .. } = refuse(alloc, refusal);
-        self.say(making.finish(alloc));
+        let answer = refuse(alloc, refusal);
+        self.say(answer.making.finish(alloc));
     }
 
     /// Judges or writes another stretch of a list. If none is left, the list goes out. If a filter might keep everyone waiting, the

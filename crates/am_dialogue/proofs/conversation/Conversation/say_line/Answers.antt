@@ -5,4 +5,4 @@ use Rattle.am_dialogue.proofs.conversation.Conversation.say_line.Goals as goal
 
 pub returns-clause-keeps : goal.returns-clause-keeps
 returns-clause-keeps c = λ own.
-    keeps_line c.finish.result _ _ (ap (λ (t : Talk). t.saying) c.say.ensures.said) (line_made _ _ _ c.refuse-making.ensures own c.finish.ensures)
+    keeps_line c.finish.result _ _ (ap (λ (t : Talk). t.saying) c.say.ensures.said) (line_made _ _ _ c.refuse-answer.ensures own c.finish.ensures)
