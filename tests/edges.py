@@ -995,6 +995,21 @@ def test_long_filter(folder):
         compare("a stop", (member.stop(), member.lines[1:]), (0, []))
 
 
+def test_long_value(folder):
+    """A list is refused if a large pattern among its filters meets a silence so long that the search might take minutes."""
+    member = alone("v", folder, ["--time-limit", "60"])
+    large = filtered(["(a|b)*a(a|b){12000}"])
+    compare("a short silence", post(member, "short")[0], 200)
+    compare("a large pattern over it", member.ask("GET", large), (200, b"[]"))
+    long = json.dumps(silence("long", matchers=[{"name": "j", "value": "ab" * 450_000, "isRegex": False}])).encode()
+    compare("a long silence", member.ask("POST", "/api/v2/silences", long)[0], 200)
+    (status, body), seconds = took(lambda: member.ask("GET", large))
+    compare("a large pattern over both", (status, body), (400, b'"bad filter"'))
+    check("is refused soon", seconds < 10, seconds)
+    compare("a small one isn't", len(json.loads(member.ask("GET", filtered(["abab.*"]))[1])), 1)
+    compare("a stop", (member.stop(), member.lines[1:]), (0, []))
+
+
 # ---- posts that have much to say
 
 LONG_POSTS = 8
@@ -1226,7 +1241,7 @@ def main():
             test_silent_beside_wait,
             test_unfinished,
             test_slow_readers,
-            test_patterns,
+            test_patterns, test_long_value,
             test_long_filter,
             test_long_posts,
             test_full,

@@ -30,6 +30,9 @@ TURN = 2
 # How many may wait where clients go.
 CROWD = 20
 
+# A pattern of 12,000 states.
+LARGE_PATTERN = "(a|b)*a(a|b){12000}"
+
 # How many silences with patterns are there from the start.
 COLD = 2_000
 
@@ -319,6 +322,18 @@ def test_cold(folder):
     compare("the stop", of.stop(), 0)
 
 
+def test_long_search(folder):
+    """A label so long that the search with a large pattern would take minutes isn't judged: the answer comes soon, and pages."""
+    of = member("b", folder, ["--decide-limit", "600", "--time-limit", "60"])
+    compare("a silence with a large pattern", post(of, LARGE_PATTERN, True), 200)
+    compare("a short label is judged", decided(answered(asked(of, "/v1/decide?wait=false", message("short", "abab")))), (200, True, "First"))
+    start = time.monotonic()
+    reply = answered(asked(of, "/v1/decide?wait=false", message("long", "ab" * 450_000)))
+    compare("a long one isn't", decided(reply), (200, True, "Unjudged"))
+    check("and the answer comes soon", reply[2] - start < 10, reply[2] - start)
+    compare("the stop", of.stop(), 0)
+
+
 def told(of, answer):
     """What comes of an answer that is posted back."""
     return of.ask("POST", "/v1/notified", json.dumps(answer).encode())
@@ -406,7 +421,7 @@ def test_log(folder):
 
 
 TESTS = [
-    test_turn, test_limit, test_gone, test_stop, test_faults, test_large, test_unjudged, test_dear, test_cold, test_late, test_alerts, test_log,
+    test_turn, test_limit, test_gone, test_stop, test_faults, test_large, test_unjudged, test_dear, test_cold, test_long_search, test_late, test_alerts, test_log,
     test_gone_at_once,
 ]  # fmt: skip
 
