@@ -2,8 +2,12 @@
 //! to be notified is given only when the Alertmanagers beside the member have been heard since the question, or their time is
 //! over.
 
+ghost use Rattle.std.specs.Prelude.{◌≡◌, ◌==◌, ℕ, not, true};
+ghost use Rattle.am_api_silences.specs.declared.pending_reply.PendingReply.{PendingReply as Making};
 ghost use Rattle.am_dialogue.specs.Answered.{ForPages};
-ghost use Rattle.am_dialogue.specs.Talks.{Closes, KeepsGone, Rests, talk_of};
+ghost use Rattle.am_dialogue.specs.Talks.{Closes, KeepsGone, Rests, WaitsAs, talk_of};
+ghost use Rattle.am_upkeep.specs.Keepings.{came, uncommitted};
+ghost use Rattle.am_upkeep.specs.Stores.{IsFollowed};
 
 use super::counting::{count_decided, count_decision, is_to_notify};
 use super::desk::Desk;
@@ -163,6 +167,8 @@ impl<U: Keeper> Desk<'_, U> {
     pub(super) fn follow_call(&self, dialogue: &mut Conversation, called: Called)
         ensures rests { Rests (talk_of dialogue.old) (talk_of dialogue.new) }
         ensures gone { KeepsGone (talk_of dialogue.old).saying (talk_of dialogue.new).saying }
+        ensures waits { (making : Making) (news : ℕ) → called ≡ Called.Made making news → uncommitted (U.store_of self.now.upkeep).keeping ≡ true
+            → WaitsAs (not (came (U.store_of self.now.upkeep).keeping == news)) dialogue.new.work }
     {
         match called {
             Called::Nothing => {}
@@ -457,7 +463,10 @@ impl<U: Keeper> Desk<'_, U> {
     }
 
     /// Returns the reply that a step has made, and sends the frames of its outbox.
-    fn made(&mut self, instance: &Instance, making: PendingReply, outbox: FrameSender) -> Called {
+    fn made(&mut self, instance: &Instance, making: PendingReply, outbox: FrameSender) -> Called
+        ensures made { result ≡ Called.Made making (came (U.store_of self.old.upkeep).keeping) }
+        ensures follows { IsFollowed outbox (U.store_of self.old.upkeep) (U.store_of self.new.upkeep) }
+    {
         let news = self.upkeep.keeping().news();
         self.upkeep.follow(instance.config(), None, outbox, None);
         Called::Made(making, news)
