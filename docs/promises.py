@@ -47,6 +47,7 @@ ANCHORS = {
     "load": ("am_snapshot::what_is_saved_is_loaded", "loaded"),
     "log": ("am_journal::Journal::commit", "acknowledged"),
     "life": ("am_attendant::live", "lived"),
+    "kept": ("am_daemon::Clerk::release", "kept"),
 }
 
 HEAD = """# What is proved
@@ -62,7 +63,7 @@ TAIL = """## Only tested
 
 - **That definitions mean what people want**: [cases/](CASES.md), worked out by hand.
 - **That the loop** is fair, keeps deadlines, closes the right connection, hands on an answer once the peer ends, and counts unfinished bytes, and that replies come: tests/upkeep.py, tests/edges.py. Members under faults of network, process and disk: tests/chaos.py.
-- **That with `--log`** a reply and its frames wait for the log, so that members with logs are durable: tests/disk.py.
+- **That with `--log`** the loop commits before it releases a reply or sends its frames, that what a save puts into a file is what the logs lack, and that a start reads both logs, so that members with logs are durable: tests/disk.py.
 - **A member's turns, figures, readiness and first pull**, that a decision is broken off at its limit and not before, and that it gives each step the right moment: tests/turns.py, tests/operations.py, tests/three_members.py, tests/machines.py.
 - **That pages go out**, and only once if nothing fails: tests/pages.py; with real Alertmanagers, if one is installed, tests/real_shims.py.
 - **Command lines, what is read from a path, a server or logs, the counts of `diff --prometheus`, what `mend` does in turn, pictures' layout, the page for people**: tests/command_line.py, live_sources.py, log_sources.py, gossip.py, pictures.py, page.py (with chromium).

@@ -2,7 +2,8 @@
 //! to be notified is given only when the Alertmanagers beside the member have been heard since the question, or their time is
 //! over.
 
-ghost use Rattle.std.specs.Prelude.{◌≡◌, IfErr, IfOk, ℕ};
+ghost use Rattle.std.specs.Prelude.{◌≡◌, ◌==◌, IfErr, IfOk, ℕ, not, true};
+ghost use Rattle.am_api_silences.specs.declared.pending_reply.PendingReply.{PendingReply as Making};
 ghost use Rattle.am_http.specs.Lines.{line_seen};
 ghost use Rattle.am_http.specs.Sessions.{spoken};
 ghost use Rattle.am_instance.specs.InstanceStates.{InstanceState};
@@ -11,10 +12,12 @@ ghost use Rattle.am_api_decisions.specs.Asking.{HoldsSame};
 ghost use Rattle.am_dialogue.specs.Answered.{ForPages};
 ghost use Rattle.am_dialogue.specs.Calls.{AnswersQuestion, IsOnly, IsProgressOf, IsUnderway, WhenTold};
 ghost use Rattle.am_dialogue.specs.Calls.CallCause.{Stops};
-ghost use Rattle.am_dialogue.specs.Talks.{Closes, IsGiven, KeepsGone, Rests, talk_of};
+ghost use Rattle.am_dialogue.specs.Talks.{Closes, IsGiven, KeepsGone, Rests, WaitsAs, talk_of};
 ghost use Rattle.am_dialogue.specs.Talks.Saying.{Silent};
 ghost use Rattle.am_dialogue.specs.Waiting.{request_of};
 ghost use Rattle.am_daemon.specs.Calling.{Follows, GivesOrWaits, IsCalled, IsPutOff, IsTurnedAwayFor};
+ghost use Rattle.am_upkeep.specs.Keepings.{came, uncommitted};
+ghost use Rattle.am_upkeep.specs.Stores.{IsFollowed};
 
 use super::counting::{count_decided, count_decision, is_to_notify};
 use super::desk::Desk;
@@ -239,6 +242,8 @@ impl<U: Keeper> Desk<'_, U> {
         ensures rests { Rests (talk_of dialogue.old) (talk_of dialogue.new) }
         ensures gone { KeepsGone (talk_of dialogue.old).saying (talk_of dialogue.new).saying }
         ensures follows { Follows called (talk_of dialogue.old).saying (talk_of dialogue.new).saying }
+        ensures waits { (making : Making) (news : ℕ) → called ≡ Called.Made making news → uncommitted (U.store_of self.now.upkeep).keeping ≡ true
+            → WaitsAs (not (came (U.store_of self.now.upkeep).keeping == news)) dialogue.new.work }
     {
         match called {
             Called::Nothing => {}
@@ -569,7 +574,8 @@ impl<U: Keeper> Desk<'_, U> {
 
     /// Returns the reply that a step has made, and sends the frames of its outbox.
     fn made(&mut self, instance: &Instance, making: PendingReply, outbox: FrameSender) -> Called
-        ensures { (news : ℕ) × (result ≡ Called.Made making news) }
+        ensures made { result ≡ Called.Made making (came (U.store_of self.old.upkeep).keeping) }
+        ensures follows { IsFollowed outbox (U.store_of self.old.upkeep) (U.store_of self.new.upkeep) }
     {
         let news = self.upkeep.keeping().news();
         self.upkeep.follow(instance.config(), None, outbox, None);

@@ -11,4 +11,4 @@ returns-clause-steps g c =
 
 pub returns-clause-called : goal.returns-clause-called
 returns-clause-called g c = λ request asked.
-    made_called request c.log_notice-making.result.making _ _ _ c.made.ensures (notice_replied request c.args.notice _ _ _ c.log_notice-making.result asked c.log_notice-making.ensures)
+    made_called request c.log_notice-making.result.making _ _ _ (_, c.made.ensures.made) (notice_replied request c.args.notice _ _ _ c.log_notice-making.result asked c.log_notice-making.ensures)
