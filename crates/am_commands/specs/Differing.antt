@@ -29,7 +29,7 @@ use Rattle.am_commands.specs.declared.source.Input.{Input}
 use Rattle.am_commands.specs.Reading.{IsRead, IsFirstAtFault}
 use Rattle.am_commands.specs.Figures.{AreFigures}
 
--- what a job compares at a moment, and how it is told; with a server among the sources no expiries are known
+-- the comparison that a job asks for at a moment; with a server among the sources no expiries are known
 abbrev pub diff_comparison : DiffJob → ℕ → Bool → Comparison
 diff_comparison job now is_live = record {
   compared = job.compared;
@@ -37,7 +37,7 @@ diff_comparison job now is_live = record {
   manner = record { moment = now; has_expiries = not is_live; is_long = job.is_long };
 }
 
--- how a job reads each of its sources; with a server among them unknown fields are dropped
+-- the way in which a job reads each of its sources; with a server among them unknown fields are dropped
 abbrev pub diff_reading : DiffJob → Bool → Reading
 diff_reading job is_live = record { state = job.state; keys = Repeated; most = MOST_MESSAGE_BYTES; unknown = (if is_live then Drop else Keep) }
 

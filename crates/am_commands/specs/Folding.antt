@@ -26,7 +26,7 @@ files_named (file ∷ files) = map (λ f. named_file f.now) (file ∷ files)
 abbrev pub fold_names : FoldJob → List Named
 fold_names job = files_named job.files.items
 
--- how a job reads each of them
+-- the way in which a job reads each of them
 abbrev pub fold_reading : FoldJob → Reading
 fold_reading job = record { state = job.state; keys = Repeated; most = job.most; unknown = job.unknown }
 

@@ -79,7 +79,7 @@ fn diff_named<
         IsDiff V.seen V.Key.cmp V.begins V.told V.more (less_word V.seen V.unknown_of V.known_of) V.key_data V.named V.value
         (diff_comparison job.entry.now now is_live) S.gives inputs W.contents writer.old writer.new true) }
 
-    // PROMISE: With any other status `diff` stopped at the first fault, and the status is that of this fault.
+    // PROMISE: With any other status `diff` stopped at its first fault, and the status is that of this fault.
     ensures stopped { result ≢ 0 → result ≢ 5 → EndsAt (StopsNamed (F.post source_of) job.entry.now.has_logs (diff_reading job.entry.now is_live) (map named_of job.entry.now.sources.items)
         (λ inputs. StopsDiff V.seen V.Key.cmp V.begins V.told V.more (less_word V.seen V.unknown_of V.known_of) V.key_data V.named V.value
         (diff_comparison job.entry.now now is_live) S.gives S.stops inputs W.contents writer.old writer.new) writer.old writer.new) result }
@@ -138,8 +138,8 @@ pub struct Comparison {
     pub manner: Manner,
 }
 
-/// Returns what of a job's sources is compared at a moment, and how that is told: API v2, and so a comparison with a server, knows
-/// no expiries.
+/// Returns what of a job's sources is compared at a moment, and how that is told: API v2, and so a comparison with a server,
+/// knows no expiries.
 fn comparison_of(job: &DiffJob<'_>, now: Moment, is_live: bool) -> Comparison
     ensures { result ≡ diff_comparison job.entry.now now is_live }
 {

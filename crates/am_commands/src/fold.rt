@@ -49,7 +49,7 @@ fn fold_files<
     ensures row { result ≡ 0 → ComesOf (F.post source_of) job.entry.now.has_logs (fold_reading job.entry.now) (fold_names job.entry.now) (λ inputs.
         IsTold V.seen V.Key.cmp S.gives inputs W.contents (IsFoldRow V.seen V.Key.cmp) writer.old writer.new) }
 
-    // PROMISE: With any other status `fold` stopped at the first fault, and the status is that of this fault.
+    // PROMISE: With any other status `fold` stopped at its first fault, and the status is that of this fault.
     ensures stopped { result ≢ 0 → EndsAt (StopsNamed (F.post source_of) job.entry.now.has_logs (fold_reading job.entry.now) (fold_names job.entry.now)
         (λ inputs. StopsTelling V.seen V.Key.cmp S.gives inputs W.contents (IsFoldRow V.seen V.Key.cmp) S.stops writer.old writer.new)
         writer.old writer.new) result }
