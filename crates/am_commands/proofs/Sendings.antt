@@ -1,4 +1,4 @@
--- What is sent of messages, one more.
+-- Messages that are sent, one more.
 use Rattle.std.proofs.Common.{◌≡◌, ℕ, ◌+◌, ◌<◌, List, [], ◌∷◌, ◌++◌, length, take, get_or, Bool, true, false, Option, Some, None, Result, Ok, inl, inr, refl, sym, subst, ap, ◌∙◌, append-nil, append_assoc, arith}
 use Rattle.std.specs.Prelude.{All, Contains, is_none, is_some, if◌then◌else◌, flat_map, map}
 use Rattle.std.specs.declared.cmp.Ordering.{Ordering}

@@ -26,10 +26,11 @@ use Rattle.am_commands.specs.declared.fault.SourceFault.{SourceFault}
 use Rattle.am_commands.specs.declared.fault.Stopped.{Stopped}
 use Rattle.am_commands.specs.declared.fault.Stopped.TheVariants as stopped
 use Rattle.am_commands.specs.declared.source.Input.{Input}
+use Rattle.am_commands.specs.Opening.{Wanted, wanted_by}
 use Rattle.am_commands.specs.Reading.{IsRead, IsFirstAtFault}
 use Rattle.am_commands.specs.Figures.{AreFigures}
 
--- what a job compares at a moment, and how it is told; with a server among the sources no expiries are known
+-- the comparison that a job asks for at a moment; with a server among the sources no expiries are known
 abbrev pub diff_comparison : DiffJob → ℕ → Bool → Comparison
 diff_comparison job now is_live = record {
   compared = job.compared;
@@ -37,9 +38,13 @@ diff_comparison job now is_live = record {
   manner = record { moment = now; has_expiries = not is_live; is_long = job.is_long };
 }
 
--- how a job reads each of its sources; with a server among them unknown fields are dropped
+-- the way in which a job reads each of its sources; with a server among them unknown fields are dropped
 abbrev pub diff_reading : DiffJob → Bool → Reading
 diff_reading job is_live = record { state = job.state; keys = Repeated; most = MOST_MESSAGE_BYTES; unknown = (if is_live then Drop else Keep) }
+
+-- the sources that a job compares
+abbrev pub diff_wants : DiffJob → Bool → Wanted
+diff_wants job is_live = wanted_by job.sources.items job.has_logs (diff_reading job is_live)
 
 module _ {K X : Type 0} (seen : X → Version K) (cmp : K → K → Ordering) (begins : K → List ℕ) (told : Manner → X → List ℕ)
     (more : Manner → X → X → List ℕ) (by : X → X → List ℕ) (key_data : K → Data) (name : List ℕ) (value : ℕ → X → Data) (how : Comparison) where

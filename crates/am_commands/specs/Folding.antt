@@ -10,8 +10,7 @@ use Rattle.am_merge.specs.Maps.{IsMap, at, greater_of}
 use Rattle.am_snapshot.specs.Texts.{row_text}
 use Rattle.am_report.specs.Sources.{Source}
 use Rattle.am_commands.specs.declared.opened.Keys.TheVariants.{Repeated}
-use Rattle.am_commands.specs.declared.opened.Reading.{Reading}
-use Rattle.am_commands.specs.Opening.{Named}
+use Rattle.am_commands.specs.Opening.{Named, Wanted}
 
 -- a file under its own name
 abbrev pub named_file : List ℕ → Named
@@ -22,13 +21,13 @@ abbrev pub files_named : List (Bor (List ℕ)) → List Named
 files_named [] = named_file STANDARD_INPUT.now ∷ []
 files_named (file ∷ files) = map (λ f. named_file f.now) (file ∷ files)
 
--- the names of the sources of a job
-abbrev pub fold_names : FoldJob → List Named
-fold_names job = files_named job.files.items
-
--- how a job reads each of them
-abbrev pub fold_reading : FoldJob → Reading
-fold_reading job = record { state = job.state; keys = Repeated; most = job.most; unknown = job.unknown }
+-- the sources that a job folds
+abbrev pub fold_wants : FoldJob → Wanted
+fold_wants job = record {
+  names = files_named job.files.items;
+  has_logs = job.has_logs;
+  reading = record { state = job.state; keys = Repeated; most = job.most; unknown = job.unknown };
+}
 
 module _ {K X : Type 0} (seen : X → Version K) (cmp : K → K → Ordering) where
   -- the greatest version of the key that a source holds; of those that tie, that of the first source

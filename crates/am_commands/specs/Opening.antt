@@ -21,45 +21,54 @@ pub record Named : Type 0 where
 abbrev pub named_of : SourceWord → Named
 named_of word = record { name = word.name.now; file = word.file.now }
 
-module _ {S : Type 0} (opens : Asked → Result S SourceFault → Type 0) (has_logs : Bool) (reading : Reading) where
+-- the sources that a job wants: their names in order, and the way in which each is read
+pub record Wanted : Type 0 where
+  pub names : List Named
+  pub has_logs : Bool
+  pub reading : Reading
+
+-- the sources that these words name
+abbrev pub wanted_by : List SourceWord → Bool → Reading → Wanted
+wanted_by words has_logs reading = record { names = map named_of words; has_logs = has_logs; reading = reading }
+
+module _ {S : Type 0} (opens : Asked → Result S SourceFault → Type 0) (wanted : Wanted) where
   -- the source that is asked for by a word
   abbrev pub asked_by : SourceWord → Asked
-  asked_by word = record { word = word; has_logs = has_logs; reading = reading }
+  asked_by word = record { word = word; has_logs = wanted.has_logs; reading = wanted.reading }
 
   -- the input has the name of the word, and the source that opening it gave
   pub record IsOpened (word : SourceWord) (input : Input S) : Type 0 where
     pub name : input.name.now ≡ word.name.now
     pub source : opens (asked_by word) (Ok input.source)
 
-  -- the inputs are the sources of these names, in their order, each once
-  pub record AreOpened (named : List Named) (inputs : List (Input S)) : Type 0 where
+  -- the inputs are the sources that are wanted, in their order, each once
+  pub record AreOpened (inputs : List (Input S)) : Type 0 where
     pub words : List SourceWord
-    pub names : map named_of words ≡ named
+    pub names : map named_of words ≡ wanted.names
     pub opened : AllZip IsOpened words inputs
 
   -- the source of that number is the first that isn't opened
-  pub record IsFirstUnopened (named : List Named) (number : ℕ) (fault : SourceFault) : Type 0 where
+  pub record IsFirstUnopened (number : ℕ) (fault : SourceFault) : Type 0 where
     pub words : List SourceWord
-    pub names : map named_of words ≡ named
+    pub names : map named_of words ≡ wanted.names
     pub inside : number < length words
     pub before : (inputs : List (Input S)) × AllZip IsOpened (take number words) inputs
     pub here : (d : SourceWord) → opens (asked_by (slice_index_or words number d)) (Err fault)
 
   -- the first source that isn't opened; or memory ran out
-  abbrev pub StopsOpening : List Named → Stopped → Type 0
-  StopsOpening names (stopped.Source number fault) = IsFirstUnopened names number fault
-  StopsOpening names (stopped.Told e) = e ≡ Memory
+  abbrev pub StopsOpening : Stopped → Type 0
+  StopsOpening (stopped.Source number fault) = IsFirstUnopened number fault
+  StopsOpening (stopped.Told e) = e ≡ Memory
 
-  module _ (names : List Named) where
-    -- all sources of the names were opened, and this came of them
-    pub record ComesOf (Comes : List (Input S) → Type 0) : Type 0 where
-      pub inputs : List (Input S)
-      pub opened : AreOpened names inputs
-      pub came : Comes inputs
+  -- all sources were opened, and this came of them
+  pub record ComesOf (Comes : List (Input S) → Type 0) : Type 0 where
+    pub inputs : List (Input S)
+    pub opened : AreOpened inputs
+    pub came : Comes inputs
 
-    -- one isn't opened, and the writer is as it was; or all were opened, and it stops so
-    abbrev pub StopsNamed : (List (Input S) → Stopped → Type 0) → {W : Type 0} → W → W → Stopped → Type 0
-    StopsNamed stops old new at = (StopsOpening names at × (new ≡ old)) ⊎ ComesOf (λ inputs. stops inputs at)
+  -- a source isn't opened, and the writer is as it was; or all were opened, and it stops so
+  abbrev pub StopsWanted : (List (Input S) → Stopped → Type 0) → {W : Type 0} → W → W → Stopped → Type 0
+  StopsWanted stops old new at = (StopsOpening at × (new ≡ old)) ⊎ ComesOf (λ inputs. stops inputs at)
 
 -- the status is that of a fault at which it stops so
 abbrev pub EndsAt : (Stopped → Type 0) → ℕ → Type 0

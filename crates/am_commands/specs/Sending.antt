@@ -1,6 +1,6 @@
 -- The versions that are sent to a running replica.
--- X is the type of versions, and `seen` is what the merge sees of one. `reads` is what reading a message gives; `all` has the versions
--- of which the greatest count, and `held` those that the replica holds.
+-- X is the type of versions, and `seen` is what the merge sees of one. `reads` is what reading a message gives; `all` has the
+-- versions that count, and `held` those that the replica holds.
 use Rattle.std.specs.Prelude.{◌≡◌, ℕ, Bool, true, false, List, map, flat_map, All, Contains, nat_le, ◌&&◌, Option, Some, None, is_none, Result, Ok, ◌⊎◌}
 use Rattle.std.specs.declared.cmp.Ordering.{Ordering}
 use Rattle.am_version_order.specs.Versions.{Version}
@@ -37,7 +37,7 @@ module _ {K X : Type 0} (seen : X → Version K) (cmp : K → K → Ordering) (r
     pub read : reads 0 message ≡ Ok version
     pub settled : IsSettled versions version
 
-  -- what is sent of these messages is a row of some of them, just for sending, and no key of those is left out
+  -- the bytes are a row of some of these messages, each for sending, and no key of those that are is left out
   pub record IsSending (messages : List (List ℕ)) (bytes : List ℕ) (versions : List X) : Type 0 where
     pub sent : List (List ℕ)
     pub row : bytes ≡ flat_map delimited sent
@@ -45,7 +45,7 @@ module _ {K X : Type 0} (seen : X → Version K) (cmp : K → K → Ordering) (r
     pub among : All (Contains messages) sent
     pub over : All (IsOver versions) messages
 
-  -- what is sent of rows without a fault is what is sent of all their messages
+  -- the rows have no fault, and this is sent of all their messages
   pub record IsSendingOf (read : List (Result (List ℕ) WireError)) (row : List ℕ) (versions : List X) : Type 0 where
     pub messages : List (List ℕ)
     pub whole : read ≡ map sound messages

@@ -27,7 +27,7 @@ abbrev pub file_or_input : Option (Bor (List ℕ)) → List ℕ
 file_or_input None = STANDARD_INPUT.now
 file_or_input (Some file) = file.now
 
--- how a job reads its file
+-- the way in which a job reads its file
 abbrev pub show_reading : ShowJob → Reading
 show_reading job = record { state = job.state; keys = Once; most = MOST_MESSAGE_BYTES; unknown = job.unknown }
 

@@ -1,13 +1,13 @@
 //! The differences between replicas.
 
-ghost use Rattle.std.specs.Prelude.{◌≡◌, ◌≢◌, IfOk, IfErr, ℕ, List, map, false, true, if◌then◌else◌};
+ghost use Rattle.std.specs.Prelude.{◌≡◌, ◌≢◌, IfOk, IfErr, ℕ, List, false, true, if◌then◌else◌};
 ghost use Rattle.std.specs.Io.KnownBytes.{Appends};
 ghost use Rattle.std.specs.List.{AllZip};
 ghost use Rattle.am_report.specs.Later.{has_later_source};
 ghost use Rattle.am_report.specs.Sources.{Source as NamedMap};
 ghost use Rattle.am_commands.specs.Reading.{IsRead};
-ghost use Rattle.am_commands.specs.Opening.{named_of, ComesOf, StopsNamed, EndsAt};
-ghost use Rattle.am_commands.specs.Differing.{IsReport, StopsReport, IsDiff, StopsDiff, diff_comparison, diff_reading};
+ghost use Rattle.am_commands.specs.Opening.{ComesOf, StopsWanted, EndsAt};
+ghost use Rattle.am_commands.specs.Differing.{IsReport, StopsReport, IsDiff, StopsDiff, diff_comparison, diff_reading, diff_wants};
 ghost use Rattle.am_report.specs.Less.{less_word};
 
 use crate::fault::{SourceFault, Stopped, report_stopped};
@@ -70,17 +70,17 @@ fn diff_named<
     requires { F.IsAlwaysCallable source_of }
 
     // PROMISE: With status 0 `diff` compared just the sources that it names, and they don't differ.
-    ensures same { result ≡ 0 → ComesOf (F.post source_of) job.entry.now.has_logs (diff_reading job.entry.now is_live) (map named_of job.entry.now.sources.items) (λ inputs.
+    ensures same { result ≡ 0 → ComesOf (F.post source_of) (diff_wants job.entry.now is_live) (λ inputs.
         IsDiff V.seen V.Key.cmp V.begins V.told V.more (less_word V.seen V.unknown_of V.known_of) V.key_data V.named V.value
         (diff_comparison job.entry.now now is_live) S.gives inputs W.contents writer.old writer.new false) }
 
     // PROMISE: With status 5 `diff` compared just the sources that it names, and they differ.
-    ensures different { result ≡ 5 → ComesOf (F.post source_of) job.entry.now.has_logs (diff_reading job.entry.now is_live) (map named_of job.entry.now.sources.items) (λ inputs.
+    ensures different { result ≡ 5 → ComesOf (F.post source_of) (diff_wants job.entry.now is_live) (λ inputs.
         IsDiff V.seen V.Key.cmp V.begins V.told V.more (less_word V.seen V.unknown_of V.known_of) V.key_data V.named V.value
         (diff_comparison job.entry.now now is_live) S.gives inputs W.contents writer.old writer.new true) }
 
-    // PROMISE: With any other status `diff` stopped at the first fault, and the status is that of this fault.
-    ensures stopped { result ≢ 0 → result ≢ 5 → EndsAt (StopsNamed (F.post source_of) job.entry.now.has_logs (diff_reading job.entry.now is_live) (map named_of job.entry.now.sources.items)
+    // PROMISE: With any other status `diff` stopped at its first fault, and the status is that of this fault.
+    ensures stopped { result ≢ 0 → result ≢ 5 → EndsAt (StopsWanted (F.post source_of) (diff_wants job.entry.now is_live)
         (λ inputs. StopsDiff V.seen V.Key.cmp V.begins V.told V.more (less_word V.seen V.unknown_of V.known_of) V.key_data V.named V.value
         (diff_comparison job.entry.now now is_live) S.gives S.stops inputs W.contents writer.old writer.new) writer.old writer.new) result }
 {
@@ -138,8 +138,8 @@ pub struct Comparison {
     pub manner: Manner,
 }
 
-/// Returns what of a job's sources is compared at a moment, and how that is told: API v2, and so a comparison with a server, knows
-/// no expiries.
+/// Returns what of a job's sources is compared at a moment, and how that is told: API v2, and so a comparison with a server,
+/// knows no expiries.
 fn comparison_of(job: &DiffJob<'_>, now: Moment, is_live: bool) -> Comparison
     ensures { result ≡ diff_comparison job.entry.now now is_live }
 {

@@ -1,8 +1,8 @@
 //! Sources, folded.
 
 ghost use Rattle.std.specs.Prelude.{◌≡◌, ◌≢◌, OnOk, IfOk, IfErr, map};
-ghost use Rattle.am_commands.specs.Folding.{IsFoldRow, fold_names, fold_reading, files_named, named_file};
-ghost use Rattle.am_commands.specs.Opening.{named_of, AreOpened, StopsOpening, ComesOf, StopsNamed, EndsAt};
+ghost use Rattle.am_commands.specs.Folding.{IsFoldRow, fold_wants, files_named, named_file};
+ghost use Rattle.am_commands.specs.Opening.{named_of, AreOpened, StopsOpening, ComesOf, StopsWanted, EndsAt};
 ghost use Rattle.am_commands.specs.Telling.{IsTold, StopsTelling};
 
 use crate::fault::{SourceFault, Stopped, add, report_stopped};
@@ -46,11 +46,11 @@ fn fold_files<
 
     // PROMISE: With status 0 `fold` wrote the fold of just the files that it names, or of standard input, each read once and as
     // its options say.
-    ensures row { result ≡ 0 → ComesOf (F.post source_of) job.entry.now.has_logs (fold_reading job.entry.now) (fold_names job.entry.now) (λ inputs.
+    ensures row { result ≡ 0 → ComesOf (F.post source_of) (fold_wants job.entry.now) (λ inputs.
         IsTold V.seen V.Key.cmp S.gives inputs W.contents (IsFoldRow V.seen V.Key.cmp) writer.old writer.new) }
 
-    // PROMISE: With any other status `fold` stopped at the first fault, and the status is that of this fault.
-    ensures stopped { result ≢ 0 → EndsAt (StopsNamed (F.post source_of) job.entry.now.has_logs (fold_reading job.entry.now) (fold_names job.entry.now)
+    // PROMISE: With any other status `fold` stopped at its first fault, and the status is that of this fault.
+    ensures stopped { result ≢ 0 → EndsAt (StopsWanted (F.post source_of) (fold_wants job.entry.now)
         (λ inputs. StopsTelling V.seen V.Key.cmp S.gives inputs W.contents (IsFoldRow V.seen V.Key.cmp) S.stops writer.old writer.new)
         writer.old writer.new) result }
 {
@@ -80,8 +80,8 @@ fn inputs_named<'a, S: Drop, F: Fn(Asked<'a>) -> Result<S, SourceFault>>(
 ) -> Result<Vec<Input<'a, S>>, Stopped>
     requires { F.IsAlwaysCallable source_of }
     ensures opened { IfOk result (λ inputs.
-        AreOpened (F.post source_of) job.entry.now.has_logs (fold_reading job.entry.now) (fold_names job.entry.now) inputs.items) }
-    ensures stopped { IfErr result (StopsOpening (F.post source_of) job.entry.now.has_logs (fold_reading job.entry.now) (fold_names job.entry.now)) }
+        AreOpened (F.post source_of) (fold_wants job.entry.now) inputs.items) }
+    ensures stopped { IfErr result (StopsOpening (F.post source_of) (fold_wants job.entry.now)) }
 {
     let words = words_of(alloc, &job.files)?;
     let reading = Reading {

@@ -60,7 +60,8 @@ fn show_file<
     ensures view { result ≡ 0 → (source : S) × OpensFile (F.post source_of) job.entry.now (Ok source)
         × IsShown V.seen V.Key.cmp S.gives (shown_text V.seen V.lines V.value job.entry.now.form now) source W.contents writer.old writer.new }
 
-    // PROMISE: With any other status `show` stopped at a fault of its file, or where it wrote, and the status is that of this fault.
+    // PROMISE: With any other status `show` stopped at a fault of its file, or where it wrote, and the status is that of this
+    // fault.
     ensures stopped { result ≢ 0 → EndsAt (StopsFile (F.post source_of) job.entry.now
         (λ source. StopsShowing V.seen V.Key.cmp S.gives S.stops (shown_text V.seen V.lines V.value job.entry.now.form now) source W.contents writer.old writer.new)
         writer.old writer.new) result }

@@ -1,11 +1,11 @@
 //! Sources of versions, which are read one after the other.
 
-ghost use Rattle.std.specs.Prelude.{◌≡◌, List, [], ◌∷◌, ◌++◌, OnOk, IfOk, IfErr, map};
+ghost use Rattle.std.specs.Prelude.{◌≡◌, List, [], ◌∷◌, ◌++◌, OnOk, IfOk, IfErr};
 ghost use Rattle.std.specs.List.{AllZip};
 ghost use Rattle.am_merge.specs.Maps.{IsMap, IsJoin};
 ghost use Rattle.am_report.specs.Sources.{Source as NamedMap};
 ghost use Rattle.am_commands.specs.declared.fault.SourceFault.{SourceFault};
-ghost use Rattle.am_commands.specs.Opening.{named_of, AreOpened, StopsOpening};
+ghost use Rattle.am_commands.specs.Opening.{wanted_by, AreOpened, StopsOpening};
 ghost use Rattle.am_commands.specs.Reading.{IsRead, StopsReading};
 ghost use Rattle.am_commands.specs.Folding.{IsFoldOf};
 
@@ -56,8 +56,8 @@ pub fn inputs_of<'n, S: Drop, F: Fn(Asked<'n>) -> Result<S, SourceFault>>(
     source_of: F,
 ) -> Result<Vec<Input<'n, S>>, Stopped>
     requires { F.IsAlwaysCallable source_of }
-    ensures opened { IfOk result (λ inputs. AreOpened (F.post source_of) has_logs reading (map named_of words.now) inputs.items) }
-    ensures stopped { IfErr result (StopsOpening (F.post source_of) has_logs reading (map named_of words.now)) }
+    ensures opened { IfOk result (λ inputs. AreOpened (F.post source_of) (wanted_by words.now has_logs reading) inputs.items) }
+    ensures stopped { IfErr result (StopsOpening (F.post source_of) (wanted_by words.now has_logs reading)) }
 {
     let mut inputs = Vec::new(alloc);
     for word in words {
