@@ -1,11 +1,10 @@
 -- The outcomes of calls, and what is replied then.
-use Rattle.std.proofs.Common.{◌≡◌, ◌∙◌, ℕ, Option, None, Some, Ok, sym, subst}
+use Rattle.std.proofs.Common.{◌≡◌, ◌∙◌, ℕ, Option, Some, Ok, sym, subst}
 use Rattle.am_api_decisions.specs.Asked.{IsAsked}
 use Rattle.am_api_decisions.specs.declared.asked.Asked.TheVariants as asks
 use Rattle.am_api_decisions.specs.declared.asked.Question.{Question}
 use Rattle.am_api_silences.specs.PendingReply.{IsMadeOf, Makes}
 use Rattle.am_api_silences.specs.declared.pending_reply.PendingReply.{PendingReply}
-use Rattle.am_api_silences.specs.declared.pending_reply.PendingReply.TheVariants.{Whole}
 use Rattle.am_api_silences.specs.declared.replies.ReplyBytes.{ReplyBytes}
 use Rattle.am_dialogue.proofs.Calls.{away_replied, made_given, put_given, question_replied, same_given, told_given}
 use Rattle.am_dialogue.specs.Calls.{AnswersQuestion, CallCause, IsOnly, WhenTold}

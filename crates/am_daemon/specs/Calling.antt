@@ -9,7 +9,6 @@ use Rattle.am_dialogue.specs.Talks.{IsCallReply, IsGiven, Saying}
 use Rattle.am_dialogue.specs.Talks.Saying.{Silent}
 use Rattle.am_dialogue.specs.Waiting.{request_of}
 use Rattle.am_dialogue.specs.declared.conversation.CallProgress.TheVariants.{Turn as InTurn}
-use Rattle.am_dialogue.specs.declared.turns.Turn.{Turn}
 use Rattle.am_http.specs.Lines.{line_seen}
 use Rattle.am_http.specs.declared.request.Request.{Request}
 use Rattle.am_instance.specs.InstanceStates.{InstanceState}
