@@ -7,7 +7,7 @@ use Rattle.am_daemon.proofs.member.deciding.ask_on.Goals.{else-loop-test, then-l
 
 pub returns-in_err-left-clause-steps : goal.returns-in_err-left-clause-steps
 returns-in_err-left-clause-steps g c = made_on _ _ _ _ c.loop.invariant.steps
-    (going_on_made c.next_moment-now.result c.stretch_over-most.result c.loop.left c.loop.instance c.go_on.result c.go_on.new.instance c.go_on.ensures.asked)
+    (going_on_made c.next_moment-now.result _ c.loop.left c.loop.instance c.go_on.result c.go_on.new.instance c.go_on.ensures.asked)
 
 pub returns-in_err-left-clause-same : goal.returns-in_err-left-clause-same
 returns-in_err-left-clause-same g c = same_on _ _ _ c.loop.invariant.same c.go_on.ensures.same
@@ -22,9 +22,9 @@ returns-in_err-left-clause-stopped g c =
 pub loop-preserved : goal.loop-preserved
 loop-preserved g c = record {
   steps = made_on _ _ _ _ c.loop.invariant.steps
-      (going_on_made c.next_moment-now.result c.stretch_over-most.result c.loop.left c.loop.instance c.go_on.result c.go_on.new.instance c.go_on.ensures.asked);
+      (going_on_made c.next_moment-now.result _ c.loop.left c.loop.instance c.go_on.result c.go_on.new.instance c.go_on.ensures.asked);
   same = same_on _ _ _ c.loop.invariant.same c.go_on.ensures.same;
-  asked = λ question underway. on_underway question c.next_moment-now.result c.stretch_over-most.result c.loop.left _ c.loop.instance c.go_on.new.instance
+  asked = λ question underway. on_underway question c.next_moment-now.result _ c.loop.left _ c.loop.instance c.go_on.new.instance
       (c.loop.invariant.asked question underway) c.in_ok-left.ensures.asked;
 }
 
@@ -32,7 +32,7 @@ pub returns-clause-steps : goal.returns-clause-steps
 returns-clause-steps g c = elim c.loop-test.branch [
   | else-loop-test w ↦ rw w.instance-is c.loop.invariant.steps
   | then-loop-test+in_ok-left+then-is_asked w ↦ rw w.instance-is (made_on _ _ _ _ c.loop.invariant.steps
-      (going_on_made w.next_moment-now.result c.stretch_over-most.result c.loop.left c.loop.instance w.go_on.result w.go_on.new.instance w.go_on.ensures.asked))
+      (going_on_made w.next_moment-now.result _ c.loop.left c.loop.instance w.go_on.result w.go_on.new.instance w.go_on.ensures.asked))
 ]
 
 pub returns-clause-same : goal.returns-clause-same
@@ -45,6 +45,6 @@ pub returns-clause-asked : goal.returns-clause-asked
 returns-clause-asked g c = elim c.loop-test.branch [
   | else-loop-test w ↦ rw w.left-is c.loop.invariant.asked
   | then-loop-test+in_ok-left+then-is_asked w ↦ rw w.left-is (λ question underway.
-      on_underway question w.next_moment-now.result c.stretch_over-most.result c.loop.left _ c.loop.instance w.go_on.new.instance
+      on_underway question w.next_moment-now.result _ c.loop.left _ c.loop.instance w.go_on.new.instance
       (c.loop.invariant.asked question underway) w.in_ok-left.ensures.asked)
 ]
