@@ -1,6 +1,6 @@
 //! The files of a state, which belong to one process for as long as it lives.
 
-ghost use Rattle.std.specs.Prelude.{OnOk};
+ghost use Rattle.std.specs.Prelude.{◌≡◌, is_some, IfOk, OnOk};
 ghost use Rattle.am_files.specs.Appending.{Appends, Commits, IfKept, IsBegunAnew, log_of};
 
 use crate::beside::{NEW, OLD_LOG, beside, remove, remove_logs};
@@ -61,7 +61,9 @@ pub fn open_state<V: Version + Message, R: Files<File = File> + AllocGlobal>(
     path: &str,
     most: u32,
     keeps_log: bool,
-) -> Result<OpenedState<V>, FileFault> {
+) -> Result<OpenedState<V>, FileFault>
+    ensures { IfOk result (λ opened. is_some (log_of opened.file) ≡ keeps_log) }
+{
     let path = target_of(rt, path)?;
     let lock = lock_beside(rt, path.as_str())?;
     let Recovered { held, logs } = load_state(rt, unknown, path.as_str(), most)?;
@@ -76,7 +78,9 @@ fn state_file<R: Files<File = File> + AllocGlobal>(
     lock: File,
     found: FoundLogs,
     keeps_log: bool,
-) -> Result<StateFile, FileFault> {
+) -> Result<StateFile, FileFault>
+    ensures { IfOk result (λ file. is_some (log_of file) ≡ keeps_log) }
+{
     let size = size_of(rt, path.as_str())?;
     let log = if keeps_log {
         Some(StateLog::open(rt, path.as_str(), found.log)?)
