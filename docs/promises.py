@@ -67,11 +67,11 @@ TAIL = """## Only tested
 - **A member's turns, figures, readiness and first pull**, that a decision is broken off at its limit and not before, and that it gives each step the right moment: tests/turns.py, tests/operations.py, tests/three_members.py, tests/machines.py.
 - **That pages go out**, and only once if nothing fails: tests/pages.py; with real Alertmanagers, if one is installed, tests/real_shims.py.
 - **Command lines, what is read from a path, a server or logs, the counts of `diff --prometheus`, what `mend` does in turn, pictures' layout, the page for people**: tests/command_line.py, live_sources.py, log_sources.py, gossip.py, pictures.py, page.py (with chromium).
-- **Secrets, Alertmanagers, and replies that aren't about silences**: tests/machines.py, tests/gossip.py, tests/beside.py. They see
+- **Secrets, Alertmanagers, and pages about a member**: tests/machines.py, tests/gossip.py, tests/beside.py. They see
   - that a member uses its secret, gives each connection a random challenge of its own, and seals by the one that it was given; that what is sealed can be opened; that each listener hears what it should;
   - that a member beside Alertmanagers asks them and sends to them, and answers `notify:true` only when each has been asked since the question;
   - that `push` and `mend` send the rows that they made of what they read;
-  - that a reply that isn't about silences is the one of its call.
+  - that a page about the member, and the list of the recent alerts, is the one that was asked for.
 - **That the fields of a later release reach** a member's files, logs, peers and the Alertmanagers beside it if it keeps them, and which ones are told as lost, also by a member and of matchers and moments (no clause speaks of `Losses`, am_report): tests/kept_fields.py, beside.py, command_line.py. That a step, a file and a log keep them is proved (`kept` of `IsStep` in am_instance, `recover` in am_files).
 - **Refused memory and hostile input**: tests/refused_memory.py, tests/fuzz.py, am_tests.
 - **That real replicas** of prometheus-alertmanager 0.25.0 do the same: tests/real_replicas.py, real_beside.py, if one is installed.

@@ -32,7 +32,7 @@ pub fn live<'a, A: Attendant, R: Net + Clock + Input>(
     member: &mut Member<'a, A>,
     limits: Limits,
 ) -> io::Result<()>
-    // PROMISE: At each moment, what the program's member holds comes of one life of its connections; and over the stream of each just one reply goes out, behind its challenge where frames are sealed: that of its own request's step, the line of a refusal with a status from 400 on, or one that isn't about silences.
+    // PROMISE: At each moment, what the program's member holds comes of one life of its connections; and over the stream of each just one reply goes out, behind its challenge where frames are sealed: that of its own request's step; the decision, the outcome of a notice or the log's list that its own request asks for; the line of a refusal with a status from 400 on; or a page about the member or the recent alerts.
     ensures lived { (left : ℕ → Option (Line Conversation NotedStream))
         × (history : Leads ⟦<Member<'a, A> as Service>⟧.does ⟦<Member<'a, A> as Service>⟧.begins (IsCall ⟦<Member<'a, A> as Service>⟧.acts ⟦<Member<'a, A> as Service>⟧.loses
         ⟦<Member<'a, A> as Service>⟧.answers ⟦<Member<'a, A> as Service>⟧.gives ⟦<Member<'a, A> as Service>⟧.offers ⟦<Member<'a, A> as Service>⟧.asks)

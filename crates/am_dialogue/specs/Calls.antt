@@ -37,8 +37,8 @@ pub record IsUnderway (question : Question) (deciding : Underway) : Type 0 where
   pub parts : question.message.alerts.items ≡ map (λ one. one.alert) asked ++ deciding.left
   pub counted : deciding.counted ≡ counted_with nothing_counted asked
 
--- The reply is the decision of the question, or of what is left of it: the last of its steps, between these states, decides, and
--- those before ask alerts.
+-- The reply is the decision of the question, made between these states: of what was left of it, once some of its alerts had been
+-- asked.
 pub record AnswersQuestion (question : Question) (old : InstanceState) (reply : ReplyBytes) (new : InstanceState) : Type 0 where
   pub timing : Timing
   pub deciding : Underway
