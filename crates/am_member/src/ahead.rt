@@ -38,7 +38,7 @@ enum Left {
 #[derive(Drop)]
 pub struct PatternsAhead {
     left: Left,
-    /// The number of bytes of silences that came since all were looked at last.
+    /// The number of bytes of silences that came since the first of all silences was looked at.
     came: u64,
 }
 
@@ -60,22 +60,25 @@ impl PatternsAhead {
         }
     }
 
-    /// Notes that silences of at most this many bytes come. If many came, all are looked at again.
+    /// Notes that silences of at most this many bytes come. If many came, all are looked at again, once those that are left were.
     pub fn note(&mut self, bytes: u64) {
         self.came = self.came.saturating_add(bytes);
-        if self.came > MOST_NEW_BYTES {
-            self.came = 0;
-            self.left = Left::All;
-        }
     }
 
     /// Compiles some of the patterns that weren't looked at yet, of silences that haven't ended at `now`, and returns whether none is
-    /// left. If enough are kept, or memory runs out, the rest are left to the steps that need them.
+    /// left. If enough are kept, or memory runs out, the rest are left to the steps that need them; so are the patterns that come
+    /// meanwhile, until the next call, since whoever waits would otherwise wait for as long as silences come.
     pub fn go_on(&mut self, instance: &mut Instance, now: Moment) -> bool
         ensures same { instance.new ≡ instance.old }
     {
         if matches!(&self.left, Left::Nothing) {
-            return true;
+            if self.came <= MOST_NEW_BYTES {
+                return true;
+            }
+            self.left = Left::All;
+        }
+        if matches!(&self.left, Left::All) {
+            self.came = 0;
         }
         let alloc = instance.silences().allocator();
         let mut patterns = instance.swap_patterns(PatternCache::new(alloc));
