@@ -1,5 +1,5 @@
 //! The patterns of the silences that are held. They are compiled some at a time before alerts are held against the silences, since a
-//! step that has to compile thousands of them would keep everyone else waiting for seconds.
+//! step that has to compile thousands of them would keep everyone else waiting.
 
 ghost use Rattle.std.specs.Prelude.{◌≡◌};
 
@@ -29,7 +29,7 @@ const MOST_NEW_BYTES: u64 = 16 << 10;
 #[derive(Drop)]
 enum Left {
     All,
-    /// Those from an identifier on.
+    /// The silences from an identifier on.
     From(Text),
     Nothing,
 }

@@ -36,7 +36,7 @@ fn bytes_for_ends(silences: usize) -> u64 {
 /// A keeper of what a member holds: its files and logs, the lines that it prints, what it counts, and the frames that wait for
 /// peers. Whoever makes the steps of a member relies on this trait alone.
 pub trait Keeper {
-    /// What is to be on the disk: the state of that, and the rows of the logs.
+    /// The store: the state of what is to be on the disk, and the rows of the logs.
     ghost store_of: { Self → Store };
 
     /// Returns the options that the member was started with.
