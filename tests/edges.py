@@ -30,7 +30,7 @@ from urllib.parse import quote
 from lib import members, versions
 from lib.api import NOT_KEPT, NOT_READY, request, silence
 from lib.members import ALL_LINES, LIMITED, PATIENCE, STRANGER, TOLD_OF_STRANGER, Stoppable
-from lib.members import asked, begun, bytes_of, eventually, free_ports, parted, received, run, write
+from lib.members import asked, begun, bytes_of, eventually, free_ports, parted, received, run, slowest, write
 from lib.tally import check, compare, finish, try_each
 from lib.wire import EMPTY_PUSH, PULL, PUSH, TICK, delimited, delta, field, frame, greeting, items, number_at, varint
 
@@ -626,17 +626,6 @@ def peak(member):
     """How many MiB of memory a member has had at most."""
     with open(f"/proc/{member.process.pid}/status", encoding="ascii") as file:
         return int(re.search(r"VmHWM:\s+(\d+)", file.read()).group(1)) / 1024
-
-
-def slowest(member, look):
-    """How long the slowest request took, in seconds, while something goes on."""
-    slow, found = 0, set()
-    while look():
-        start = time.monotonic()
-        found.add(member.ask("GET", "/api/v2/silence/none")[0])
-        slow = max(slow, time.monotonic() - start)
-    compare("the requests meanwhile", found, {404})
-    return slow
 
 
 def part(state, row):

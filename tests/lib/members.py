@@ -14,7 +14,7 @@ import time
 
 from lib.api import request
 from lib.error_lines import words_of
-from lib.tally import check, give_up
+from lib.tally import check, compare, give_up
 from lib.wire import greeting
 
 TOP = os.path.dirname(os.path.dirname(os.path.dirname(os.path.abspath(__file__))))
@@ -113,6 +113,17 @@ def free_ports(count):
         if port not in ports:
             ports.append(port)
     return ports
+
+
+def slowest(member, look):
+    """How long the slowest of requests took, in seconds, that were made one after the other while something went on."""
+    slow, found = 0, set()
+    while look():
+        start = time.monotonic()
+        found.add(member.ask("GET", "/api/v2/silence/none")[0])
+        slow = max(slow, time.monotonic() - start)
+    compare("the requests meanwhile", found, {404})
+    return slow
 
 
 def eventually(look, patience=PATIENCE):
