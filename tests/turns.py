@@ -218,10 +218,8 @@ def test_large(folder):
     alerts = [f"n{number:05}" for number in range(17_000)]
     body = message("large", *alerts)
     check("it is nearly as large as may be", MOST_BODY * 0.8 < len(body) <= MOST_BODY, len(body))
-    # (whatever else the machine does may come beside one of them)
-    found = [waits_beside(of, body, ["false"]) for _ in range(3)]
-    check("nobody waits for a whole message", any(of_one < 0.75 * whole for whole, of_one in found), found)
-    of_one = max(of_one for _, of_one in found)
+    whole, of_one = waits_beside(of, body, ["false"])
+    check("nobody waits for a whole message", of_one < 0.75 * whole, (of_one, whole))
     _, of_eight = waits_beside(of, body, ("false", "true") * 4)
     check("and eight make nobody wait for much longer than one", of_eight < 4 * of_one, (of_eight, of_one))
     of.kill()
