@@ -33,7 +33,7 @@ pub fn run_fold<'a, R: Host>(rt: &'a R, streams: Streams, job: &FoldJob<'a>) -> 
     }
 }
 
-/// Folds the files of a job, or standard input where it names none, and returns the exit status of the program.
+/// Folds the files of a job, or standard input if it names none, and returns the exit status of the program.
 fn fold_files<
     'a,
     R: Host,
@@ -93,7 +93,7 @@ fn inputs_named<'a, S: Drop, F: Fn(Asked<'a>) -> Result<S, SourceFault>>(
     inputs_of(alloc, &words, job.has_logs, reading, source_of)
 }
 
-/// Returns the words of sources: of each file, under its own name, or of standard input where there is none.
+/// Returns the words of sources: of each file, under its own name, or of standard input if there is none.
 fn words_of<'a>(alloc: Global, files: &[&'a str]) -> Result<Vec<SourceWord<'a>>, AllocError>
     ensures { IfOk result (λ words. map named_of words.items ≡ files_named files.now) }
 {

@@ -45,7 +45,7 @@ pub fn run_show<'a, R: Host>(rt: &'a R, streams: Streams, job: &ShowJob<'a>) -> 
     }
 }
 
-/// Shows the file of a job at a moment, or standard input where it names none. Returns the exit status of the program.
+/// Shows the file of a job at a moment, or standard input if it names none. Returns the exit status of the program.
 fn show_file<
     'a,
     R: Host,
@@ -84,7 +84,7 @@ fn show_file<
     }
 }
 
-/// Returns the source of a job: its file, or standard input where it names none.
+/// Returns the source of a job: its file, or standard input if it names none.
 fn asked_by<'a>(job: &ShowJob<'a>) -> Asked<'a>
     ensures file { result.word.file.now ≡ file_or_input job.entry.now.file }
     ensures logs { result.has_logs ≡ job.entry.now.has_logs }

@@ -74,7 +74,7 @@ pub record IsRefused (old : InstanceState) (saying : Saying) (new : InstanceStat
   pub same : new ≡ old
   pub line : Keeps saying saying'
 
--- What is owed is given between these states, if it is the answer to a call.
+-- The reply that is owed is given between these states, if it is the answer to a call.
 abbrev pub IsGivenFor : Owed → InstanceState → InstanceState → Saying → Type 0
 IsGivenFor (Answer request) old new saying = IsGiven request old new saying
 IsGivenFor owed old new saying = ⊤

@@ -1,4 +1,4 @@
--- What a member is to have on the disk, as contracts see it: the state of that, and the rows of its logs.
+-- The store of a member, as contracts see it: the state of what is to be on the disk, and the rows of its logs.
 use Rattle.std.specs.Prelude.{◌≡◌, ◌⊎◌, ℕ, ◌+◌, ◌-◌, ◌^◌, ◌<◌, ◌≤◌, Bool, true, false, not, List, [], ◌∷◌, ◌++◌, Option, Some, None, IfSome, IsSomeAnd}
 use Rattle.std.specs.List.{list_any}
 use Rattle.am_gossip.specs.declared.frame.Frame.{Frame}
@@ -19,7 +19,7 @@ pub record Store : Type 0 where
   pub log : Option LogRows
 
 module _ {R : Type 0} where
-  -- what the code holds of it
+  -- the store that the code holds
   abbrev pub store_of : Upkeep R → Store
   store_of upkeep = record { keeping = upkeep.keeping; silences = log_of upkeep.silences; log = log_of upkeep.log }
 
@@ -63,13 +63,13 @@ abbrev pub AreLogged : List ℕ → List ℕ → Store → Store → Type 0
 AreLogged silences log old new =
     (behind new.keeping ≡ true) ⊎ (IfKept (Appends silences) old.silences new.silences × IfKept (Appends log) old.log new.log)
 
--- What these frames bring is logged, if logs are kept; and if they bring something, it has come.
+-- The versions that these frames bring are logged, if logs are kept; and if they bring any, something has come.
 pub record IsLogged (frames : List Frame) (old new : Store) : Type 0 where
   pub rows : keeps_logs old.keeping ≡ true → AreLogged (rows_for Sil frames) (rows_for Nfl frames) old new
   pub come : list_any brings frames ≡ true → HasCome old.keeping new.keeping
   pub goes_on : GoesOn old.keeping new.keeping
 
--- What a step sends to the place of the disk is logged; if it left something out, the logs are known to lack it.
+-- The versions that a step sends to the place of the disk are logged; if it left something out, the logs are known to lack it.
 pub record IsFollowed (sent : Sent) (old new : Store) : Type 0 where
   pub logged : IfSome (disk_of old.keeping) (λ disk. IsLogged (frames_for disk sent.frames) old new)
   pub unsent : keeps_logs old.keeping ≡ true → 0 < sent.memory + sent.limit → behind new.keeping ≡ true
