@@ -32,16 +32,13 @@ NEEDED = 4 << 30
 
 # How many seconds the proof of a crate takes for each thousand lines by one process, where four run side by side.
 PACES = {
-    "am_version_order": 55, "am_merge": 125, "am_streams": 200, "am_wire": 61, "am_snapshot": 109, "am_disk": 142,
-    "am_gossip": 77, "am_refusals": 190, "am_silence": 80, "am_silence_json": 95, "am_peers": 117, "am_nflog": 80,
-    "am_report": 106, "am_jobs": 74, "am_command_line": 124, "am_http": 66, "am_seal": 108, "am_gate": 101,
-    "am_lzw": 103, "am_memberlist": 91, "am_reactor": 82, "am_faults": 122, "am_journal": 82, "am_files": 112,
-    "am_mend": 180, "am_commands": 212, "am_matcher": 95, "am_alert_hash": 96, "am_collect": 222, "am_dedup": 81,
-    "am_instance": 93, "am_api_silences": 130, "am_decision_json": 107, "am_api_decisions": 97, "am_metrics": 147,
-    "am_api_status": 42, "am_figures": 86, "am_member": 105, "am_dialogue": 117, "am_living": 254,
-    "am_attendant": 277, "am_beside": 128, "am_lines": 114, "am_self": 187, "am_upkeep": 166, "am_daemon": 193,
-    "am_runs": 84, "am_schedule": 99, "am_steps": 101, "am_cluster": 95, "am_replay": 114, "am_picture": 113,
-    "am_player": 269, "am_tool": 5684,
+    "am_version_order": 55, "am_wire": 66, "am_merge": 125, "am_silence": 80, "am_silence_json": 95, "am_nflog": 80,
+    "am_gossip": 86, "am_collect": 222, "am_dedup": 81, "am_matcher": 95, "am_snapshot": 109, "am_store": 110,
+    "am_report": 106, "am_http": 66, "am_instance": 93, "am_api_silences": 130, "am_api_decisions": 100, "am_metrics": 97,
+    "am_api_status": 42, "am_peers": 117, "am_peer_auth": 106, "am_member": 105, "am_reactor": 82, "am_memberlist": 96,
+    "am_alertmanager": 133, "am_diagnostics": 119, "am_options": 128, "am_server": 124, "am_backend": 166, "am_daemon": 201,
+    "am_commands": 212, "am_schedule": 99, "am_runs": 84, "am_cluster": 97, "am_replay": 114, "am_player": 139,
+    "am_tool": 5684,
 }  # fmt: skip
 # That of a crate which was not measured.
 PACE = 130

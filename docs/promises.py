@@ -26,15 +26,15 @@ COMMENT = re.compile(r" *// (.*)")
 
 # The crates of each part, in the order of the page.
 PARTS = {
-    "Replicas": ["am_collect", "am_refusals", "am_instance", "am_runs", "am_cluster", "am_client"],
+    "Replicas": ["am_collect", "am_instance", "am_runs", "am_cluster", "am_client"],
     "Members, from bytes to bytes": [
-        "am_http", "am_silence_json", "am_api_silences", "am_decision_json", "am_api_decisions", "am_api_status", "am_metrics",
-        "am_figures", "am_gossip", "am_seal", "am_gate", "am_peers", "am_member", "am_connection", "am_reactor", "am_living", "am_attendant",
-        "am_dialogue", "am_lines", "am_upkeep", "am_self", "am_daemon",
+        "am_http", "am_silence_json", "am_api_silences", "am_api_decisions", "am_api_status", "am_metrics", "am_gossip",
+        "am_peer_auth", "am_peers", "am_member", "am_connection", "am_reactor", "am_server", "am_diagnostics", "am_backend",
+        "am_options", "am_daemon",
     ],
-    "Files, comparing and mending": ["am_snapshot", "am_report", "am_lzw", "am_memberlist", "am_mend", "am_beside", "am_commands", "am_disk", "am_journal", "am_files"],
-    "Rules": ["am_version_order", "am_merge", "am_silence", "am_nflog", "am_dedup", "am_alert_hash", "am_matcher", "am_wire", "am_streams"],
-    "Schedules": ["am_schedule", "am_steps", "am_replay", "am_picture", "am_player"],
+    "Files, comparing and mending": ["am_snapshot", "am_report", "am_memberlist", "am_alertmanager", "am_commands", "am_store"],
+    "Rules": ["am_version_order", "am_merge", "am_silence", "am_nflog", "am_dedup", "am_matcher", "am_wire"],
+    "Schedules": ["am_schedule", "am_replay", "am_player"],
 }  # fmt: skip
 
 # The rows that other pages link to: their anchors, by function and clause.
@@ -45,9 +45,10 @@ ANCHORS = {
     "diff": ("am_commands::diff_sources", "told"),
     "fold": ("am_commands::fold_sources", "row"),
     "load": ("am_snapshot::what_is_saved_is_loaded", "loaded"),
-    "log": ("am_journal::Journal::commit", "acknowledged"),
-    "life": ("am_attendant::live", "lived"),
-    "kept": ("am_daemon::Clerk::release", "kept"),
+    "log": ("am_store::Journal::commit", "acknowledged"),
+    "save": ("am_store::a_crash_leaves_the_old_file_or_the_new_one", "saved"),
+    "life": ("am_daemon::live", "lived"),
+    "kept": ("am_daemon::Server::release", "kept"),
 }
 
 HEAD = """# What is proved
@@ -72,8 +73,8 @@ TAIL = """## Only tested
   - that a member beside Alertmanagers asks them and sends to them, and answers `notify:true` only when each has been asked since the question;
   - that `push` and `mend` send the rows that they made of what they read;
   - that a page about the member, and the list of the recent alerts, is the one that was asked for.
-- **That the fields of a later release reach** a member's files, logs, peers and the Alertmanagers beside it if it keeps them, and which ones are told as lost, also by a member and of matchers and moments (no clause speaks of `Losses`, am_report): tests/kept_fields.py, beside.py, command_line.py. That a step, a file and a log keep them is proved (`kept` of `IsStep` in am_instance, `recover` in am_files).
-- **Refused memory and hostile input**: tests/refused_memory.py, tests/fuzz.py, am_tests.
+- **That the fields of a later release reach** a member's files, logs, peers and the Alertmanagers beside it if it keeps them, and which ones are told as lost, also by a member and of matchers and moments (no clause speaks of `Losses`, am_report): tests/kept_fields.py, beside.py, command_line.py. That a step, a file and a log keep them is proved (`kept` of `IsStep` in am_instance, `recover` in am_store).
+- **Refused memory and hostile input**: tests/refused_memory.py, tests/fuzz.py, am_surface.
 - **That real replicas** of prometheus-alertmanager 0.25.0 do the same: tests/real_replicas.py, real_beside.py, if one is installed.
 
 ## Trusted
@@ -81,12 +82,12 @@ TAIL = """## Only tested
 You have to trust the toolchain, the C library, the statements of the kit's crates and the disk. You also have to trust that nobody can make an HMAC without its key, or foresee the system's random bytes. Nobody promises that there is enough memory, or that a frame arrives. No contract says
 
 - that `Memory` is answered only if an allocation was refused, and `Read` only if a read failed;
-- which patterns `regex` finds too big, so that `hazard_of` may call any pattern refused; or which ones are compiled before a step; which searches are too long for a decision or a list (`Deciding::longest_value`, `PendingReply::is_too_dear`; tests/turns.py, tests/edges.py);
+- which patterns `regex` finds too big, so that `hazard_of` may call any pattern refused; or which ones are compiled before a step; which searches are too long for a decision or a list (`Deciding::longest_value`, `ReplyBuilder::is_too_dear`; tests/turns.py, tests/edges.py);
 - that a pattern of RE2 and its translation match the same texts (cases/re2.txt, recorded from Go);
 - that the frames of a connection's pieces are those of all its bytes together: `connection` says it piece by piece;
 - that an unfinished head of over 64 fields is refused at once;
 - which canonical texts are kept as they came, or that `sort_row` refuses a row over 64 MiB;
-- that `SystemDisk` and `LogFile` make the calls that they note, and that bytes outside of a write stay; that `read` and `write` of `NotedStream` do, and nothing else reads from its socket or writes to it;
+- that `SystemDisk` and `LogFile` make the calls that they note, that a disk does as [its definition](../crates/am_store/specs/Crashes.antt) says, and that bytes outside of a write stay; that `read` and `write` of `NotedStream` do, and nothing else reads from its socket or writes to it;
 - when an Alertmanager beside a member is asked next and what its messages say, that what comes for it is taken, or that each silence that isn't sent is reported just once: two of them may share a mark;
 - when a clock is read, or that a stream whose other end has left says so;
 - how long an answer takes.

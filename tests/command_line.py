@@ -272,8 +272,9 @@ BAD_NOW = (
     " 2026-11-26T12:00:00Z\n" + FOLD_USAGE
 )
 BAD_MOST_BYTES = (
-    "error: invalid value for '--most-bytes <BYTES>': a whole number from 1 to 4294967295 is wanted, in digits alone\n" + FOLD_USAGE
+    "error: invalid value '{0}' for '--most-bytes <BYTES>': {0} is not in 1..=4294967295\n\nFor more information, try '--help'.\n"
 )
+SIGNED = "error: invalid value for '--most-bytes <BYTES>': a whole number is wanted, in digits alone\n" + FOLD_USAGE
 BAD_SOURCES = "error: invalid values for '<SOURCE>...': {}\n" + DIFF_USAGE
 BAD_STATE = (
     "error: invalid value '{}' for '--state <STATE>'\n"
@@ -359,8 +360,9 @@ CASES = [
     (FOLD + ["--most-bytes", "33"], FIRST, 0, FIRST, ""),
     (FOLD + ["--most-bytes", "32"], FIRST, 1, b"", "am_tool: TooLarge\n"),
     (FOLD + ["--most-bytes", "66"], FIRST + SECOND, 0, SECOND, ""),
-    (FOLD + ["--most-bytes", "0"], FIRST, 2, b"", BAD_MOST_BYTES),
-    (FOLD + ["--most-bytes", "4294967296"], FIRST, 2, b"", BAD_MOST_BYTES),
+    (FOLD + ["--most-bytes", "0"], FIRST, 2, b"", BAD_MOST_BYTES.format(0)),
+    (FOLD + ["--most-bytes", "4294967296"], FIRST, 2, b"", BAD_MOST_BYTES.format(4294967296)),
+    (FOLD + ["--most-bytes", "+33"], FIRST, 2, b"", SIGNED),
     (
         ["fold", "--stat", "sil", "--now", "0"],
         b"",

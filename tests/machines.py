@@ -591,7 +591,7 @@ def words_that_are_refused(folder):
         (["--listen", ":9093"], 2, listen),
         (["--listen", "9093", "--peers-listen", "10.0.0.1"], 2, at_peers),
         (["--listen", "9093", "--peers-listen", "0.0.0.0:9094"], 2, "error: '--peers-listen <ADDRESS:PORT>' at an address"),
-        (["--listen", "9093", "--secret", "x", "--open-peers"], 2, "error: '--open-peers' says"),
+        (["--listen", "9093", "--secret", "x", "--open-peers"], 2, "error: the argument '--secret <FILE>' cannot be used with '--open-peers'"),
         (["--listen", "9093", "--peer", "b=10.0.0.1"], 2, "am_tool: Peer"),
         (["--listen", "9093", "--peer", "b=[::1]:0"], 2, "am_tool: Peer"),
         (["--listen", "9093", "--secret", f"{folder}/none"], 3, "am_tool: Secret File NotFound"),

@@ -392,7 +392,7 @@ def test_starts(folder):
         words = ["instance", "--name", "m", *files, "--peer", "broken"]
         words += [option, value] if option == "--listen" else ["--listen", str(port), option, value]
         status, output, error = run(words)
-        compare(f"{option} {value}", (status, output, error.split("'")[1].split(" ")[0]), (2, b"", option))
+        compare(f"{option} {value}", (status, output, error.split(" for '")[1].split(" ")[0]), (2, b"", option))
 
     status, output, error = run([*named, "--sil", "one", "--nfl", "one", "--peer", "broken"])
     compare("one file for both", (status, output, error.split("\n")[0]), (2, b"", ONE_FILE))

@@ -56,7 +56,7 @@ def test_words(folder):
     for option, values in NUMBERS:
         for value in values:
             status, output, error = run([*named, f"{option}={value}"])
-            compare(f"{option} {value}", (status, output, error.split("'")[1].split(" ")[0]), (2, b"", option))
+            compare(f"{option} {value}", (status, output, error.split(" for '")[1].split(" ")[0]), (2, b"", option))
 
 
 def test_times(folder):

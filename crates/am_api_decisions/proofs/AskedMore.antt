@@ -2,7 +2,7 @@
 use Rattle.std.proofs.Common.{◌≡◌, ℕ, List, [], ◌∷◌, ◌++◌, Bool, length, map, filter, not, refl, sym, ap, subst, ◌∙◌, append_assoc, append-nil, length-append, arith}
 use Rattle.std.proofs.lemmas.List.{length-map, map-append, nil_from_length}
 use Rattle.std.proofs.lemmas.List.Elements.{filter-append}
-use Rattle.am_decision_json.specs.declared.message.Alert.{Alert}
+use Rattle.am_api_decisions.specs.declared.message.Alert.{Alert}
 use Rattle.am_instance.specs.InstanceStates.{InstanceState}
 use Rattle.am_api_decisions.specs.Asking.{AreAsked, AskedAlert, Counted, IsAskedOn, IsMutesStep, counted_with, hash_of, is_open_firing, is_open_resolved, is_unmuted, silenced, Silenced}
 

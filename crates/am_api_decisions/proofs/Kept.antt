@@ -6,7 +6,7 @@ use Rattle.std.proofs.lemmas.Bool.{le-leb, lt-leb}
 use Rattle.std.proofs.lemmas.List.{drop_all, map-append, take_more}
 use Rattle.std.proofs.lemmas.List.Elements.{filter-append}
 use Rattle.std.proofs.lemmas.List.Sums.{sum_by-drop_more}
-use Rattle.am_decision_json.specs.declared.message.Alert.{Alert}
+use Rattle.am_api_decisions.specs.declared.message.Alert.{Alert}
 use Rattle.am_matcher.specs.declared.labels.Label.{Label}
 use Rattle.am_api_decisions.specs.Recent.{is_kept, kept_as, kept_of, label_size}
 

@@ -2,20 +2,20 @@
 use Rattle.std.proofs.Common.{◌≡◌, ℕ, zero, suc, Bool, true, false, inl, inr, List, [], ◌∷◌, ◌++◌, map, take, Option, None, Some, Ok, Err, Result, refl, sym, ap, subst, ◌∙◌}
 use Rattle.am_http.specs.Lines.{RefusalLine}
 use Rattle.am_http.specs.declared.refusal.Refusal.{Refusal}
-use Rattle.am_decision_json.specs.declared.message.Alert.{Alert}
+use Rattle.am_api_decisions.specs.declared.message.Alert.{Alert}
 use Rattle.am_instance.specs.Deliveries.{Delivery, events_at, to_log, to_silences}
 use Rattle.am_instance.specs.Deliveries.Delivery.{OfEntry, OfSilence}
 use Rattle.am_instance.specs.InstanceStates.{AreSilencesLeftBy, InstanceState, IsLogLeftBy, kept_log, kept_silences}
 use Rattle.am_instance.specs.OneStep.{IsStep}
 use Rattle.am_instance.specs.Replies.{IsNothing, listed}
 use Rattle.am_instance.specs.Steps.{made_here}
-use Rattle.am_refusals.specs.declared.error.StepError.{StepError}
-use Rattle.am_refusals.specs.declared.error.StepError.TheVariants.{Frame, Memory, MomentBack, UnknownPeer}
+use Rattle.am_gossip.specs.declared.refusals.StepError.{StepError}
+use Rattle.am_gossip.specs.declared.refusals.StepError.TheVariants.{Frame, Memory, MomentBack, UnknownPeer}
 use Rattle.am_instance.specs.declared.event.Event.TheVariants as events
 use Rattle.am_instance.specs.declared.reply.Made.{Made}
 use Rattle.am_instance.specs.declared.reply.Outcome.{Outcome}
 use Rattle.am_matcher.specs.declared.labels.Label.{Label}
-use Rattle.am_api_silences.specs.declared.replies.ReplyBytes.{ReplyBytes}
+use Rattle.am_api_silences.specs.declared.replies.ResponseBytes.{ResponseBytes}
 use Rattle.am_api_decisions.specs.Asking.{AreAsked, AskedAlert, Counted, HoldsSame, IsStopped, StopsAt}
 use Rattle.am_api_decisions.specs.Settling.{IsSettled, IsSettledBy, decide_event, has_none}
 use Rattle.am_api_decisions.specs.declared.group.Group.{Group}
@@ -86,7 +86,7 @@ stop_same now labels old new line (inl none) = same_is old new none.1
 stop_same now labels old new line (inr made) = mutes_same now labels old new made.0 made.1
 
 -- to answer a group
-pub settled_same : (judgement : Judgement) (timing : Timing) (group : Group) (counted : Counted) (old new : InstanceState) (reply : ReplyBytes) → IsSettled judgement timing group counted old reply new
+pub settled_same : (judgement : Judgement) (timing : Timing) (group : Group) (counted : Counted) (old new : InstanceState) (reply : ResponseBytes) → IsSettled judgement timing group counted old reply new
     → HoldsSame old new
 settled_same judgement timing group counted old new reply = settled_by (has_none counted) where
   settled_by : (none : Bool) → IsSettledBy none judgement timing group counted old reply new → HoldsSame old new

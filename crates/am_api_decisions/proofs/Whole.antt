@@ -1,10 +1,10 @@
 -- A decision that goes on, and is made over all alerts of its group.
 use Rattle.std.proofs.Common.{◌≡◌, ℕ, ◌≤◌, ◌⊎◌, inl, inr, List, [], ◌∷◌, ◌++◌, length, ap, subst, ◌∙◌, arith}
-use Rattle.am_decision_json.specs.declared.message.Alert.{Alert}
+use Rattle.am_api_decisions.specs.declared.message.Alert.{Alert}
 use Rattle.am_http.specs.Lines.{RefusalLine}
 use Rattle.am_instance.specs.InstanceStates.{InstanceState}
 use Rattle.am_api_silences.specs.Replies.{Says, line_bytes}
-use Rattle.am_api_silences.specs.declared.replies.ReplyBytes.{ReplyBytes}
+use Rattle.am_api_silences.specs.declared.replies.ResponseBytes.{ResponseBytes}
 use Rattle.am_api_decisions.specs.Asking.{AskedAlert, Counted, IsAskedOn, IsStopped, StopsAt}
 use Rattle.am_api_decisions.specs.Deciding.{GoesOn, Underway}
 use Rattle.am_api_decisions.specs.Settling.{IsDecided, IsSettled}
@@ -14,7 +14,7 @@ use Rattle.am_api_decisions.specs.declared.timing.Timing.{Timing}
 use Rattle.am_api_decisions.proofs.AskedMore.{alerts_of, all_asked}
 
 -- as many were asked as were left, and then the group was answered
-pub decided_over : (timing : Timing) (count : ℕ) (before after : Underway) (old mid new : InstanceState) (reply : ReplyBytes) → count ≡ length before.left
+pub decided_over : (timing : Timing) (count : ℕ) (before after : Underway) (old mid new : InstanceState) (reply : ResponseBytes) → count ≡ length before.left
     → GoesOn timing.now count before old after mid → IsSettled Whole timing after.group after.counted mid reply new → IsDecided timing before old reply new
 decided_over timing count before after old mid new reply whole on settled =
     let none : after.left ≡ [] = elim on.all [ inl many ↦ all_asked on.asked before.left after.left on.on.parts (many ∙ whole) | inr none ↦ none ] in
@@ -27,7 +27,7 @@ decided_over timing count before after old mid new reply whole on settled =
     })
 
 -- asking stopped, and why was told
-pub cut_off : (timing : Timing) (before : Underway) (old new : InstanceState) (line : RefusalLine) (reply : ReplyBytes) → IsStopped timing.now before.left old line new
+pub cut_off : (timing : Timing) (before : Underway) (old new : InstanceState) (line : RefusalLine) (reply : ResponseBytes) → IsStopped timing.now before.left old line new
     → Says (λ bytes. bytes ≡ line_bytes line) reply → IsDecided timing before old reply new
 cut_off timing before old new line reply stopped says = inr (record { line = line; stopped = stopped; says = says })
 

@@ -7,10 +7,10 @@ use Rattle.am_matcher.specs.declared.labels.Label.{Label}
 use Rattle.am_api_decisions.specs.declared.asked.Asked.{Asked}
 use Rattle.am_api_decisions.specs.declared.asked.Asked.TheVariants as asked
 use Rattle.am_api_decisions.specs.declared.asked.Question.{Question}
-use Rattle.am_api_decisions.specs.declared.cause.Cause.{Cause}
-use Rattle.am_api_decisions.specs.declared.cause.Cause.TheVariants.{BadQuery, Memory}
-use Rattle.am_api_decisions.specs.declared.routes.Call.{Call}
-use Rattle.am_api_decisions.specs.declared.routes.Call.TheVariants as calls
+use Rattle.am_api_decisions.specs.declared.cause.DecisionCause.{DecisionCause}
+use Rattle.am_api_decisions.specs.declared.cause.DecisionCause.TheVariants.{BadQuery, Memory}
+use Rattle.am_api_decisions.specs.declared.routes.DecisionCall.{DecisionCall}
+use Rattle.am_api_decisions.specs.declared.routes.DecisionCall.TheVariants as calls
 use Rattle.am_api_decisions.specs.Bodies.{IsMessageFault, IsMessageIn, IsNoticeFault, IsNoticeIn}
 use Rattle.am_api_decisions.specs.Calls.{IsCallOf}
 use Rattle.am_api_decisions.specs.Lines.{line_of}
@@ -26,13 +26,13 @@ pub record IsQuestion (query body : List ℕ) (question : Question) : Type 0 whe
   pub message : IsMessageIn body question.message
 
 -- A word of the query is at fault; or none is, and the body is.
-abbrev pub IsQuestionFault : List ℕ → List ℕ → Cause → Type 0
+abbrev pub IsQuestionFault : List ℕ → List ℕ → DecisionCause → Type 0
 IsQuestionFault query body (BadQuery word) = IsFirstBad query word
 IsQuestionFault query body Memory = ⊤
 IsQuestionFault query body cause = HasTerms query × IsMessageFault body cause
 
 -- A call with this body asks this.
-abbrev pub Asks : Call → List ℕ → Asked → Type 0
+abbrev pub Asks : DecisionCall → List ℕ → Asked → Type 0
 Asks (calls.Decide query) body (asked.Decide question) = IsQuestion query.now body question
 Asks calls.Notified body (asked.Notified notice) = IsNoticeIn body notice
 Asks calls.Log body asked.Log = ⊤
@@ -40,27 +40,27 @@ Asks calls.Alerts body asked.Alerts = ⊤
 Asks _ body _ = ⊥
 
 -- The call has this fault; a call for the log or for the alerts has none.
-abbrev pub HasFault : Call → List ℕ → Cause → Type 0
+abbrev pub HasFault : DecisionCall → List ℕ → DecisionCause → Type 0
 HasFault (calls.Decide query) body cause = IsQuestionFault query.now body cause
 HasFault calls.Notified body cause = IsNoticeFault body cause
 HasFault calls.Log body cause = ⊥
 HasFault calls.Alerts body cause = ⊥
 
 -- The request makes this call, or none for this cause.
-abbrev pub IsCall : Request → Result Call Cause → Type 0
+abbrev pub IsCall : Request → Result DecisionCall DecisionCause → Type 0
 IsCall request call = IsCallOf (string_bytes request.method) (string_bytes request.target) call
 
 -- The request asks this, by its call.
 abbrev pub IsAskedBy : Request → Asked → Type 0
-IsAskedBy request what = (call : Call) × IsCall request (Ok call) × Asks call request.body.items what
+IsAskedBy request what = (call : DecisionCall) × IsCall request (Ok call) × Asks call request.body.items what
 
 -- The request is refused for this cause: its path names nothing, or has no such method; or its call has a fault.
-abbrev pub IsRefusedFor : Request → Cause → Type 0
+abbrev pub IsRefusedFor : Request → DecisionCause → Type 0
 IsRefusedFor request cause = IsCall request (Err cause)
-    ⊎ ((call : Call) × IsCall request (Ok call) × HasFault call request.body.items cause)
+    ⊎ ((call : DecisionCall) × IsCall request (Ok call) × HasFault call request.body.items cause)
 
 -- The request asks this, by its call; or it is refused with the line of its first fault, as its method is told it.
 abbrev pub IsAsked : Request → Result Asked Refusal → Type 0
 IsAsked request (Ok what) = IsAskedBy request what
 IsAsked request (Err refusal) =
-    (cause : Cause) × (line_seen refusal ≡ told_to (string_bytes request.method) (line_of cause)) × IsRefusedFor request cause
+    (cause : DecisionCause) × (line_seen refusal ≡ told_to (string_bytes request.method) (line_of cause)) × IsRefusedFor request cause

@@ -1,12 +1,12 @@
 -- Alerts that are asked for the silences that mute them, each by one step, and their tally.
 use Rattle.std.specs.Prelude.{◌≡◌, ◌⊎◌, ◌&&◌, ◌==◌, ◌-◌, take, ℕ, Bool, not, List, [], ◌∷◌, ◌++◌, length, map, filter, Result, Ok, Err}
-use Rattle.am_alert_hash.specs.Alerts.{alert_hash}
-use Rattle.am_decision_json.specs.declared.answer.Muted.{Muted}
-use Rattle.am_decision_json.specs.declared.message.Alert.{Alert}
+use Rattle.am_api_decisions.specs.Alerts.{alert_hash}
+use Rattle.am_api_decisions.specs.declared.answer.Muted.{Muted}
+use Rattle.am_api_decisions.specs.declared.message.Alert.{Alert}
 use Rattle.am_http.specs.Lines.{RefusalLine}
 use Rattle.am_instance.specs.InstanceStates.{InstanceState, entry_at, silence_at}
 use Rattle.am_instance.specs.OneStep.{IsStep}
-use Rattle.am_refusals.specs.declared.error.StepError.{StepError}
+use Rattle.am_gossip.specs.declared.refusals.StepError.{StepError}
 use Rattle.am_instance.specs.declared.event.Event.TheVariants as events
 use Rattle.am_instance.specs.declared.reply.Outcome.{Outcome}
 use Rattle.am_instance.specs.declared.reply.Reply.{Reply}

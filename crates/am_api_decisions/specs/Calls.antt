@@ -2,11 +2,11 @@
 use Rattle.std.specs.Prelude.{◌≡◌, ◌≢◌, ℕ, Bool, List, codes, nat_eq, Result, Ok, Err}
 use Rattle.std.specs.List.{starts_with}
 use Rattle.am_http.specs.Paths.{path_of, query_of}
-use Rattle.am_api_decisions.specs.declared.cause.Cause.{Cause}
-use Rattle.am_api_decisions.specs.declared.cause.Cause.TheVariants.{NoSuchPath, MethodNotAllowed}
-use Rattle.am_api_decisions.specs.declared.cause.Resource.TheVariants.{Decisions, Notices, Entries, Alerts}
-use Rattle.am_api_decisions.specs.declared.routes.Call.{Call}
-use Rattle.am_api_decisions.specs.declared.routes.Call.TheVariants as calls
+use Rattle.am_api_decisions.specs.declared.cause.DecisionCause.{DecisionCause}
+use Rattle.am_api_decisions.specs.declared.cause.DecisionCause.TheVariants.{NoSuchPath, MethodNotAllowed}
+use Rattle.am_api_decisions.specs.declared.cause.DecisionResource.TheVariants.{Decisions, Notices, Entries, Alerts}
+use Rattle.am_api_decisions.specs.declared.routes.DecisionCall.{DecisionCall}
+use Rattle.am_api_decisions.specs.declared.routes.DecisionCall.TheVariants as calls
 
 -- The target lies below /v1/, where all these calls are.
 abbrev pub is_below : List ℕ → Bool
@@ -33,7 +33,7 @@ pub record IsNoPath (path : List ℕ) : Type 0 where
   pub no_alerts : path ≢ alerts_path
 
 -- A request with this method and target makes the call; or its path names nothing, or has no such method.
-abbrev pub IsCallOf : List ℕ → List ℕ → Result Call Cause → Type 0
+abbrev pub IsCallOf : List ℕ → List ℕ → Result DecisionCall DecisionCause → Type 0
 IsCallOf method target (Ok (calls.Decide query)) = (path_of target ≡ decide_path) × (method ≡ codes "POST") × (query.now ≡ query_of target)
 IsCallOf method target (Ok calls.Notified) = (path_of target ≡ notified_path) × (method ≡ codes "POST")
 IsCallOf method target (Ok calls.Log) = (path_of target ≡ log_path) × (method ≡ codes "GET")

@@ -1,6 +1,6 @@
 -- A decision that is being made: the alerts that are still to be asked, and the tally of the others.
 use Rattle.std.specs.Prelude.{◌≡◌, ◌⊎◌, ℕ, ◌≤◌, List, [], length, Result, Ok, Err}
-use Rattle.am_decision_json.specs.declared.message.Alert.{Alert}
+use Rattle.am_api_decisions.specs.declared.message.Alert.{Alert}
 use Rattle.am_http.specs.Lines.{line_seen}
 use Rattle.am_http.specs.declared.refusal.Refusal.{Refusal}
 use Rattle.am_instance.specs.InstanceStates.{InstanceState}

@@ -1,3 +1,12 @@
+pub mod Keys
+pub mod Found
+pub mod Steps
+pub mod Hashes
+pub mod Orders
+pub mod Messages
+pub mod Notices
+pub mod Answers
+pub mod Sound
 pub mod Calls
 pub mod Words
 pub mod Terms
@@ -10,3 +19,5 @@ pub mod Settling
 pub mod Noticing
 pub mod Entries
 pub mod Recent
+pub mod Xxh64
+pub mod Alerts

@@ -1,20 +1,20 @@
 -- The table of statuses of the calls on decisions: the line for each cause of a refusal.
 use Rattle.std.specs.Prelude.{ℕ, List, ◌++◌, false, Some, codes}
-use Rattle.am_decision_json.specs.declared.key.MessageKey.{MessageKey}
-use Rattle.am_decision_json.specs.Keys.{key_text}
+use Rattle.am_api_decisions.specs.declared.key.MessageKey.{MessageKey}
+use Rattle.am_api_decisions.specs.Keys.{key_text}
 use Rattle.am_http.specs.Lines.{RefusalLine, line}
 use Rattle.am_api_silences.specs.Table.{clock_line, memory_line}
-use Rattle.am_refusals.specs.declared.error.StepError.{StepError}
-use Rattle.am_refusals.specs.declared.error.StepError.TheVariants.{MomentBack, Frame}
-use Rattle.am_api_decisions.specs.declared.cause.Cause.{Cause}
-use Rattle.am_api_decisions.specs.declared.cause.Cause.TheVariants.{NoSuchPath, MethodNotAllowed, BadQuery, BadJson, BadMessage, Truncated, Memory}
-use Rattle.am_api_decisions.specs.declared.cause.Resource.{Resource}
-use Rattle.am_api_decisions.specs.declared.cause.Resource.TheVariants.{Decisions, Notices, Entries, Alerts}
+use Rattle.am_gossip.specs.declared.refusals.StepError.{StepError}
+use Rattle.am_gossip.specs.declared.refusals.StepError.TheVariants.{MomentBack, Frame}
+use Rattle.am_api_decisions.specs.declared.cause.DecisionCause.{DecisionCause}
+use Rattle.am_api_decisions.specs.declared.cause.DecisionCause.TheVariants.{NoSuchPath, MethodNotAllowed, BadQuery, BadJson, BadMessage, Truncated, Memory}
+use Rattle.am_api_decisions.specs.declared.cause.DecisionResource.{DecisionResource}
+use Rattle.am_api_decisions.specs.declared.cause.DecisionResource.TheVariants.{Decisions, Notices, Entries, Alerts}
 use Rattle.am_api_decisions.specs.declared.cause.Word.{Word}
 use Rattle.am_api_decisions.specs.declared.cause.Word.TheVariants.{Repeat, Resolved, Wait, Index}
 
 -- the method of a resource
-abbrev pub allowed_at : Resource → List ℕ
+abbrev pub allowed_at : DecisionResource → List ℕ
 allowed_at Decisions = codes "POST"
 allowed_at Notices = codes "POST"
 allowed_at Entries = codes "GET"
@@ -32,7 +32,7 @@ abbrev pub bad_key : MessageKey → List ℕ
 bad_key key = codes "bad message: " ++ key_text key
 
 -- the table, in the order in which its lines are tested (status codes of RFC 9110, section 15)
-abbrev pub line_of : Cause → RefusalLine
+abbrev pub line_of : DecisionCause → RefusalLine
 line_of NoSuchPath = line 404 (codes "no such path")
 line_of (MethodNotAllowed resource) =
     record { status = 405; text = codes "method not allowed"; allow = Some (allowed_at resource); bare = false }

@@ -1,11 +1,11 @@
 -- The answer to a notice: one step, and its reply.
 use Rattle.std.specs.Prelude.{◌≡◌, ◌⊎◌, ℕ, ◌+◌, nat_le, Bool, true, false, List, Option, None, Some, Result, Ok, Err}
-use Rattle.am_decision_json.specs.Answers.{logged_data}
-use Rattle.am_decision_json.specs.declared.notice.Notice.{Notice}
+use Rattle.am_api_decisions.specs.Answers.{logged_data}
+use Rattle.am_api_decisions.specs.declared.notice.Notice.{Notice}
 use Rattle.am_instance.specs.InstanceStates.{InstanceState, entry_at}
 use Rattle.am_instance.specs.OneStep.{IsStep}
 use Rattle.am_instance.specs.Sendings.{nothing_sent, sent_by}
-use Rattle.am_refusals.specs.declared.error.StepError.{StepError}
+use Rattle.am_gossip.specs.declared.refusals.StepError.{StepError}
 use Rattle.am_instance.specs.declared.event.Event.{Event}
 use Rattle.am_instance.specs.declared.event.Event.TheVariants as events
 use Rattle.am_instance.specs.declared.reply.Outcome.{Outcome}
@@ -15,7 +15,7 @@ use Rattle.am_nflog.specs.LogKeys.{LogKey}
 use Rattle.am_nflog.specs.Mesh.{Mesh as LogMesh}
 use Rattle.serde_json.specs.Written.{compact_text}
 use Rattle.am_api_silences.specs.Answers.{Answered}
-use Rattle.am_api_silences.specs.PendingReply.{IsNoMemory}
+use Rattle.am_api_silences.specs.ReplyBuilder.{IsNoMemory}
 use Rattle.am_api_silences.specs.Replies.{Says, good_bytes, line_bytes}
 use Rattle.am_api_decisions.specs.Lines.{error_line}
 

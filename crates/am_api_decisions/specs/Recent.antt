@@ -3,9 +3,9 @@ use Rattle.std.specs.Prelude.{ℕ, ◌+◌, ◌&&◌, nat_le, not, Bool, List, �
 use Rattle.std.specs.List.{sum_by}
 use Rattle.std.specs.Str.{bytes_eq}
 use Rattle.serde_json.specs.Data.{Data}
-use Rattle.am_decision_json.specs.Answers.{labels_data}
-use Rattle.am_decision_json.specs.declared.message.Alert.{Alert}
-use Rattle.am_decision_json.specs.declared.message.Message.{Message}
+use Rattle.am_api_decisions.specs.Answers.{labels_data}
+use Rattle.am_api_decisions.specs.declared.message.Alert.{Alert}
+use Rattle.am_api_decisions.specs.declared.message.Message.{Message}
 use Rattle.am_matcher.specs.declared.labels.Label.{Label}
 use Rattle.am_report.specs.Json.Views.{list_line}
 use Rattle.am_api_silences.specs.Replies.{good_bytes}

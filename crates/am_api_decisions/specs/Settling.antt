@@ -2,14 +2,14 @@
 use Rattle.std.specs.Prelude.{◌≡◌, ◌⊎◌, ◌&&◌, ◌==◌, ◌*◌, ℕ, Bool, true, false, List, [], length, map, Result, Ok, Err}
 use Rattle.am_dedup.specs.declared.decision.Decision.{Decision}
 use Rattle.am_dedup.specs.declared.decision.Decision.TheVariants.{Skip, Notify}
-use Rattle.am_decision_json.specs.Answers.{answer_data}
-use Rattle.am_decision_json.specs.declared.answer.Answer.{Answer}
-use Rattle.am_decision_json.specs.declared.answer.Why.{Why}
-use Rattle.am_decision_json.specs.declared.answer.Why.TheVariants as whys
+use Rattle.am_api_decisions.specs.Answers.{answer_data}
+use Rattle.am_api_decisions.specs.declared.answer.DecisionReply.{DecisionReply}
+use Rattle.am_api_decisions.specs.declared.answer.Why.{Why}
+use Rattle.am_api_decisions.specs.declared.answer.Why.TheVariants as whys
 use Rattle.am_http.specs.Lines.{RefusalLine}
 use Rattle.am_instance.specs.InstanceStates.{InstanceState}
 use Rattle.am_instance.specs.OneStep.{IsStep}
-use Rattle.am_refusals.specs.declared.error.StepError.{StepError}
+use Rattle.am_gossip.specs.declared.refusals.StepError.{StepError}
 use Rattle.am_instance.specs.declared.event.Event.{Event}
 use Rattle.am_instance.specs.declared.event.Event.TheVariants as events
 use Rattle.am_instance.specs.declared.reply.Outcome.{Outcome}
@@ -18,9 +18,9 @@ use Rattle.am_instance.specs.declared.reply.Reply.TheVariants as replies
 use Rattle.am_nflog.specs.declared.receiver.Receiver.{Receiver}
 use Rattle.serde_json.specs.Written.{compact_text}
 use Rattle.am_silence_json.specs.Written.{WritesMoment}
-use Rattle.am_api_silences.specs.PendingReply.{IsNoMemory}
+use Rattle.am_api_silences.specs.ReplyBuilder.{IsNoMemory}
 use Rattle.am_api_silences.specs.Replies.{Says, good_bytes, line_bytes}
-use Rattle.am_api_silences.specs.declared.replies.ReplyBytes.{ReplyBytes}
+use Rattle.am_api_silences.specs.declared.replies.ResponseBytes.{ResponseBytes}
 use Rattle.am_api_decisions.specs.Asking.{AskedAlert, Counted, IsAskedOn, IsStopped, counted_with, silenced_in, unasked}
 use Rattle.am_api_decisions.specs.Deciding.{Underway}
 use Rattle.am_api_decisions.specs.Lines.{error_line}
@@ -57,7 +57,7 @@ is_notified whys.Skip = false
 is_notified whys.Muted = false
 
 -- The answer says what is decided of a group, and why.
-pub record IsAnswerOf (timing : Timing) (group : Group) (counted : Counted) (why : Why) (answer : Answer) : Type 0 where
+pub record IsAnswerOf (timing : Timing) (group : Group) (counted : Counted) (why : Why) (answer : DecisionReply) : Type 0 where
   pub decided_at : WritesMoment timing.now answer.decided_at
   pub turn_seconds : answer.turn_seconds ≡ timing.turn_seconds
   pub firing : answer.firing ≡ counted.firing
@@ -74,7 +74,7 @@ pub record IsAnswerOf (timing : Timing) (group : Group) (counted : Counted) (why
 -- The bytes are the reply 200 with that answer in JSON.
 abbrev pub IsAnswerBytes : Timing → Group → Counted → Why → List ℕ → Type 0
 IsAnswerBytes timing group counted why bytes =
-    (answer : Answer) × IsAnswerOf timing group counted why answer × (bytes ≡ good_bytes (compact_text (answer_data answer)))
+    (answer : DecisionReply) × IsAnswerOf timing group counted why answer × (bytes ≡ good_bytes (compact_text (answer_data answer)))
 
 -- The bytes say what a step decided.
 abbrev pub IsDecisionBytes : Judgement → Timing → Group → Counted → Reply → List ℕ → Type 0
@@ -82,33 +82,33 @@ IsDecisionBytes judgement timing group counted (replies.Decided decision) bytes 
 IsDecisionBytes judgement timing group counted _ bytes = ⊥
 
 -- The reply says what the step decided, or why it was refused.
-abbrev pub TellsDecision : Judgement → Timing → Group → Counted → Result Outcome StepError → ReplyBytes → Type 0
+abbrev pub TellsDecision : Judgement → Timing → Group → Counted → Result Outcome StepError → ResponseBytes → Type 0
 TellsDecision judgement timing group counted (Ok outcome) reply = Says (IsDecisionBytes judgement timing group counted outcome.reply) reply
 TellsDecision judgement timing group counted (Err error) reply = Says (λ bytes. bytes ≡ line_bytes (error_line error)) reply
 
 -- No step is made, and the reply says that all alerts are muted.
-pub record IsMutedWhole (timing : Timing) (group : Group) (counted : Counted) (old : InstanceState) (reply : ReplyBytes) (new : InstanceState) : Type 0 where
+pub record IsMutedWhole (timing : Timing) (group : Group) (counted : Counted) (old : InstanceState) (reply : ResponseBytes) (new : InstanceState) : Type 0 where
   pub says : Says (IsAnswerBytes timing group counted whys.Muted) reply
   pub same : new ≡ old
 
 -- One step decides over the alerts that no silence mutes, and the reply says what it decided; or there was no memory for its
 -- event.
-abbrev pub IsDecidedByStep : Judgement → Timing → Group → Counted → InstanceState → ReplyBytes → InstanceState → Type 0
+abbrev pub IsDecidedByStep : Judgement → Timing → Group → Counted → InstanceState → ResponseBytes → InstanceState → Type 0
 IsDecidedByStep judgement timing group counted old reply new = (IsNoMemory reply × (new ≡ old))
     ⊎ ((step : Result Outcome StepError) × IsStep old (decide_event group counted) timing.now step new
     × TellsDecision judgement timing group counted step reply)
 
 -- A group is answered, by whether all its alerts are muted.
-abbrev pub IsSettledBy : Bool → Judgement → Timing → Group → Counted → InstanceState → ReplyBytes → InstanceState → Type 0
+abbrev pub IsSettledBy : Bool → Judgement → Timing → Group → Counted → InstanceState → ResponseBytes → InstanceState → Type 0
 IsSettledBy true judgement timing group counted old reply new = IsMutedWhole timing group counted old reply new
 IsSettledBy false judgement timing group counted old reply new = IsDecidedByStep judgement timing group counted old reply new
 
 -- A group with this tally is answered: if every alert is muted, no step is made; else one step decides.
-abbrev pub IsSettled : Judgement → Timing → Group → Counted → InstanceState → ReplyBytes → InstanceState → Type 0
+abbrev pub IsSettled : Judgement → Timing → Group → Counted → InstanceState → ResponseBytes → InstanceState → Type 0
 IsSettled judgement timing group counted old reply new = IsSettledBy (has_none counted) judgement timing group counted old reply new
 
 -- All alerts that were left were asked, and then the group is answered.
-pub record IsDecidedOverAll (timing : Timing) (before : Underway) (old : InstanceState) (reply : ReplyBytes) (new : InstanceState) : Type 0 where
+pub record IsDecidedOverAll (timing : Timing) (before : Underway) (old : InstanceState) (reply : ResponseBytes) (new : InstanceState) : Type 0 where
   pub asked : List AskedAlert
   pub counted : Counted
   pub mid : InstanceState
@@ -116,17 +116,17 @@ pub record IsDecidedOverAll (timing : Timing) (before : Underway) (old : Instanc
   pub settled : IsSettled Whole timing before.group counted mid reply new
 
 -- Asking stopped at one of the alerts that were left, and the reply says why.
-pub record IsCutOff (now : ℕ) (before : Underway) (old : InstanceState) (reply : ReplyBytes) (new : InstanceState) : Type 0 where
+pub record IsCutOff (now : ℕ) (before : Underway) (old : InstanceState) (reply : ResponseBytes) (new : InstanceState) : Type 0 where
   pub line : RefusalLine
   pub stopped : IsStopped now before.left old line new
   pub says : Says (λ bytes. bytes ≡ line_bytes line) reply
 
 -- A decision that is broken off is answered: the alerts that are left count as if no silence muted them; or there was no memory
 -- to count them.
-abbrev pub IsBrokenOff : Timing → Underway → InstanceState → ReplyBytes → InstanceState → Type 0
+abbrev pub IsBrokenOff : Timing → Underway → InstanceState → ResponseBytes → InstanceState → Type 0
 IsBrokenOff timing before old reply new = (IsNoMemory reply × (new ≡ old))
     ⊎ IsSettled Partial timing before.group (counted_with before.counted (map unasked before.left)) old reply new
 
 -- A decision is answered: that over all alerts, or why not all were asked.
-abbrev pub IsDecided : Timing → Underway → InstanceState → ReplyBytes → InstanceState → Type 0
+abbrev pub IsDecided : Timing → Underway → InstanceState → ResponseBytes → InstanceState → Type 0
 IsDecided timing before old reply new = IsDecidedOverAll timing before old reply new ⊎ IsCutOff timing.now before old reply new

@@ -1,8 +1,8 @@
 -- The terms on which a decision is asked for, by the words of the query.
 use Rattle.std.specs.Prelude.{◌≡◌, ◌≢◌, ℕ, Bool, List, codes, Option, Some, None, ⊤}
 use Rattle.am_api_decisions.specs.Words.{word_in, number_or, truth_or, text_or}
-use Rattle.am_api_decisions.specs.declared.cause.Cause.{Cause}
-use Rattle.am_api_decisions.specs.declared.cause.Cause.TheVariants.{BadQuery, Memory}
+use Rattle.am_api_decisions.specs.declared.cause.DecisionCause.{DecisionCause}
+use Rattle.am_api_decisions.specs.declared.cause.DecisionCause.TheVariants.{BadQuery, Memory}
 use Rattle.am_api_decisions.specs.declared.cause.Word.{Word}
 use Rattle.am_api_decisions.specs.declared.cause.Word.TheVariants.{Repeat, Resolved, Wait, Index}
 use Rattle.am_api_decisions.specs.declared.terms.Terms.{Terms}
@@ -48,13 +48,13 @@ IsFirstBad query Wait = (repeat_in query ≢ None) × (resolved_in query ≢ Non
 IsFirstBad query Index = (repeat_in query ≢ None) × (resolved_in query ≢ None) × (wait_in query ≢ None) × (index_in query ≡ None)
 
 -- A word is refused for this cause: its value isn't valid, or memory ran out.
-abbrev pub IsWordFault : Type 0 → Word → Cause → Type 0
+abbrev pub IsWordFault : Type 0 → Word → DecisionCause → Type 0
 IsWordFault IsBad word (BadQuery named) = (named ≡ word) × IsBad
 IsWordFault IsBad word Memory = ⊤
 IsWordFault IsBad word _ = ⊥
 
 -- A query is refused for this cause: its first word that is at fault, or that memory ran out.
-abbrev pub IsTermsFault : List ℕ → Cause → Type 0
+abbrev pub IsTermsFault : List ℕ → DecisionCause → Type 0
 IsTermsFault query (BadQuery word) = IsFirstBad query word
 IsTermsFault query Memory = ⊤
 IsTermsFault query _ = ⊥

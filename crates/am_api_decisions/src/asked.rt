@@ -3,11 +3,12 @@
 ghost use Rattle.std.specs.Prelude.{◌≡◌, ◌≤◌, All, IfOk, IfErr};
 ghost use Rattle.am_api_decisions.specs.Asked.{AreWithin, Asks, HasFault, IsAsked, IsAskedBy, IsQuestion, IsQuestionFault, IsRefusedFor};
 
-use crate::cause::Cause;
+use crate::cause::DecisionCause;
+use crate::message::Message;
 use crate::messages::{message_in, notice_in};
-use crate::routes::{Call, call_of};
+use crate::notice::Notice;
+use crate::routes::{DecisionCall, call_of};
 use crate::terms::{Terms, terms_in};
-use am_decision_json::{Message, Notice};
 use am_http::{Refusal, Request};
 use am_matcher::Label;
 use std::alloc::Global;
@@ -66,7 +67,7 @@ fn longest_of(longest: usize, labels: &[Label]) -> usize
 }
 
 /// Reads the question in a query and a body.
-fn question_in(alloc: Global, query: &str, body: &[u8]) -> Result<Question, Cause>
+fn question_in(alloc: Global, query: &str, body: &[u8]) -> Result<Question, DecisionCause>
     ensures read { IfOk result (IsQuestion query.now body.now) }
     ensures refused { IfErr result (IsQuestionFault query.now body.now) }
 {
@@ -78,20 +79,20 @@ fn question_in(alloc: Global, query: &str, body: &[u8]) -> Result<Question, Caus
 }
 
 /// Reads what a call with this body asks.
-fn asked_by(alloc: Global, call: Call<'_>, body: &[u8]) -> Result<Asked, Cause>
+fn asked_by(alloc: Global, call: DecisionCall<'_>, body: &[u8]) -> Result<Asked, DecisionCause>
     ensures asked { IfOk result (Asks call.entry body.now) }
     ensures refused { IfErr result (HasFault call.entry body.now) }
 {
     match call {
-        Call::Decide { query } => Ok(Asked::Decide(question_in(alloc, query, body)?)),
-        Call::Notified => Ok(Asked::Notified(notice_in(alloc, body)?)),
-        Call::Log => Ok(Asked::Log),
-        Call::Alerts => Ok(Asked::Alerts),
+        DecisionCall::Decide { query } => Ok(Asked::Decide(question_in(alloc, query, body)?)),
+        DecisionCall::Notified => Ok(Asked::Notified(notice_in(alloc, body)?)),
+        DecisionCall::Log => Ok(Asked::Log),
+        DecisionCall::Alerts => Ok(Asked::Alerts),
     }
 }
 
 /// Reads what a request asks, or finds its fault.
-fn asked_in(alloc: Global, request: &Request) -> Result<Asked, Cause>
+fn asked_in(alloc: Global, request: &Request) -> Result<Asked, DecisionCause>
     ensures asked { IfOk result (IsAskedBy request.now) }
     ensures refused { IfErr result (IsRefusedFor request.now) }
 {

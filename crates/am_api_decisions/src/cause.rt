@@ -4,12 +4,12 @@ ghost use Rattle.std.specs.Prelude.{◌≡◌};
 ghost use Rattle.am_http.specs.Lines.{line_seen, told_to};
 ghost use Rattle.am_api_decisions.specs.Lines.{allowed_at, bad_key, bad_word, line_of};
 
-use am_decision_json::MessageKey;
+use crate::key::MessageKey;
 use am_http::Refusal;
 
 /// The resource that a path under `/v1/` names.
 #[derive(Clone, Copy)]
-pub enum Resource {
+pub enum DecisionResource {
     /// `/v1/decide`
     Decisions,
     /// `/v1/notified`
@@ -31,11 +31,11 @@ pub enum Word {
 
 /// The fault of a request before a step is made, in the order in which faults are tested.
 #[derive(Clone, Copy)]
-pub enum Cause {
+pub enum DecisionCause {
     /// The path names nothing.
     NoSuchPath,
     /// The resource has no such method.
-    MethodNotAllowed(Resource),
+    MethodNotAllowed(DecisionResource),
     /// The value of this word of the query isn't valid.
     BadQuery(Word),
     /// The body is no JSON object.
@@ -48,16 +48,16 @@ pub enum Cause {
     Memory,
 }
 
-impl Resource {
+impl DecisionResource {
     /// Returns the method of the resource, as a field `allow` names it.
     pub const fn allowed(self) -> &'static str
         ensures { result.now ≡ allowed_at self }
     {
         match self {
-            Resource::Decisions => "POST",
-            Resource::Notices => "POST",
-            Resource::Entries => "GET",
-            Resource::Alerts => "GET",
+            DecisionResource::Decisions => "POST",
+            DecisionResource::Notices => "POST",
+            DecisionResource::Entries => "GET",
+            DecisionResource::Alerts => "GET",
         }
     }
 }
@@ -94,24 +94,24 @@ const fn bad_key(key: MessageKey) -> &'static str
     }
 }
 
-impl Cause {
+impl DecisionCause {
     /// Returns the line of the table with which the request is refused.
     pub const fn refusal(self) -> Refusal
         ensures { line_seen result ≡ line_of self }
     {
         match self {
-            Cause::NoSuchPath => Refusal::new(404, "no such path"),
-            Cause::MethodNotAllowed(resource) => Refusal {
+            DecisionCause::NoSuchPath => Refusal::new(404, "no such path"),
+            DecisionCause::MethodNotAllowed(resource) => Refusal {
                 status: 405,
                 text: "method not allowed",
                 allow: Some(resource.allowed()),
                 is_bare: false,
             },
-            Cause::BadQuery(word) => Refusal::new(400, bad_word(word)),
-            Cause::BadJson => Refusal::new(400, "bad JSON"),
-            Cause::BadMessage(key) => Refusal::new(400, bad_key(key)),
-            Cause::Truncated => Refusal::new(400, "truncated alerts"),
-            Cause::Memory => Refusal::new(500, "out of memory"),
+            DecisionCause::BadQuery(word) => Refusal::new(400, bad_word(word)),
+            DecisionCause::BadJson => Refusal::new(400, "bad JSON"),
+            DecisionCause::BadMessage(key) => Refusal::new(400, bad_key(key)),
+            DecisionCause::Truncated => Refusal::new(400, "truncated alerts"),
+            DecisionCause::Memory => Refusal::new(500, "out of memory"),
         }
     }
 

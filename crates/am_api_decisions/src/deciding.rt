@@ -7,15 +7,15 @@ ghost use Rattle.am_api_decisions.specs.Deciding.{IsGoingOn, underway_of};
 ghost use Rattle.am_api_decisions.specs.Settling.{IsBrokenOff, IsDecided};
 
 use crate::alerts::ask;
+use crate::answer::Verdict;
 use crate::asked::Question;
 use crate::group::Group;
+use crate::message::Alert;
 use crate::replies::{short, tell};
 use crate::settling::{Judgement, settle};
 use crate::table;
 use crate::tally::Tally;
 use crate::timing::Timing;
-use am_api_silences::ReplyBytes;
-use am_decision_json::Alert;
 use am_http::Refusal;
 use am_instance::Instance;
 use am_version_order::Moment;
@@ -91,7 +91,7 @@ impl Deciding {
     ///
     /// The line that says why not all of them were asked: `clock ran back` if `now` is before the moment of the last event, or
     /// `out of memory`. The steps that were made until then stand; they change nothing but that moment.
-    pub fn go_on(
+    pub fn resume(
         self,
         alloc: Global,
         instance: &mut Instance,
@@ -134,16 +134,16 @@ impl Deciding {
         self.left.len() == 0
     }
 
-    /// Decides whether to notify, and returns the bytes of the reply. The alerts that are left are asked, as by
-    /// [`Deciding::go_on`], and then one step decides over those that no silence mutes, all at the moment of the timing. If every
+    /// Decides whether to notify, and returns the reply. The alerts that are left are asked, as by
+    /// [`Deciding::resume`], and then one step decides over those that no silence mutes, all at the moment of the timing. If every
     /// alert is muted, no step is made. The reply gives that moment, to the millisecond, and the length of the turns.
-    pub fn decide(self, alloc: Global, instance: &mut Instance, timing: Timing) -> ReplyBytes
+    pub fn decide(self, alloc: Global, instance: &mut Instance, timing: Timing) -> Verdict
         // PROMISE: The decision is over all alerts that no silence mutes, and its reply is the text of that answer.
-        ensures decided { IsDecided timing self instance.old result instance.new }
+        ensures decided { IsDecided timing self instance.old result.reply instance.new }
         ensures same { HoldsSame instance.old instance.new }
     {
         let count = self.left.len();
-        match self.go_on(alloc, instance, count, timing.now) {
+        match self.resume(alloc, instance, count, timing.now) {
             Ok(deciding) => {
                 let Deciding {
                     group,
@@ -153,16 +153,19 @@ impl Deciding {
                 } = deciding;
                 settle(alloc, instance, group, tally, Judgement::Whole, timing)
             }
-            Err(refusal) => tell(alloc, &refusal),
+            Err(refusal) => Verdict {
+                reply: tell(alloc, &refusal),
+                why: None,
+            },
         }
     }
 
-    /// Decides whether to notify without asking the alerts that are left, and returns the bytes of the reply: those alerts count
+    /// Decides whether to notify without asking the alerts that are left, and returns the reply: those alerts count
     /// as if no silence muted them. One step decides over these and those that no silence mutes; if the group is to be notified,
     /// the reply says that it isn't judged.
-    pub fn break_off(self, alloc: Global, instance: &mut Instance, timing: Timing) -> ReplyBytes
+    pub fn break_off(self, alloc: Global, instance: &mut Instance, timing: Timing) -> Verdict
         // PROMISE: A decision that is broken off leaves out no alert that wasn't asked, and says so.
-        ensures decided { IsBrokenOff timing self instance.old result instance.new }
+        ensures decided { IsBrokenOff timing self instance.old result.reply instance.new }
         ensures same { HoldsSame instance.old instance.new }
     {
         let Deciding {
@@ -173,7 +176,10 @@ impl Deciding {
         } = self;
         match tally.add_unasked(alloc, left) {
             Ok(()) => settle(alloc, instance, group, tally, Judgement::Partial, timing),
-            Err(_) => short(),
+            Err(_) => Verdict {
+                reply: short(),
+                why: None,
+            },
         }
     }
 }

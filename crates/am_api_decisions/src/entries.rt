@@ -15,7 +15,7 @@ ghost use Rattle.am_api_decisions.specs.Entries.{AreWritten, log_bytes};
 
 use crate::replies::{good, short};
 use crate::table;
-use am_api_silences::ReplyBytes;
+use am_api_silences::ResponseBytes;
 use am_http::Refusal;
 use am_instance::Instance;
 use am_merge::Held;
@@ -170,7 +170,7 @@ impl LogWriting {
     /// # Errors
     ///
     /// The line `out of memory`.
-    pub fn go_on(self, alloc: Global, count: usize) -> Result<LogWriting, Refusal>
+    pub fn resume(self, alloc: Global, count: usize) -> Result<LogWriting, Refusal>
         ensures written { IfOk result (λ w. w ≡ record self { left = self.left - count }) }
         ensures refused { IfErr result (λ refusal. line_seen refusal ≡ memory_line) }
     {
@@ -211,11 +211,11 @@ impl LogWriting {
     }
 
     /// Writes the entries that are left, and returns the whole reply, or the one saying that there is no memory for it.
-    pub fn finish(self, alloc: Global) -> ReplyBytes
+    pub fn finish(self, alloc: Global) -> ResponseBytes
         ensures { Says (λ bytes. bytes ≡ log_bytes self.rows) result }
     {
         match self.into_bytes(alloc) {
-            Ok(bytes) => ReplyBytes::Own(bytes),
+            Ok(bytes) => ResponseBytes::Own(bytes),
             Err(_) => short(),
         }
     }

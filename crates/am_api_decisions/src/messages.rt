@@ -3,25 +3,27 @@
 ghost use Rattle.std.specs.Prelude.{IfOk, IfErr};
 ghost use Rattle.am_api_decisions.specs.Bodies.{IsMessageFault, IsMessageIn, IsNoticeFault, IsNoticeIn};
 
-use crate::cause::Cause;
-use am_decision_json::{Message, MessageError, Notice, read_message, read_notice};
+use crate::cause::DecisionCause;
+use crate::error::MessageError;
+use crate::message::{Message, read_message};
+use crate::notice::{Notice, read_notice};
 use std::alloc::Global;
 
 /// Reads the message in a body.
 ///
 /// # Errors
 ///
-/// [`Cause::BadJson`], [`Cause::BadMessage`] of the first key that is at fault, [`Cause::Truncated`], or [`Cause::Memory`].
-pub fn message_in(alloc: Global, body: &[u8]) -> Result<Message, Cause>
+/// [`DecisionCause::BadJson`], [`DecisionCause::BadMessage`] of the first key that is at fault, [`DecisionCause::Truncated`], or [`DecisionCause::Memory`].
+pub fn message_in(alloc: Global, body: &[u8]) -> Result<Message, DecisionCause>
     ensures read { IfOk result (IsMessageIn body.now) }
     ensures refused { IfErr result (IsMessageFault body.now) }
 {
     match read_message(alloc, body) {
         Ok(message) => Ok(message),
-        Err(MessageError::BadJson) => Err(Cause::BadJson),
-        Err(MessageError::BadMessage(key)) => Err(Cause::BadMessage(key)),
-        Err(MessageError::Truncated) => Err(Cause::Truncated),
-        Err(MessageError::Memory) => Err(Cause::Memory),
+        Err(MessageError::BadJson) => Err(DecisionCause::BadJson),
+        Err(MessageError::BadMessage(key)) => Err(DecisionCause::BadMessage(key)),
+        Err(MessageError::Truncated) => Err(DecisionCause::Truncated),
+        Err(MessageError::Memory) => Err(DecisionCause::Memory),
     }
 }
 
@@ -29,16 +31,16 @@ pub fn message_in(alloc: Global, body: &[u8]) -> Result<Message, Cause>
 ///
 /// # Errors
 ///
-/// The same as those of [`message_in`], except for [`Cause::Truncated`].
-pub fn notice_in(alloc: Global, body: &[u8]) -> Result<Notice, Cause>
+/// The same as those of [`message_in`], except for [`DecisionCause::Truncated`].
+pub fn notice_in(alloc: Global, body: &[u8]) -> Result<Notice, DecisionCause>
     ensures read { IfOk result (IsNoticeIn body.now) }
     ensures refused { IfErr result (IsNoticeFault body.now) }
 {
     match read_notice(alloc, body) {
         Ok(notice) => Ok(notice),
-        Err(MessageError::BadJson) => Err(Cause::BadJson),
-        Err(MessageError::BadMessage(key)) => Err(Cause::BadMessage(key)),
-        Err(MessageError::Truncated) => Err(Cause::Truncated),
-        Err(MessageError::Memory) => Err(Cause::Memory),
+        Err(MessageError::BadJson) => Err(DecisionCause::BadJson),
+        Err(MessageError::BadMessage(key)) => Err(DecisionCause::BadMessage(key)),
+        Err(MessageError::Truncated) => Err(DecisionCause::Truncated),
+        Err(MessageError::Memory) => Err(DecisionCause::Memory),
     }
 }

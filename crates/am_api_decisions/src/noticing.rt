@@ -2,16 +2,17 @@
 
 ghost use Rattle.std.specs.Prelude.{◌≡◌, ◌+◌, nat_le, IfOk, Ok, Err, Some, option_copied};
 ghost use Rattle.serde_json.specs.Written.{compact_text};
-ghost use Rattle.am_decision_json.specs.Answers.{logged_data};
+ghost use Rattle.am_api_decisions.specs.Answers.{logged_data};
 ghost use Rattle.am_api_silences.specs.Answers.{WhenMade};
 ghost use Rattle.am_api_silences.specs.Replies.{Says, good_bytes};
 ghost use Rattle.am_api_decisions.specs.Noticing.{IsLogged, IsLoggedBytes, IsNoticed, IsPassedOver, IsUnread, TellsNotice};
 ghost use Rattle.am_api_decisions.specs.Noticing.{is_late, is_since, key_of, notified_event};
 
+use crate::notice::Notice;
 use crate::replies::{good, short, tell};
+use crate::reply_bytes::write_logged;
 use crate::table;
-use am_api_silences::{PendingAnswer, PendingReply, ReplyBytes};
-use am_decision_json::{Notice, write_logged};
+use am_api_silences::{PendingAnswer, ReplyBuilder, ResponseBytes};
 use am_instance::{Event, FrameSender, Instance, Outcome, Reply, StepError};
 use am_nflog::{LogKey, MeshEntry};
 use am_version_order::{Interval, Moment};
@@ -88,17 +89,17 @@ fn logged(alloc: Global, is_logged: bool) -> Result<Vec<u8>, AllocError>
 }
 
 /// Returns the reply that says whether a notice was logged, or the one saying that there is no memory for it.
-fn told_of(alloc: Global, is_logged: bool) -> ReplyBytes
+fn told_of(alloc: Global, is_logged: bool) -> ResponseBytes
     ensures { Says (λ bytes. bytes ≡ good_bytes (compact_text (logged_data is_logged))) result }
 {
     match logged(alloc, is_logged) {
-        Ok(bytes) => ReplyBytes::Own(bytes),
+        Ok(bytes) => ResponseBytes::Own(bytes),
         Err(_) => short(),
     }
 }
 
 /// Returns the reply to a notice, by the reply of its step.
-fn told_by(alloc: Global, reply: Reply) -> ReplyBytes
+fn told_by(alloc: Global, reply: Reply) -> ResponseBytes
     ensures { Says (IsLoggedBytes reply) result }
 {
     match reply {
@@ -113,7 +114,7 @@ fn done(alloc: Global, outcome: Outcome) -> PendingAnswer
 {
     let (reply, outbox) = outcome.into_parts();
     PendingAnswer {
-        making: PendingReply::Whole(told_by(alloc, reply)),
+        making: ReplyBuilder::Whole(told_by(alloc, reply)),
         outbox,
     }
 }
@@ -123,7 +124,7 @@ fn stopped(alloc: Global, error: StepError) -> PendingAnswer
     ensures { WhenMade (TellsNotice (Err error)) result }
 {
     PendingAnswer {
-        making: PendingReply::Whole(tell(alloc, &table::refused(error))),
+        making: ReplyBuilder::Whole(tell(alloc, &table::refused(error))),
         outbox: FrameSender::new(alloc),
     }
 }
@@ -133,7 +134,7 @@ fn passed_over(alloc: Global, instance: &Instance) -> PendingAnswer
     ensures { WhenMade (λ answered. IsPassedOver instance.now answered instance.now) result }
 {
     PendingAnswer {
-        making: PendingReply::Whole(told_of(alloc, false)),
+        making: ReplyBuilder::Whole(told_of(alloc, false)),
         outbox: FrameSender::new(alloc),
     }
 }
@@ -143,7 +144,7 @@ fn unread(alloc: Global, instance: &Instance) -> PendingAnswer
     ensures { WhenMade (λ answered. IsUnread instance.now answered instance.now) result }
 {
     PendingAnswer {
-        making: PendingReply::Whole(short()),
+        making: ReplyBuilder::Whole(short()),
         outbox: FrameSender::new(alloc),
     }
 }

@@ -10,9 +10,10 @@ ghost use Rattle.am_api_silences.specs.Replies.{Says};
 ghost use Rattle.am_api_decisions.specs.Recent.{alert_data, alerts_bytes, is_kept, is_of_another, kept_of, label_size, noted, of_others};
 
 use crate::alerts::copied_labels;
+use crate::message::{Alert, Message};
 use crate::replies::{good, short};
-use am_api_silences::ReplyBytes;
-use am_decision_json::{Alert, Message, add_labels};
+use crate::writing::add_labels;
+use am_api_silences::ResponseBytes;
 use am_matcher::{Label, Labels};
 use am_silence_json::tokens::add;
 use am_wire::Text;
@@ -224,12 +225,12 @@ impl RecentAlerts {
     }
 
     /// Returns the bytes of the reply that lists the labels of the alerts, or of the one saying that there is no memory for it.
-    pub fn told(&self, alloc: Global) -> ReplyBytes
+    pub fn told(&self, alloc: Global) -> ResponseBytes
         // PROMISE: They are listed as one line of JSON, the newest message first.
         ensures { Says (λ bytes. bytes ≡ alerts_bytes self.now) result }
     {
         match bytes_of(alloc, &self.alerts) {
-            Ok(bytes) => ReplyBytes::Own(bytes),
+            Ok(bytes) => ResponseBytes::Own(bytes),
             Err(_) => short(),
         }
     }

@@ -2,10 +2,10 @@
 
 ghost use Rattle.std.specs.Prelude.{◌≡◌, IfOk};
 ghost use Rattle.am_http.specs.Lines.{line_seen};
-ghost use Rattle.am_api_silences.specs.PendingReply.{IsNoMemory};
+ghost use Rattle.am_api_silences.specs.ReplyBuilder.{IsNoMemory};
 ghost use Rattle.am_api_silences.specs.Replies.{Says, good_bytes, line_bytes, memory_bytes};
 
-use am_api_silences::{ReplyBytes, to_bytes};
+use am_api_silences::{ResponseBytes, to_bytes};
 use am_http::{Refusal, out_of_memory, reply};
 use std::alloc::{AllocError, Global};
 
@@ -24,18 +24,18 @@ fn memory_bytes() -> &'static [u8]
 }
 
 /// Returns the reply saying that there is no memory for another.
-pub fn short() -> ReplyBytes
+pub fn short() -> ResponseBytes
     ensures { IsNoMemory result }
 {
-    ReplyBytes::Fixed(memory_bytes())
+    ResponseBytes::Fixed(memory_bytes())
 }
 
 /// Returns the reply with a line of the table of statuses, or the one saying that there is no memory for it.
-pub fn tell(alloc: Global, line: &Refusal) -> ReplyBytes
+pub fn tell(alloc: Global, line: &Refusal) -> ResponseBytes
     ensures { Says (λ bytes. bytes ≡ line_bytes (line_seen line.now)) result }
 {
     match to_bytes(alloc, Err(line)) {
-        Ok(bytes) => ReplyBytes::Own(bytes),
+        Ok(bytes) => ResponseBytes::Own(bytes),
         Err(_) => short(),
     }
 }

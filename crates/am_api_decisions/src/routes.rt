@@ -5,12 +5,12 @@ ghost use Rattle.std.specs.List.{before_first, after_first, starts_with};
 ghost use Rattle.am_http.specs.Paths.{path_of, query_of};
 ghost use Rattle.am_api_decisions.specs.Calls.{IsCallOf, is_below};
 
-use crate::cause::{Cause, Resource};
+use crate::cause::{DecisionCause, DecisionResource};
 use am_http::Request;
 
 /// A call on decisions.
 #[derive(Clone, Copy)]
-pub enum Call<'a> {
+pub enum DecisionCall<'a> {
     /// The question whether a group is to be notified, on the terms of the query, which is not decoded.
     Decide { query: &'a str },
     /// The notice that a group was notified.
@@ -47,28 +47,28 @@ fn cut(target: &str) -> (&str, &str)
 ///
 /// # Errors
 ///
-/// [`Cause::NoSuchPath`] for any other path, and [`Cause::MethodNotAllowed`] for another method on one of the paths.
-pub fn call_of<'a>(method: &str, target: &'a str) -> Result<Call<'a>, Cause>
+/// [`DecisionCause::NoSuchPath`] for any other path, and [`DecisionCause::MethodNotAllowed`] for another method on one of the paths.
+pub fn call_of<'a>(method: &str, target: &'a str) -> Result<DecisionCall<'a>, DecisionCause>
     ensures { IsCallOf method.now target.now result }
 {
     let (path, query) = cut(target);
     match path {
         "/v1/decide" => match method {
-            "POST" => Ok(Call::Decide { query }),
-            _ => Err(Cause::MethodNotAllowed(Resource::Decisions)),
+            "POST" => Ok(DecisionCall::Decide { query }),
+            _ => Err(DecisionCause::MethodNotAllowed(DecisionResource::Decisions)),
         },
         "/v1/notified" => match method {
-            "POST" => Ok(Call::Notified),
-            _ => Err(Cause::MethodNotAllowed(Resource::Notices)),
+            "POST" => Ok(DecisionCall::Notified),
+            _ => Err(DecisionCause::MethodNotAllowed(DecisionResource::Notices)),
         },
         "/v1/log" => match method {
-            "GET" => Ok(Call::Log),
-            _ => Err(Cause::MethodNotAllowed(Resource::Entries)),
+            "GET" => Ok(DecisionCall::Log),
+            _ => Err(DecisionCause::MethodNotAllowed(DecisionResource::Entries)),
         },
         "/v1/alerts" => match method {
-            "GET" => Ok(Call::Alerts),
-            _ => Err(Cause::MethodNotAllowed(Resource::Alerts)),
+            "GET" => Ok(DecisionCall::Alerts),
+            _ => Err(DecisionCause::MethodNotAllowed(DecisionResource::Alerts)),
         },
-        _ => Err(Cause::NoSuchPath),
+        _ => Err(DecisionCause::NoSuchPath),
     }
 }

@@ -2,19 +2,20 @@
 
 ghost use Rattle.std.specs.Prelude.{◌≡◌, IfOk};
 ghost use Rattle.serde_json.specs.Written.{compact_text};
-ghost use Rattle.am_decision_json.specs.Answers.{answer_data};
+ghost use Rattle.am_api_decisions.specs.Answers.{answer_data};
 ghost use Rattle.am_api_silences.specs.Replies.{Says, good_bytes};
 ghost use Rattle.am_api_decisions.specs.Settling.{IsAnswerBytes, IsAnswerOf, IsDecidedByStep, IsSettled, why_of};
 ghost use Rattle.am_api_decisions.specs.Settling.{IsDecisionBytes, is_notified};
 
+use crate::answer::{DecisionReply, Verdict, Why};
 use crate::group::Group;
 use crate::replies::{good, short, tell};
+use crate::reply_bytes::write_answer;
 use crate::table;
 use crate::tally::Tally;
 use crate::terms::Terms;
 use crate::timing::Timing;
-use am_api_silences::ReplyBytes;
-use am_decision_json::{Answer, Why, write_answer};
+use am_api_silences::ResponseBytes;
 use am_dedup::Decision;
 use am_instance::{Instance, Reply};
 use am_nflog::Hashes;
@@ -53,7 +54,7 @@ fn is_notified(why: Why) -> bool
 }
 
 /// Returns the answer that says what is decided of a group, and why.
-fn answer_of(timing: Timing, group: Group, tally: Tally, why: Why) -> Answer
+fn answer_of(timing: Timing, group: Group, tally: Tally, why: Why) -> DecisionReply
     ensures { IsAnswerOf timing group tally why result }
 {
     let Tally {
@@ -73,7 +74,7 @@ fn answer_of(timing: Timing, group: Group, tally: Tally, why: Why) -> Answer
         integration,
         index,
     } = terms;
-    Answer {
+    DecisionReply {
         decided_at: write_moment(timing.now),
         firing: Hashes::new(firing),
         group_key,
@@ -90,7 +91,7 @@ fn answer_of(timing: Timing, group: Group, tally: Tally, why: Why) -> Answer
 }
 
 /// Returns the reply with an answer.
-fn answered(alloc: Global, answer: &Answer) -> Result<Vec<u8>, AllocError>
+fn answered(alloc: Global, answer: &DecisionReply) -> Result<Vec<u8>, AllocError>
     ensures { IfOk result (λ bytes. bytes.items ≡ good_bytes (compact_text (answer_data answer.now))) }
 {
     let body = write_answer(Vec::new(alloc), answer)?;
@@ -99,13 +100,19 @@ fn answered(alloc: Global, answer: &Answer) -> Result<Vec<u8>, AllocError>
 }
 
 /// Returns the reply that says what is decided of a group, and why.
-fn told_of(alloc: Global, timing: Timing, group: Group, tally: Tally, why: Why) -> ReplyBytes
-    ensures { Says (IsAnswerBytes timing group tally why) result }
+fn told_of(alloc: Global, timing: Timing, group: Group, tally: Tally, why: Why) -> Verdict
+    ensures { Says (IsAnswerBytes timing group tally why) result.reply }
 {
     let answer = answer_of(timing, group, tally, why);
     match answered(alloc, &answer) {
-        Ok(bytes) => ReplyBytes::Own(bytes),
-        Err(_) => short(),
+        Ok(bytes) => Verdict {
+            reply: ResponseBytes::Own(bytes),
+            why: Some(why),
+        },
+        Err(_) => Verdict {
+            reply: short(),
+            why: None,
+        },
     }
 }
 
@@ -117,15 +124,18 @@ fn told_by(
     group: Group,
     tally: Tally,
     reply: Reply,
-) -> ReplyBytes
-    ensures { Says (IsDecisionBytes judgement timing group tally reply) result }
+) -> Verdict
+    ensures { Says (IsDecisionBytes judgement timing group tally reply) result.reply }
 {
     match reply {
         Reply::Decided(decision) => {
             let why = why_of(judgement, decision);
             told_of(alloc, timing, group, tally, why)
         }
-        _ => short(),
+        _ => Verdict {
+            reply: short(),
+            why: None,
+        },
     }
 }
 
@@ -137,15 +147,21 @@ fn decide_by_step(
     tally: Tally,
     judgement: Judgement,
     timing: Timing,
-) -> ReplyBytes
-    ensures { IsDecidedByStep judgement timing group tally instance.old result instance.new }
+) -> Verdict
+    ensures { IsDecidedByStep judgement timing group tally instance.old result.reply instance.new }
 {
     let Ok(event) = group.event(alloc, &tally) else {
-        return short();
+        return Verdict {
+            reply: short(),
+            why: None,
+        };
     };
     match instance.step(event, timing.now) {
         Ok(outcome) => told_by(alloc, judgement, timing, group, tally, outcome.reply),
-        Err(error) => tell(alloc, &table::refused(error)),
+        Err(error) => Verdict {
+            reply: tell(alloc, &table::refused(error)),
+            why: None,
+        },
     }
 }
 
@@ -157,8 +173,8 @@ pub fn settle(
     tally: Tally,
     judgement: Judgement,
     timing: Timing,
-) -> ReplyBytes
-    ensures { IsSettled judgement timing group tally instance.old result instance.new }
+) -> Verdict
+    ensures { IsSettled judgement timing group tally instance.old result.reply instance.new }
 {
     if tally.has_none() {
         return told_of(alloc, timing, group, tally, Why::Muted);

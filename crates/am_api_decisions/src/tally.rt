@@ -5,8 +5,9 @@ ghost use Rattle.std.specs.Prelude.{map};
 ghost use Rattle.std.specs.Vec.Iter.{into_iter_items, into_iter_len};
 ghost use Rattle.am_api_decisions.specs.Asking.{counted_with, nothing_counted, unasked};
 
-use am_alert_hash::alert_hash;
-use am_decision_json::{Alert, Muted};
+use crate::alert::alert_hash;
+use crate::answer::Muted;
+use crate::message::Alert;
 use am_matcher::Ids;
 use am_wire::Text;
 use std::alloc::{AllocError, Global};

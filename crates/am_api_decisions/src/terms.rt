@@ -3,10 +3,10 @@
 ghost use Rattle.std.specs.Prelude.{◌≡◌, Some, None, IfOk, IfErr, codes};
 ghost use Rattle.am_api_decisions.specs.Words.{truth_or, word_in};
 ghost use Rattle.am_api_decisions.specs.Terms.{IsTerms, IsTermsFault, IsWordFault, index_in, integration_in, repeat_in};
-ghost use Rattle.am_api_decisions.specs.declared.cause.Cause.TheVariants as causes;
+ghost use Rattle.am_api_decisions.specs.declared.cause.DecisionCause.TheVariants as causes;
 ghost use Rattle.am_api_decisions.specs.declared.cause.Word.TheVariants as words;
 
-use crate::cause::{Cause, Word};
+use crate::cause::{DecisionCause, Word};
 use crate::repeat::Repeat;
 use crate::words::{number_or, text_or, truth_or, word_in};
 use am_wire::Text;
@@ -28,58 +28,58 @@ pub struct Terms {
 }
 
 /// Reads the word `repeat` of a query.
-fn repeat_in(alloc: Global, query: &str) -> Result<Repeat, Cause>
+fn repeat_in(alloc: Global, query: &str) -> Result<Repeat, DecisionCause>
     ensures read { IfOk result (λ repeat. repeat_in query.now ≡ Some repeat.seconds) }
     ensures refused { IfErr result (IsWordFault (repeat_in query.now ≡ None) words.Repeat) }
 {
     let Ok(word) = word_in(alloc, query, "repeat") else {
-        return Err(Cause::Memory);
+        return Err(DecisionCause::Memory);
     };
     match number_or(14_400, 1, 9_223_372_036, word) {
         Some(seconds) => Ok(Repeat { seconds }),
-        None => Err(Cause::BadQuery(Word::Repeat)),
+        None => Err(DecisionCause::BadQuery(Word::Repeat)),
     }
 }
 
 /// Reads a word of a query that is a truth value.
-fn truth_in(alloc: Global, query: &str, name: &str, word: Word) -> Result<bool, Cause>
+fn truth_in(alloc: Global, query: &str, name: &str, word: Word) -> Result<bool, DecisionCause>
     ensures read { IfOk result (λ truth. truth_or (word_in name.now query.now) ≡ Some truth) }
     ensures refused { IfErr result (IsWordFault (truth_or (word_in name.now query.now) ≡ None) word) }
 {
     let Ok(found) = word_in(alloc, query, name) else {
-        return Err(Cause::Memory);
+        return Err(DecisionCause::Memory);
     };
     match truth_or(found) {
         Some(truth) => Ok(truth),
-        None => Err(Cause::BadQuery(word)),
+        None => Err(DecisionCause::BadQuery(word)),
     }
 }
 
 /// Reads the word `integration` of a query.
-fn integration_in(alloc: Global, query: &str) -> Result<Text, Cause>
+fn integration_in(alloc: Global, query: &str) -> Result<Text, DecisionCause>
     ensures read { IfOk result (λ text. text ≡ integration_in query.now) }
     ensures refused { IfErr result (λ cause. cause ≡ causes.Memory) }
 {
     let Ok(word) = word_in(alloc, query, "integration") else {
-        return Err(Cause::Memory);
+        return Err(DecisionCause::Memory);
     };
     match text_or(alloc, "webhook", word) {
         Ok(text) => Ok(text),
-        Err(_) => Err(Cause::Memory),
+        Err(_) => Err(DecisionCause::Memory),
     }
 }
 
 /// Reads the word `index` of a query.
-fn index_in(alloc: Global, query: &str) -> Result<u32, Cause>
+fn index_in(alloc: Global, query: &str) -> Result<u32, DecisionCause>
     ensures read { IfOk result (λ index. index_in query.now ≡ Some index) }
     ensures refused { IfErr result (IsWordFault (index_in query.now ≡ None) words.Index) }
 {
     let Ok(word) = word_in(alloc, query, "index") else {
-        return Err(Cause::Memory);
+        return Err(DecisionCause::Memory);
     };
     match number_or(0, 0, 4_294_967_295, word) {
         Some(index) => Ok(index as u32),
-        None => Err(Cause::BadQuery(Word::Index)),
+        None => Err(DecisionCause::BadQuery(Word::Index)),
     }
 }
 
@@ -88,9 +88,9 @@ fn index_in(alloc: Global, query: &str) -> Result<u32, Cause>
 ///
 /// # Errors
 ///
-/// [`Cause::BadQuery`] of the first word that is at fault, in the order `repeat`, `resolved`, `wait`, `index`; and
-/// [`Cause::Memory`].
-pub fn terms_in(alloc: Global, query: &str) -> Result<Terms, Cause>
+/// [`DecisionCause::BadQuery`] of the first word that is at fault, in the order `repeat`, `resolved`, `wait`, `index`; and
+/// [`DecisionCause::Memory`].
+pub fn terms_in(alloc: Global, query: &str) -> Result<Terms, DecisionCause>
     ensures read { IfOk result (IsTerms query.now) }
     ensures refused { IfErr result (IsTermsFault query.now) }
 {

@@ -16,8 +16,8 @@ use Rattle.am_instance.specs.Replies.{HoldsSilences, silences_shown}
 use Rattle.am_instance.specs.Sendings.{Sent, sent_by}
 use Rattle.am_api_silences.specs.Answers.{IsStepAnswer}
 use Rattle.am_api_silences.specs.Replies.{IsReplyBytes, IsSiftedBytes, Says}
-use Rattle.am_api_silences.specs.Sieves.{IsParted, passing}
-use Rattle.am_api_silences.specs.declared.replies.ReplyBytes.{ReplyBytes}
+use Rattle.am_api_silences.specs.ListFilters.{IsParted, passing}
+use Rattle.am_api_silences.specs.declared.replies.ResponseBytes.{ResponseBytes}
 use Rattle.am_api_silences.proofs.Passing.{kept, none_sifted, shown_passing}
 use Rattle.am_api_silences.proofs.Telling.{says_weaker}
 
@@ -55,7 +55,7 @@ module _ (old new : InstanceState) (now : ℕ) (given none : Vec Matcher) (empty
     reply = (rows_shown rows items, s.reply.1);
   }
 
-  list_made : (outcome : Outcome) (reply : ReplyBytes) (sent : Sent) → IsStep old (events.Request (requests.List none)) now (Ok outcome) new
+  list_made : (outcome : Outcome) (reply : ResponseBytes) (sent : Sent) → IsStep old (events.Request (requests.List none)) now (Ok outcome) new
       → Says (IsSiftedBytes given.items outcome.reply) reply → sent ≡ sent_by outcome
       → IsStepAnswer (events.Request (requests.List given)) old now (record { reply = reply; sent = sent }) new
   list_made outcome reply sent s says is =
@@ -70,7 +70,7 @@ module _ (old new : InstanceState) (now : ℕ) (given none : Vec Matcher) (empty
 
 module _ (event bare : Event) (filters : List Matcher) (old new : InstanceState) (now : ℕ) where
   -- the answer by a step that was made
-  pub parted_made : IsParted event bare filters → (outcome : Outcome) (reply : ReplyBytes) (sent : Sent) → IsStep old bare now (Ok outcome) new
+  pub parted_made : IsParted event bare filters → (outcome : Outcome) (reply : ResponseBytes) (sent : Sent) → IsStep old bare now (Ok outcome) new
       → Says (IsSiftedBytes filters outcome.reply) reply → sent ≡ sent_by outcome → IsStepAnswer event old now (record { reply = reply; sent = sent }) new
   parted_made (inl same) outcome reply sent s says is =
       record {

@@ -13,7 +13,7 @@ use Rattle.am_instance.specs.Replies.{silences_shown, with_state}
 use Rattle.am_instance.specs.declared.reply.Reply.{Reply}
 use Rattle.am_instance.specs.declared.reply.Reply.TheVariants as replies
 use Rattle.am_api_silences.specs.Replies.{IsListReply, IsReplyBytes, IsSiftedBytes}
-use Rattle.am_api_silences.specs.Sieves.{passing}
+use Rattle.am_api_silences.specs.ListFilters.{passing}
 
 -- without a filter all pass
 pub all_pass : (rows : List (Mesh × State)) → passing [] rows ≡ rows

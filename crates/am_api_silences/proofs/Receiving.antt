@@ -3,8 +3,8 @@ use Rattle.std.proofs.Common.{◌≡◌, ℕ, ◌+◌, ◌<◌, ◌≤◌, true,
 use Rattle.std.proofs.KnownBytes.{Consumes-trans}
 use Rattle.std.proofs.lemmas.Bool.{false≢true}
 use Rattle.std.specs.Io.KnownBytes.{Consumes, IsAtEnd}
-use Rattle.am_streams.specs.Reading.{HasGrown, ReadsOnce}
-use Rattle.am_streams.specs.declared.reading.Stop.TheVariants as stop
+use Rattle.am_wire.specs.InputReading.{HasGrown, ReadsOnce}
+use Rattle.am_wire.specs.declared.input.Stop.TheVariants as stop
 use Rattle.am_http.proofs.HeadLemmas.{head_small}
 use Rattle.am_http.specs.Lines.{line_seen, line_of}
 use Rattle.am_http.specs.Requests.{IsReadOf, IsUnfinished}

@@ -17,13 +17,13 @@ use Rattle.am_instance.specs.declared.reply.Outcome.{Outcome}
 use Rattle.am_instance.specs.declared.reply.Reply.{Reply}
 use Rattle.am_instance.specs.declared.reply.Reply.TheVariants as replies
 use Rattle.am_http.specs.declared.request.Request.{Request}
-use Rattle.am_refusals.specs.declared.error.StepError.{StepError}
-use Rattle.am_refusals.specs.declared.error.StepError.TheVariants.{MomentBack}
+use Rattle.am_gossip.specs.declared.refusals.StepError.{StepError}
+use Rattle.am_gossip.specs.declared.refusals.StepError.TheVariants.{MomentBack}
 use Rattle.am_api_silences.specs.Answers.{Answered, IsErrorBytes, IsRefusalAnswer, IsRequestAnswer, IsStepAnswer}
 use Rattle.am_api_silences.specs.Replies.{HasSomeStatus, HasStatus, IsReplyBytes, Says, bytes_of, good_bytes, line_bytes}
 use Rattle.am_api_silences.specs.Table.{clock_line, memory_line, refused_line}
-use Rattle.am_api_silences.specs.declared.replies.ReplyBytes.{ReplyBytes}
-use Rattle.am_api_silences.specs.declared.replies.ReplyBytes.TheVariants.{Own, Fixed}
+use Rattle.am_api_silences.specs.declared.replies.ResponseBytes.{ResponseBytes}
+use Rattle.am_api_silences.specs.declared.replies.ResponseBytes.TheVariants.{Own, Fixed}
 
 -- a code is written as its three digits
 decimal-code : (status : ℕ) → IsStatusCode status → decimal status ≡ code_digits status
@@ -104,7 +104,7 @@ error_status : (error : StepError) (bytes : List ℕ) → IsErrorBytes error byt
 error_status (MomentBack last) bytes is = line_status clock_line bytes (omega arith, omega arith) is
 error_status _ bytes is = line_status memory_line bytes (omega arith, omega arith) is
 
-says_status : (IsMeant : List ℕ → Type 0) → ((bytes : List ℕ) → IsMeant bytes → HasSomeStatus bytes) → (reply : ReplyBytes) → Says IsMeant reply → HasSomeStatus (bytes_of reply)
+says_status : (IsMeant : List ℕ → Type 0) → ((bytes : List ℕ) → IsMeant bytes → HasSomeStatus bytes) → (reply : ResponseBytes) → Says IsMeant reply → HasSomeStatus (bytes_of reply)
 says_status IsMeant has (Own bytes) says = has bytes.items says
 says_status IsMeant has (Fixed bytes) says = line_status memory_line bytes.now (omega arith, omega arith) says
 
@@ -113,7 +113,7 @@ pub refusal_status : (refusal : Refusal) (old : InstanceState) (answered : Answe
 refusal_status refusal old answered new is =
     says_status (λ bytes. bytes ≡ line_bytes (line_seen refusal)) (λ bytes says. line_status (line_seen refusal) bytes refusal.is_status says) answered.reply is.says
 
-step_status : (step : Result Outcome StepError) (reply : ReplyBytes) → IfOk step (λ outcome. Says (IsReplyBytes outcome.reply) reply) → IfErr step (λ error. Says (IsErrorBytes error) reply)
+step_status : (step : Result Outcome StepError) (reply : ResponseBytes) → IfOk step (λ outcome. Says (IsReplyBytes outcome.reply) reply) → IfErr step (λ error. Says (IsErrorBytes error) reply)
     → HasSomeStatus (bytes_of reply)
 step_status (Ok outcome) reply replied refused = says_status (IsReplyBytes outcome.reply) (reply_status outcome.reply) reply replied
 step_status (Err error) reply replied refused = says_status (IsErrorBytes error) (error_status error) reply refused

@@ -4,8 +4,8 @@ use Rattle.am_http.specs.Lines.{line_seen}
 use Rattle.am_http.specs.declared.refusal.Refusal.{Refusal}
 use Rattle.am_http.specs.declared.request.Request.{Request}
 use Rattle.am_instance.specs.declared.event.Event.{Event}
-use Rattle.am_refusals.specs.declared.error.StepError.{StepError}
-use Rattle.am_refusals.specs.declared.error.StepError.TheVariants.{MomentBack}
+use Rattle.am_gossip.specs.declared.refusals.StepError.{StepError}
+use Rattle.am_gossip.specs.declared.refusals.StepError.TheVariants.{MomentBack}
 use Rattle.am_instance.specs.declared.reply.Outcome.{Outcome}
 use Rattle.am_instance.specs.Sendings.{Sent, nothing_sent, sent_by}
 use Rattle.am_instance.specs.InstanceStates.{InstanceState}
@@ -13,14 +13,14 @@ use Rattle.am_api_silences.specs.Events.{IsEventIn}
 use Rattle.am_api_silences.specs.Replies.{IsReplyBytes, Says, line_bytes}
 use Rattle.am_instance.specs.OneStep.{IsStep}
 use Rattle.am_api_silences.specs.Table.{clock_line, memory_line}
-use Rattle.am_api_silences.specs.PendingReply.{Makes}
+use Rattle.am_api_silences.specs.ReplyBuilder.{Makes}
 use Rattle.am_api_silences.specs.declared.answering.Answered.{Answered as Whole}
 use Rattle.am_api_silences.specs.declared.answering.PendingAnswer.{PendingAnswer}
-use Rattle.am_api_silences.specs.declared.replies.ReplyBytes.{ReplyBytes}
+use Rattle.am_api_silences.specs.declared.replies.ResponseBytes.{ResponseBytes}
 
 -- the answer to a request: its reply, once that is whole, and what its step sends
 pub record Answered : Type 0 where
-  pub reply : ReplyBytes
+  pub reply : ResponseBytes
   pub sent : Sent
 
 -- the answer that the code returns
@@ -71,7 +71,7 @@ pub record IsRequestAnswer (old : InstanceState) (request : Request) (bits now :
 -- ---- an answer whose reply is in the making
 
 -- the answer that this one becomes with a reply
-abbrev pub with_reply : PendingAnswer → ReplyBytes → Answered
+abbrev pub with_reply : PendingAnswer → ResponseBytes → Answered
 with_reply begun reply = record { reply = reply; sent = begun.outbox }
 
 -- whatever reply this answer is finished with, it becomes such an answer

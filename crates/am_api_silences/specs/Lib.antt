@@ -1,8 +1,8 @@
 pub mod Filters
 pub mod Events
 pub mod Table
-pub mod Sieves
+pub mod ListFilters
 pub mod Replies
-pub mod PendingReply
+pub mod ReplyBuilder
 pub mod Answers
 pub mod Serving

@@ -14,10 +14,10 @@ use Rattle.am_http.specs.Replies.{head_bytes, reply_bytes}
 use Rattle.am_http.specs.declared.refusal.Refusal.{Refusal}
 use Rattle.am_instance.specs.declared.reply.Reply.{Reply}
 use Rattle.am_instance.specs.declared.reply.Reply.TheVariants as replies
-use Rattle.am_api_silences.specs.Sieves.{passing}
+use Rattle.am_api_silences.specs.ListFilters.{passing}
 use Rattle.am_api_silences.specs.Table.{refused_line, memory_line}
-use Rattle.am_api_silences.specs.declared.replies.ReplyBytes.{ReplyBytes}
-use Rattle.am_api_silences.specs.declared.replies.ReplyBytes.TheVariants.{Own, Fixed}
+use Rattle.am_api_silences.specs.declared.replies.ResponseBytes.{ResponseBytes}
+use Rattle.am_api_silences.specs.declared.replies.ResponseBytes.TheVariants.{Own, Fixed}
 
 -- the reply 200 with this body
 abbrev pub good_bytes : List ℕ → List ℕ
@@ -66,7 +66,7 @@ HasSomeStatus bytes = (status : ℕ) × HasStatus status bytes
 -- ---- bytes that go out
 
 -- the bytes of a reply, its own or a constant
-abbrev pub bytes_of : ReplyBytes → List ℕ
+abbrev pub bytes_of : ResponseBytes → List ℕ
 bytes_of (Own bytes) = bytes.items
 bytes_of (Fixed bytes) = bytes.now
 
@@ -75,6 +75,6 @@ abbrev pub memory_bytes : List ℕ
 memory_bytes = line_bytes memory_line
 
 -- the bytes are such a reply; or there was no memory for it, and that is what they say
-abbrev pub Says : (List ℕ → Type 0) → ReplyBytes → Type 0
+abbrev pub Says : (List ℕ → Type 0) → ResponseBytes → Type 0
 Says IsMeant (Own bytes) = IsMeant bytes.items
 Says IsMeant (Fixed bytes) = bytes.now ≡ memory_bytes

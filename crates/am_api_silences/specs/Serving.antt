@@ -1,7 +1,7 @@
 -- A request from a reader, and its answer to a writer.
 use Rattle.std.specs.Prelude.{◌≡◌, ℕ, ◌≤◌, ◌⊎◌, Bool, List, [], ◌++◌, length, Option, Some, None, Result, Ok, Err, IsTrue}
 use Rattle.std.specs.Io.KnownBytes.{Appends, Consumes, IsAtEnd}
-use Rattle.am_streams.specs.Writing.{WritesPart}
+use Rattle.am_wire.specs.OutputWriting.{WritesPart}
 use Rattle.am_http.specs.Lines.{line_seen, line_of}
 use Rattle.am_http.specs.Requests.{IsReadOf, IsUnfinished}
 use Rattle.am_http.specs.declared.cause.Cause.TheVariants.{Memory}

@@ -5,14 +5,14 @@ ghost use Rattle.am_instance.specs.Sendings.{nothing_sent, sent_by};
 ghost use Rattle.am_instance.specs.InstanceStates.{InstanceState};
 ghost use Rattle.am_api_silences.specs.Answers.{WhenMade, IsErrorBytes, IsRefusalAnswer, IsRequestAnswer, IsStepAnswer, answer_in};
 ghost use Rattle.am_api_silences.specs.Events.{IsEventIn};
-ghost use Rattle.am_api_silences.specs.PendingReply.{IsMadeOf, Makes};
+ghost use Rattle.am_api_silences.specs.ReplyBuilder.{IsMadeOf, Makes};
 ghost use Rattle.am_api_silences.specs.Replies.{IsSiftedBytes, Says};
-ghost use Rattle.am_api_silences.specs.Sieves.{IsParted};
-ghost use Rattle.am_api_silences.specs.declared.pending_reply.PendingReply.TheVariants as makings;
+ghost use Rattle.am_api_silences.specs.ListFilters.{IsParted};
+ghost use Rattle.am_api_silences.specs.declared.reply_builder.ReplyBuilder.TheVariants as makings;
 
 use crate::events::event_by;
-use crate::pending_reply::{PendingReply, make};
-use crate::replies::{ReplyBytes, no_memory, tell};
+use crate::replies::{ResponseBytes, no_memory, tell};
+use crate::reply_builder::{ReplyBuilder, make};
 use crate::table;
 use am_gossip::Frame;
 use am_http::{Refusal, Request};
@@ -26,14 +26,14 @@ use std::alloc::Global;
 /// The answer to a request whose reply is being made, and what its step sends.
 #[derive(Drop)]
 pub struct PendingAnswer {
-    pub making: PendingReply,
+    pub making: ReplyBuilder,
     pub outbox: FrameSender,
 }
 
 /// The whole answer to a request, and what its step sends.
 #[derive(Drop)]
 pub struct Answered {
-    pub reply: ReplyBytes,
+    pub reply: ResponseBytes,
     /// The frames to be sent, in order, each with the place of the peer to which it goes.
     pub frames: Vec<(Place, Frame)>,
     /// The number of frames that were left out.
@@ -56,12 +56,12 @@ impl PendingAnswer {
 }
 
 /// Returns an answer whose reply is whole already, and with which nothing is sent.
-fn quiet(alloc: Global, reply: ReplyBytes) -> PendingAnswer
+fn quiet(alloc: Global, reply: ResponseBytes) -> PendingAnswer
     ensures making { result.making ≡ makings.Whole reply }
     ensures sent { result.outbox ≡ nothing_sent }
 {
     PendingAnswer {
-        making: PendingReply::Whole(reply),
+        making: ReplyBuilder::Whole(reply),
         outbox: FrameSender::new(alloc),
     }
 }
@@ -95,7 +95,7 @@ fn stopped(alloc: Global, error: StepError) -> PendingAnswer
             let reply = tell(alloc, Err(&table::clock_ran_back()));
             quiet(alloc, reply)
         }
-        _ => quiet(alloc, ReplyBytes::Fixed(no_memory())),
+        _ => quiet(alloc, ResponseBytes::Fixed(no_memory())),
     }
 }
 

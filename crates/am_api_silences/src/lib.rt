@@ -5,17 +5,17 @@
 mod answering;
 mod events;
 mod filters;
+mod list_filter;
 mod patterns;
-mod pending_reply;
 mod replies;
+mod reply_builder;
 mod serving;
-mod sieving;
 mod table;
 
 pub use am_http::{Read, Refusal, Request, read_request};
 pub use answering::{Answered, PendingAnswer, answer, begin_answer, refuse};
 pub use events::to_event;
 pub use patterns::patterns_of;
-pub use pending_reply::PendingReply;
-pub use replies::{ReplyBytes, to_bytes};
+pub use replies::{ResponseBytes, to_bytes};
+pub use reply_builder::ReplyBuilder;
 pub use serving::{ServeFault, Served, serve};

@@ -19,20 +19,20 @@ use std::alloc::{AllocError, Global};
 
 /// The bytes of a whole reply.
 #[derive(Drop)]
-pub enum ReplyBytes {
+pub enum ResponseBytes {
     Own(Vec<u8>),
     /// The reply that there is no memory for another, which takes none itself.
     Fixed(&'static [u8]),
 }
 
-impl ReplyBytes {
+impl ResponseBytes {
     /// Returns the bytes.
     pub fn as_slice(&self) -> &[u8]
         ensures { result.now ≡ bytes_of self.now }
     {
         match self {
-            ReplyBytes::Own(bytes) => bytes.as_slice(),
-            ReplyBytes::Fixed(bytes) => bytes,
+            ResponseBytes::Own(bytes) => bytes.as_slice(),
+            ResponseBytes::Fixed(bytes) => bytes,
         }
     }
 }
@@ -138,11 +138,11 @@ pub fn no_memory() -> &'static [u8]
 }
 
 /// Returns the bytes of a reply or of a refusal; if there is no memory for them, the reply says so.
-pub fn tell(alloc: Global, said: Result<&Reply, &Refusal>) -> ReplyBytes
+pub fn tell(alloc: Global, said: Result<&Reply, &Refusal>) -> ResponseBytes
     ensures { Says (IsSaid said.entry) result }
 {
     match to_bytes(alloc, said) {
-        Ok(bytes) => ReplyBytes::Own(bytes),
-        Err(_) => ReplyBytes::Fixed(no_memory()),
+        Ok(bytes) => ResponseBytes::Own(bytes),
+        Err(_) => ResponseBytes::Fixed(no_memory()),
     }
 }

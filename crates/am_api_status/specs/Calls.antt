@@ -2,12 +2,12 @@
 use Rattle.std.specs.Prelude.{◌≡◌, ◌≢◌, ℕ, Bool, true, false, List, codes, Option, Some, None, Result, Ok, Err}
 use Rattle.am_http.specs.Lines.{RefusalLine, line_seen}
 use Rattle.am_http.specs.declared.refusal.Refusal.{Refusal}
-use Rattle.am_api_status.specs.declared.routes.Call.{Call}
-use Rattle.am_api_status.specs.declared.routes.Resource.{Resource}
-use Rattle.am_api_status.specs.declared.routes.Resource.TheVariants.{Page, Healthy, Ready, Status, Receivers, Metrics}
+use Rattle.am_api_status.specs.declared.routes.StatusCall.{StatusCall}
+use Rattle.am_api_status.specs.declared.routes.StatusResource.{StatusResource}
+use Rattle.am_api_status.specs.declared.routes.StatusResource.TheVariants.{Page, Healthy, Ready, Status, Receivers, Metrics}
 
 -- the path of a resource: /-/healthy and /-/ready as Prometheus' servers have them, the others as in API v2
-abbrev pub path_at : Resource → List ℕ
+abbrev pub path_at : StatusResource → List ℕ
 path_at Page = codes "/"
 path_at Healthy = codes "/-/healthy"
 path_at Ready = codes "/-/ready"
@@ -25,7 +25,7 @@ pub record IsOther (path : List ℕ) : Type 0 where
   pub no_metrics : path ≢ path_at Metrics
 
 -- The path names the resource, or none of these.
-abbrev pub IsNamed : List ℕ → Option Resource → Type 0
+abbrev pub IsNamed : List ℕ → Option StatusResource → Type 0
 IsNamed path (Some resource) = path ≡ path_at resource
 IsNamed path None = IsOther path
 
@@ -39,7 +39,7 @@ abbrev pub not_allowed_line : RefusalLine
 not_allowed_line = record { status = 405; text = codes "method not allowed"; allow = Some (codes "GET, HEAD"); bare = false }
 
 -- A request with this method makes the call on the resource, or its method is neither of the two.
-abbrev pub IsCallOn : Resource → List ℕ → Result Call Refusal → Type 0
+abbrev pub IsCallOn : StatusResource → List ℕ → Result StatusCall Refusal → Type 0
 IsCallOn resource method (Ok call) = (call.resource ≡ resource) × (method ≡ method_of call.is_bare)
 IsCallOn resource method (Err refusal) =
     (method ≢ codes "GET") × (method ≢ codes "HEAD") × (line_seen refusal ≡ not_allowed_line)

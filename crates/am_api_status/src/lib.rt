@@ -7,5 +7,5 @@ mod routes;
 mod status;
 
 pub use replies::{metrics_reply, not_ready, page_reply, receivers_reply, well_reply};
-pub use routes::{Call, Resource, call_of, resource_of};
+pub use routes::{StatusCall, StatusResource, call_of, resource_of};
 pub use status::{MemberStatus, Neighbor, Peer, status_reply};

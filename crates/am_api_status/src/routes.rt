@@ -10,7 +10,7 @@ use am_http::Refusal;
 
 /// The resource that a path of these calls names.
 #[derive(Clone, Copy, Debug, PartialEq, Eq)]
-pub enum Resource {
+pub enum StatusResource {
     /// `/`: the page for people.
     Page,
     /// `/-/healthy`: whether the member runs.
@@ -27,8 +27,8 @@ pub enum Resource {
 
 /// A call that asks for the resource of a path.
 #[derive(Clone, Copy, Debug, PartialEq, Eq)]
-pub struct Call {
-    pub resource: Resource,
+pub struct StatusCall {
+    pub resource: StatusResource,
     /// True if the reply has its head alone, as HEAD wants it.
     pub is_bare: bool,
 }
@@ -45,17 +45,17 @@ fn path_of(target: &str) -> &str
 
 /// Returns the resource that the path of a target names, if it is one of these. All other paths are for the silences and for
 /// decisions.
-pub fn resource_of(target: &str) -> Option<Resource>
+pub fn resource_of(target: &str) -> Option<StatusResource>
     // PROMISE: A path names one page about the member, or none.
     ensures { IsNamed (path_of target.now) result }
 {
     match path_of(target) {
-        "/" => Some(Resource::Page),
-        "/-/healthy" => Some(Resource::Healthy),
-        "/-/ready" => Some(Resource::Ready),
-        "/api/v2/status" => Some(Resource::Status),
-        "/api/v2/receivers" => Some(Resource::Receivers),
-        "/metrics" => Some(Resource::Metrics),
+        "/" => Some(StatusResource::Page),
+        "/-/healthy" => Some(StatusResource::Healthy),
+        "/-/ready" => Some(StatusResource::Ready),
+        "/api/v2/status" => Some(StatusResource::Status),
+        "/api/v2/receivers" => Some(StatusResource::Receivers),
+        "/metrics" => Some(StatusResource::Metrics),
         _ => None,
     }
 }
@@ -77,15 +77,15 @@ const fn not_allowed() -> Refusal
 /// # Errors
 ///
 /// The line `method not allowed` if the method is neither GET nor HEAD.
-pub fn call_of(resource: Resource, method: &str) -> Result<Call, Refusal>
+pub fn call_of(resource: StatusResource, method: &str) -> Result<StatusCall, Refusal>
     ensures { IsCallOn resource method.now result }
 {
     match method {
-        "GET" => Ok(Call {
+        "GET" => Ok(StatusCall {
             resource,
             is_bare: false,
         }),
-        "HEAD" => Ok(Call {
+        "HEAD" => Ok(StatusCall {
             resource,
             is_bare: true,
         }),

@@ -5,10 +5,10 @@ use am_api_decisions::{
     Asked, Deciding, Question, RecentAlerts, Timing, asked_of, begin_log, is_for_decisions,
     log_notice,
 };
-use am_api_silences::{PendingAnswer, PendingReply, ReplyBytes, refuse};
+use am_api_silences::{PendingAnswer, ReplyBuilder, ResponseBytes, refuse};
 use am_http::{Read, Refusal, Request, read_request};
 use am_instance::{FrameSender, Instance};
-use am_part_cases::common::{Case, Fault, cut, phrase};
+use am_part_cases::common::{Case, CaseFault, cut, phrase};
 use am_part_cases::put;
 use am_version_order::Moment;
 
@@ -24,15 +24,15 @@ struct Calling {
 }
 
 /// Returns an answer with which nothing is sent.
-fn quiet(case: &Case, reply: ReplyBytes) -> PendingAnswer {
+fn quiet(case: &Case, reply: ResponseBytes) -> PendingAnswer {
     PendingAnswer {
-        making: PendingReply::Whole(reply),
+        making: ReplyBuilder::Whole(reply),
         outbox: FrameSender::new(case.alloc),
     }
 }
 
 /// Returns the reply to a refused request.
-fn refused(case: &Case, refusal: &Refusal) -> ReplyBytes {
+fn refused(case: &Case, refusal: &Refusal) -> ResponseBytes {
     refuse(case.alloc, refusal).making.finish(case.alloc)
 }
 
@@ -45,25 +45,24 @@ fn decided(
     instance: &mut Instance,
     question: Question,
     calling: Calling,
-) -> ReplyBytes {
+) -> ResponseBytes {
     let deciding = Deciding::new(case.alloc, question);
-    match deciding.go_on(case.alloc, instance, calling.most, calling.now) {
-        Ok(deciding) => deciding.decide(
-            case.alloc,
-            instance,
-            Timing {
+    match deciding.resume(case.alloc, instance, calling.most, calling.now) {
+        Ok(deciding) => {
+            let timing = Timing {
                 now: calling.then,
                 turn_seconds: TURN_SECONDS,
-            },
-        ),
+            };
+            deciding.decide(case.alloc, instance, timing).reply
+        }
         Err(refusal) => refused(case, &refusal),
     }
 }
 
 /// Returns the live entries of the log: the first ones, and then the others.
-fn told(case: &Case, instance: &Instance, calling: Calling) -> Result<ReplyBytes, Refusal> {
+fn told(case: &Case, instance: &Instance, calling: Calling) -> Result<ResponseBytes, Refusal> {
     let writing = begin_log(case.alloc, instance, calling.now)?;
-    let writing = writing.go_on(case.alloc, calling.most)?;
+    let writing = writing.resume(case.alloc, calling.most)?;
     Ok(writing.finish(case.alloc))
 }
 
@@ -111,8 +110,8 @@ fn request_in(case: &Case, phrases: &str, text: &str) -> Option<Request> {
     case.append(&mut whole, bytes.as_slice());
     match read_request(case.alloc, whole.as_slice(), true) {
         Read::Whole(request) => return Some(request),
-        Read::Refused(refusal) if refusal.status == 500 => case.fail(Fault::Memory),
-        _ => case.fail(Fault::Words),
+        Read::Refused(refusal) if refusal.status == 500 => case.fail(CaseFault::Memory),
+        _ => case.fail(CaseFault::Words),
     }
     None
 }
@@ -145,7 +144,7 @@ pub fn call(case: &Case, instance: &mut Instance, rest: &str) {
     let PendingAnswer { making, outbox } = answered(case, instance, &request, calling);
     let reply = making.finish(case.alloc);
     if reply.as_slice().ends_with(b"\"out of memory\"") {
-        case.fail(Fault::Memory);
+        case.fail(CaseFault::Memory);
     }
     case.say_text(reply.as_slice());
     if !outbox.frames.is_empty() {

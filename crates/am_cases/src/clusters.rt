@@ -2,14 +2,14 @@
 
 use crate::events::{fed, schedule_of};
 use crate::members::{name_at, print_held, say_config, times};
+use am_cluster::carried::{AnyVersion, SplitVersions, versions_in_frame};
 use am_cluster::{Cluster, ClusterError, SettleError};
 use am_instance::ConfigError;
-use am_part_cases::common::{Brittle, Call, Case, Cut, Fault, Pieces, cut};
+use am_part_cases::common::{Brittle, Call, Case, CaseFault, Cut, Pieces, cut};
 use am_part_cases::{given, put, say};
 use am_replay::{OutputLine, Refusal, ReplayError, append_line, run};
 use am_schedule::Line;
 use am_silence::SilenceError::{BadPattern, Memory, NoMatcher, TooLarge};
-use am_steps::carried::{AnyVersion, SplitVersions, versions_in_frame};
 use am_wire::Unknown;
 
 fn made(case: &Case, words: &str) -> Option<Cluster> {
@@ -74,7 +74,7 @@ fn play_line(case: &Case, cluster: &mut Cluster, line: &Line, number: u64) {
         case.put("no memory at ");
         say_members(case, cluster, number);
         if finds_no_memory(cluster, line, number) {
-            case.fail(Fault::Memory);
+            case.fail(CaseFault::Memory);
         }
     }
     say_members(case, cluster, number);
@@ -116,7 +116,7 @@ impl Call for Playing {
             Ok(()) => case.put("played"),
             Err(ReplayError::Read { at }) => return Some(("Read", at as u64)),
             Err(ReplayError::Write { written }) => return Some(("Write", written)),
-            Err(ReplayError::Memory { .. }) => case.fail(Fault::Memory),
+            Err(ReplayError::Memory { .. }) => case.fail(CaseFault::Memory),
             Err(ReplayError::Schedule(error)) => put!(case; ?error.kind, " ", error.line),
             Err(error) => case.debug(error),
         }
@@ -158,7 +158,7 @@ pub fn carried(case: &Case, rest: &str) {
 
 fn say_first(case: &Case, versions: Vec<AnyVersion>, count: usize) {
     let Ok(mut sorted) = SplitVersions::with_room(case.alloc, versions.len()) else {
-        return case.fail(Fault::Memory);
+        return case.fail(CaseFault::Memory);
     };
     sorted.put_first(versions, count);
     let (silences, log) = sorted.into_parts();

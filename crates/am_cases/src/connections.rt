@@ -7,9 +7,9 @@ use am_api_silences::{ServeFault, Served, serve};
 use am_connection::{Ended, SendError, connection, send};
 use am_gossip::{Frame, FrameError};
 use am_instance::{Instance, StepError};
-use am_part_cases::common::{Brittle, Call, Case, Cut, Fault, How, Pieces, cut, phrase};
+use am_part_cases::common::{Brittle, Call, Case, CaseFault, Cut, How, Pieces, cut, phrase};
 use am_part_cases::{given, put, say};
-use am_peers::Fault as Cause;
+use am_peers::ConnectionFault as Cause;
 use am_version_order::Moment;
 use std::io::Read;
 
@@ -101,7 +101,7 @@ fn fail_without_memory(case: &Case, seen: &Seen, reply: &[u8]) {
         _ => seen.ended.unsent.memory > 0 || reply.ends_with(b"\"out of memory\""),
     };
     if is_memory {
-        case.fail(Fault::Memory);
+        case.fail(CaseFault::Memory);
     }
 }
 
@@ -177,7 +177,7 @@ fn tried<R: Read>(
     let reply = writer.taken.as_slice();
     fail_without_memory(&part, &seen, reply);
     if matches!(seen.ended.fault, Some(Cause::Write { .. })) {
-        part.fail(Fault::Memory);
+        part.fail(CaseFault::Memory);
     }
     part.say_text(reply);
     let is_quiet = seen.ended.frames.is_empty() && seen.ended.fault.is_none();
@@ -220,7 +220,7 @@ impl Call for Sending<'_> {
             Ok(count) => put!(case; count, " bytes"),
             Err(SendError::Write { written }) => return Some(("Write", written)),
             Err(SendError::Length) => case.put("Length"),
-            Err(SendError::Memory) => case.fail(Fault::Memory),
+            Err(SendError::Memory) => case.fail(CaseFault::Memory),
         }
         None
     }

@@ -1,15 +1,15 @@
 //! The events of a member, in words, and the events that a schedule's line asks for.
 
+use am_cluster::{ResolvedEvent, to_event};
 use am_gossip::{Fed, Feeder, Frame, FrameError};
 use am_instance::{Config, Event, Place, Request};
 use am_matcher::Labels;
 use am_nflog::{Hashes, Receiver};
-use am_part_cases::common::{Case, Fault, Printed, first};
+use am_part_cases::common::{Case, CaseFault, Printed, first};
 use am_part_cases::{given, put, say};
 use am_runs::Source;
 use am_schedule::{Action, FaultKind, Line, Schedule, parse};
 use am_silence::Posted;
-use am_steps::{Asked, to_event};
 use am_wire::{Bytes, Text};
 
 /// Returns the event that words spell.
@@ -137,11 +137,11 @@ pub fn asks(case: &Case, config: &Config, text: &str) {
     }
 }
 
-fn say_asked(case: &Case, asked: &Asked) {
+fn say_asked(case: &Case, asked: &ResolvedEvent) {
     match asked {
-        Asked::Start => case.put("start\n"),
-        Asked::NoMember => case.put("no member\n"),
-        Asked::Event { event, source } => {
+        ResolvedEvent::Start => case.put("start\n"),
+        ResolvedEvent::NoMember => case.put("no member\n"),
+        ResolvedEvent::Event { event, source } => {
             say_event(case, event);
             if let Source::Written(sent) = source {
                 say!(case; "sent at ", @sent);
@@ -162,7 +162,7 @@ pub fn say_event(case: &Case, event: &Event) {
             case.print_bytes(" ", part.bytes.as_slice(), " none");
             case.put("\n");
         }
-        Event::Frame { .. } => case.fail(Fault::Words),
+        Event::Frame { .. } => case.fail(CaseFault::Words),
         Event::Notified {
             group_key,
             receiver,
@@ -220,6 +220,6 @@ fn say_request(case: &Case, request: &Request) {
             say!(case; ", by ", ?posted.created_by.as_str(), " ", ?posted.comment.as_str());
         }
         Request::List { filters } => say!(case; "list, ", filters.len(), " filters"),
-        _ => case.fail(Fault::Words),
+        _ => case.fail(CaseFault::Words),
     }
 }

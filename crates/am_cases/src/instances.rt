@@ -7,9 +7,9 @@ use crate::events::{asks, say_event};
 use crate::members::{begin, hold, say_config, say_state};
 use crate::steps::happen;
 use am_api_silences::{Read, read_request, to_bytes, to_event};
+use am_diagnostics::{TickVerdict, judge_tick};
 use am_instance::{Instance, Reply};
-use am_lines::{TickVerdict, judge_tick};
-use am_part_cases::common::{Case, Fault, Printed, cut};
+use am_part_cases::common::{Case, CaseFault, Printed, cut};
 use am_part_cases::{given, parts, say, say_some};
 use am_peers::{AddressWord, address_of, later_moment, number_within, peer_of, port_of};
 use am_silence::SilenceError;
@@ -81,12 +81,12 @@ fn say_asked_by(case: &Case, text: &str) {
     let bytes = case.unescaped(text);
     let request = match read_request(case.alloc, bytes.as_slice(), true) {
         Read::Whole(request) => request,
-        Read::Refused(refusal) if refusal.status == 500 => return case.fail(Fault::Memory),
-        _ => return case.fail(Fault::Words),
+        Read::Refused(refusal) if refusal.status == 500 => return case.fail(CaseFault::Memory),
+        _ => return case.fail(CaseFault::Words),
     };
     match to_event(case.alloc, &request, 0) {
         Ok(event) => say_event(case, &event),
-        Err(refusal) if refusal.status == 500 => case.fail(Fault::Memory),
+        Err(refusal) if refusal.status == 500 => case.fail(CaseFault::Memory),
         Err(refusal) => say!(case; refusal.status, " ", refusal.text),
     }
 }

@@ -10,7 +10,7 @@ mod members;
 mod steps;
 
 use am_instance::Instance;
-use am_part_cases::common::{Case, Fault, first};
+use am_part_cases::common::{Case, CaseFault, first};
 use std::io::Read;
 use std::process::ExitCode;
 
@@ -69,7 +69,7 @@ fn answer(rt: &HostRuntime, member: &mut Option<Instance>, is_whole: bool, line:
         if let Some(fault) = fault {
             is_printed &= println!(rt; "! {fault:?}").is_ok();
         }
-        if fault != Some(Fault::Memory) {
+        if fault != Some(CaseFault::Memory) {
             break;
         }
     }

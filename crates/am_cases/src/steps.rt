@@ -5,7 +5,7 @@ use crate::members::{name_at, print_held};
 use am_gossip::FrameError;
 use am_instance::{Config, Event, Instance, Outcome, Reply, StepError};
 use am_matcher::Ids;
-use am_part_cases::common::{Case, Fault, Printed, first};
+use am_part_cases::common::{Case, CaseFault, Printed, first};
 use am_part_cases::parts::print_frame;
 use am_part_cases::{given, put, say};
 use am_silence::{MeshSilence, SilenceError, State};
@@ -52,7 +52,7 @@ fn step(case: &Case, instance: &mut Instance, event: Event, now: Moment) {
     print_held(case, "holds ", instance);
     case.put("\n");
     if matches!(stepped, Err(StepError::Memory { .. })) {
-        case.fail(Fault::Memory);
+        case.fail(CaseFault::Memory);
     }
 }
 

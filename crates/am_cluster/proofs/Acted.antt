@@ -10,8 +10,8 @@ use Rattle.am_nflog.specs.Mesh.{IsMesh as IsLogMesh}
 use Rattle.am_gossip.specs.declared.frame.Frame.{Frame}
 use Rattle.am_instance.specs.declared.event.Event.{Event}
 use Rattle.am_instance.specs.declared.event.Event.TheVariants as events
-use Rattle.am_refusals.specs.declared.error.StepError.{StepError}
-use Rattle.am_refusals.specs.declared.error.StepError.TheVariants.{Memory, MomentBack, UnknownPeer, Frame as FrameFault}
+use Rattle.am_gossip.specs.declared.refusals.StepError.{StepError}
+use Rattle.am_gossip.specs.declared.refusals.StepError.TheVariants.{Memory, MomentBack, UnknownPeer, Frame as FrameFault}
 use Rattle.am_instance.specs.declared.reply.Made.{Made}
 use Rattle.am_instance.specs.declared.reply.Outcome.{Outcome}
 use Rattle.am_instance.specs.declared.reply.Reply.{Reply}
@@ -24,11 +24,11 @@ use Rattle.am_instance.specs.Steps.{IsAccepted, brought, delivers}
 use Rattle.am_instance.specs.OneStep.{IsStep}
 use Rattle.am_runs.specs.declared.step.Source.{Source}
 use Rattle.am_runs.specs.Steps.{RunStep}
-use Rattle.am_steps.specs.BothStates.{StateOf}
-use Rattle.am_steps.specs.Contents.{IsValue}
+use Rattle.am_cluster.specs.BothStates.{StateOf}
+use Rattle.am_cluster.specs.Contents.{IsValue}
 use Rattle.am_runs.specs.Runs.{IsPossible}
-use Rattle.am_steps.specs.Recorded.{AreInFlight, AreValues, HasSource, event_step}
-use Rattle.am_steps.specs.StepLaws.{StepsArePossible}
+use Rattle.am_cluster.specs.Recorded.{AreInFlight, AreValues, HasSource, event_step}
+use Rattle.am_cluster.specs.StepLaws.{StepsArePossible}
 use Rattle.am_cluster.specs.Acting.{CanHappenIn}
 use Rattle.am_cluster.specs.declared.error.ClusterError.{ClusterError}
 use Rattle.am_cluster.specs.declared.recording.Kind.TheVariants as kinds

@@ -10,8 +10,8 @@ use Rattle.am_instance.specs.InstanceStates.{InstanceState}
 use Rattle.am_instance.specs.OneStep.{IsStep}
 use Rattle.am_instance.specs.Replies.{IsReply}
 use Rattle.am_instance.specs.Steps.{collects}
-use Rattle.am_refusals.specs.declared.error.StepError.{StepError}
-use Rattle.am_refusals.specs.declared.error.StepError.TheVariants as step_errors
+use Rattle.am_gossip.specs.declared.refusals.StepError.{StepError}
+use Rattle.am_gossip.specs.declared.refusals.StepError.TheVariants as step_errors
 use Rattle.am_instance.specs.declared.event.Event.{Event}
 use Rattle.am_instance.specs.declared.reply.Made.{Made}
 use Rattle.am_instance.specs.declared.reply.Outcome.{Outcome}
@@ -22,11 +22,11 @@ use Rattle.am_runs.specs.Steps.RunStep.{Started}
 use Rattle.am_schedule.specs.declared.step.Action.{Action}
 use Rattle.am_schedule.specs.declared.step.Action.TheVariants as actions
 use Rattle.am_schedule.specs.declared.step.LineEvent.{LineEvent}
-use Rattle.am_steps.specs.declared.asked.Asked.{Asked}
-use Rattle.am_steps.specs.declared.asked.Asked.TheVariants as asked
-use Rattle.am_steps.specs.BothStates.{StateOf, log_state, silence_state}
-use Rattle.am_steps.specs.Events.{asked_by}
-use Rattle.am_steps.specs.Recorded.{event_step}
+use Rattle.am_cluster.specs.declared.resolved_event.ResolvedEvent.{ResolvedEvent}
+use Rattle.am_cluster.specs.declared.resolved_event.ResolvedEvent.TheVariants as asked
+use Rattle.am_cluster.specs.BothStates.{StateOf, log_state, silence_state}
+use Rattle.am_cluster.specs.LineEvents.{asked_by}
+use Rattle.am_cluster.specs.Recorded.{event_step}
 use Rattle.am_cluster.specs.Answered.{Asks, GoesOnBy, Replies, moment_of}
 use Rattle.am_cluster.specs.declared.error.ClusterError.{ClusterError}
 use Rattle.am_cluster.specs.declared.error.ClusterError.TheVariants as errors
@@ -105,18 +105,18 @@ module _ (old new : World) (at line place : ℕ) (replica : Replica) (reply : Re
     log = refl;
   }
 
-  does_go : (what : Asked) → IsCarriedOut old place replica what at line (Ok reply) new → GoesOnBy old new at
+  does_go : (what : ResolvedEvent) → IsCarriedOut old place replica what at line (Ok reply) new → GoesOnBy old new at
   does_go (asked.Event e source) has = happened_goes e source has
   does_go asked.Start is = started_goes is
   does_go asked.NoMember never = absurd never
 
-  by_cause : (what : Asked) → IsDone old place replica what at line (Ok reply) new → (o : Option ClusterError) → refused_anyway replica what at ≡ o →
+  by_cause : (what : ResolvedEvent) → IsDone old place replica what at line (Ok reply) new → (o : Option ClusterError) → refused_anyway replica what at ≡ o →
       IsCarriedOut old place replica what at line (Ok reply) new
   by_cause what done None none = elim (done.done none) [ inl unmade ↦ absurd (let error = unmade.error in cc) | inr does ↦ does ]
   by_cause what done (Some cause) stands = absurd (never_refused old new line reply cause (mark_of cause place at) (done.refused cause stands))
 
   -- what was asked of a member was carried out, where that was answered
-  pub done_answered : (what : Asked) → IsDone old place replica what at line (Ok reply) new → IsCarriedOut old place replica what at line (Ok reply) new
+  pub done_answered : (what : ResolvedEvent) → IsDone old place replica what at line (Ok reply) new → IsCarriedOut old place replica what at line (Ok reply) new
   done_answered what done = by_cause what done (refused_anyway replica what at) refl
 
 module _ (old new : World) (is : IsWorld old) (at line : ℕ) (reply : Reply) where

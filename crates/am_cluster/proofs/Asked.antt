@@ -8,13 +8,13 @@ use Rattle.am_nflog.specs.Mesh.{mesh_version as entry_version}
 use Rattle.am_instance.specs.Configs.{Settings, place_named}
 use Rattle.am_instance.specs.Deliveries.{Delivery}
 use Rattle.am_instance.specs.Deliveries.Delivery.{OfSilence, OfEntry}
-use Rattle.am_steps.specs.Contents.{silences_in, entries_in}
+use Rattle.am_cluster.specs.Contents.{silences_in, entries_in}
 use Rattle.am_schedule.specs.declared.step.LineEvent.{LineEvent}
 use Rattle.am_schedule.specs.declared.step.LineEvent.TheVariants as lines
 use Rattle.am_schedule.specs.declared.step.Versions.{Versions}
-use Rattle.am_steps.specs.declared.asked.Asked.{Asked}
-use Rattle.am_steps.specs.Events.{Brings, IsSentBefore, asked_by, brought_by, from, pull}
-use Rattle.am_steps.specs.Versions.{sent_at, updated, versions_of}
+use Rattle.am_cluster.specs.declared.resolved_event.ResolvedEvent.{ResolvedEvent}
+use Rattle.am_cluster.specs.LineEvents.{Brings, IsSentBefore, asked_by, brought_by, from, pull}
+use Rattle.am_cluster.specs.Versions.{sent_at, updated, versions_of}
 use Rattle.am_cluster.specs.Steps.{Fits}
 
 -- what holds of all deliveries holds of those of a state
@@ -52,10 +52,10 @@ line_fits config lines.Tick sent brings = λ members now. (λ before. refl, λ b
 line_fits config (lines.Pull peer) sent brings = pull_fits (place_named config peer)
 line_fits config lines.Start sent brings = tt
 
-pub asked_fits : (config : Settings) (line : LineEvent) (asked : Asked) → asked ≡ asked_by config line → IsSentBefore asked (brought_by line) → Brings asked (brought_by line) → Fits asked
+pub asked_fits : (config : Settings) (line : LineEvent) (asked : ResolvedEvent) → asked ≡ asked_by config line → IsSentBefore asked (brought_by line) → Brings asked (brought_by line) → Fits asked
 asked_fits config line asked same sent brings =
     subst Fits (sym same) (line_fits config line (subst (λ a. IsSentBefore a (brought_by line)) same sent) (subst (λ a. Brings a (brought_by line)) same brings))
 
-pub all_fit : {E : Type 0} (config : Settings) (line : LineEvent) (result : Result Asked E) → IfOk result (λ a. a ≡ asked_by config line) → IfOk result (λ a. IsSentBefore a (brought_by line)) → IfOk result (λ a. Brings a (brought_by line)) → IfOk result Fits
+pub all_fit : {E : Type 0} (config : Settings) (line : LineEvent) (result : Result ResolvedEvent E) → IfOk result (λ a. a ≡ asked_by config line) → IfOk result (λ a. IsSentBefore a (brought_by line)) → IfOk result (λ a. Brings a (brought_by line)) → IfOk result Fits
 all_fit config line (Ok asked) same sent brings = asked_fits config line asked same sent brings
 all_fit config line (Err e) same sent brings = tt

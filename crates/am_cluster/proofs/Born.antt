@@ -15,7 +15,7 @@ use Rattle.am_instance.specs.Configs.{HasTwice, IsEmptyName, IsLongName, Setting
 use Rattle.am_instance.specs.InstanceStates.{InstanceState}
 use Rattle.am_runs.specs.Steps.{RunStep}
 use Rattle.am_runs.specs.Members.{member_of}
-use Rattle.am_steps.specs.BothStates.{StateOf, log_state, silence_state}
+use Rattle.am_cluster.specs.BothStates.{StateOf, log_state, silence_state}
 use Rattle.am_cluster.specs.declared.flight.Flight.{Flight}
 use Rattle.am_cluster.specs.Worlds.{Replica}
 use Rattle.am_cluster.specs.Beginnings.{AreUnborn, newborn, newborns}

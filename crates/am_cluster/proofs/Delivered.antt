@@ -12,9 +12,9 @@ use Rattle.am_instance.specs.declared.event.Event.TheVariants as events
 use Rattle.am_instance.specs.declared.reply.Reply.{Reply}
 use Rattle.am_runs.specs.declared.step.Source.TheVariants.{Arrived}
 use Rattle.am_runs.specs.Steps.{flights_of}
-use Rattle.am_steps.specs.BothStates.{log_state, silence_state}
-use Rattle.am_steps.specs.Contents.{carries}
-use Rattle.am_steps.specs.Recorded.{HasSource}
+use Rattle.am_cluster.specs.BothStates.{log_state, silence_state}
+use Rattle.am_cluster.specs.Contents.{carries}
+use Rattle.am_cluster.specs.Recorded.{HasSource}
 use Rattle.am_cluster.specs.BothRuns.{RunOf, log_run, silence_run}
 use Rattle.am_cluster.specs.declared.flight.Arrival.{Arrival}
 use Rattle.am_cluster.specs.declared.error.ClusterError.{ClusterError}

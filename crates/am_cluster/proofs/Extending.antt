@@ -16,11 +16,11 @@ use Rattle.am_runs.specs.Steps.RunStep.{Back, Refused, Saved, Started, Stopped}
 use Rattle.am_schedule.specs.declared.step.Action.{Action}
 use Rattle.am_schedule.specs.declared.step.Action.TheVariants as actions
 use Rattle.am_schedule.specs.declared.step.LineEvent.{LineEvent}
-use Rattle.am_steps.specs.BothStates.{log_state, silence_state}
-use Rattle.am_steps.specs.declared.asked.Asked.{Asked}
-use Rattle.am_steps.specs.declared.asked.Asked.TheVariants as asked
-use Rattle.am_steps.specs.Events.{asked_by}
-use Rattle.am_steps.specs.Recorded.{event_step}
+use Rattle.am_cluster.specs.BothStates.{log_state, silence_state}
+use Rattle.am_cluster.specs.declared.resolved_event.ResolvedEvent.{ResolvedEvent}
+use Rattle.am_cluster.specs.declared.resolved_event.ResolvedEvent.TheVariants as asked
+use Rattle.am_cluster.specs.LineEvents.{asked_by}
+use Rattle.am_cluster.specs.Recorded.{event_step}
 use Rattle.am_cluster.specs.Answered.{moment_of}
 use Rattle.am_cluster.specs.declared.error.ClusterError.{ClusterError}
 use Rattle.am_cluster.specs.declared.error.ClusterError.TheVariants as errors
@@ -121,17 +121,17 @@ module _ (old new : World) (at line place : ℕ) (replica : Replica) (result : R
   started_extends (Err (errors.MomentBack last)) is = absurd is
   started_extends (Err errors.UnknownPeer) is = absurd is
 
-  carried_extends : (what : Asked) → IsCarriedOut old place replica what at line result new → Extends old new (Some at) line
+  carried_extends : (what : ResolvedEvent) → IsCarriedOut old place replica what at line result new → Extends old new (Some at) line
   carried_extends (asked.Event e source) has = happened_extends e source has
   carried_extends asked.Start is = started_extends result is
   carried_extends asked.NoMember never = absurd never
 
-  by_cause : (what : Asked) → IsDone old place replica what at line result new → (o : Option ClusterError) → refused_anyway replica what at ≡ o → Extends old new (Some at) line
+  by_cause : (what : ResolvedEvent) → IsDone old place replica what at line result new → (o : Option ClusterError) → refused_anyway replica what at ≡ o → Extends old new (Some at) line
   by_cause what done None none = elim (done.done none) [ inl unmade ↦ unchanged (Some at) line old new unmade.world | inr does ↦ carried_extends what does ]
   by_cause what done (Some cause) stands =
       refused_extends (Some at) line old new cause (mark_of cause place at) result (mark_moment Mesh cause place at) (mark_moment LogMesh cause place at) (done.refused cause stands)
 
-  pub done_extends : (what : Asked) → IsDone old place replica what at line result new → Extends old new (Some at) line
+  pub done_extends : (what : ResolvedEvent) → IsDone old place replica what at line result new → Extends old new (Some at) line
   done_extends what done = by_cause what done (refused_anyway replica what at) refl
 
 module _ (old new : World) (line place : ℕ) (replica : Replica) where

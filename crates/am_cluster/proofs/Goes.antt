@@ -8,9 +8,9 @@ use Rattle.am_nflog.specs.Mesh.{Mesh as LogMesh}
 use Rattle.am_instance.specs.InstanceStates.{HoldsWhole, kept_silences, kept_log}
 use Rattle.am_runs.specs.Steps.{RunStep, flights_by, flights_of, is_at}
 use Rattle.am_runs.specs.Members.{Member, stepped, member_of}
-use Rattle.am_steps.specs.BothStates.{StateOf, log_state, silence_state}
-use Rattle.am_steps.specs.Contents.{carries}
-use Rattle.am_steps.specs.Recorded.{HasGoneThrough}
+use Rattle.am_cluster.specs.BothStates.{StateOf, log_state, silence_state}
+use Rattle.am_cluster.specs.Contents.{carries}
+use Rattle.am_cluster.specs.Recorded.{HasGoneThrough}
 use Rattle.am_cluster.specs.declared.flight.Flight.{Flight}
 use Rattle.am_cluster.specs.Worlds.{Replica, World, replica_at, with_replica, written}
 use Rattle.am_cluster.specs.Ties.{IsTied, IsMember, IsFlying, IsWorld, WasHandedOut, WasSent, names_of, saved_stand}

@@ -10,8 +10,8 @@ use Rattle.am_merge.proofs.Indexes.{Contains-cases}
 use Rattle.am_collect.specs.Kept.{Kept}
 use Rattle.am_gossip.specs.declared.frame.Frame.{Frame}
 use Rattle.am_instance.specs.declared.event.Event.{Event}
-use Rattle.am_refusals.specs.declared.error.StepError.{StepError}
-use Rattle.am_refusals.specs.declared.error.StepError.TheVariants.{Memory, MomentBack, UnknownPeer, Frame as FrameFault}
+use Rattle.am_gossip.specs.declared.refusals.StepError.{StepError}
+use Rattle.am_gossip.specs.declared.refusals.StepError.TheVariants.{Memory, MomentBack, UnknownPeer, Frame as FrameFault}
 use Rattle.am_instance.specs.declared.reply.Outcome.{Outcome}
 use Rattle.am_wire.specs.Unknown.{StaysWhole}
 use Rattle.am_silence.specs.Mesh.{without_unknown}
@@ -24,12 +24,12 @@ use Rattle.am_runs.specs.declared.step.Source.{Source}
 use Rattle.am_runs.specs.Steps.{RunStep, flights_by, flights_of, is_at}
 use Rattle.am_runs.specs.Steps.RunStep.{Took, Ticked}
 use Rattle.am_runs.specs.Members.{Member, stepped, member_of, map_of}
-use Rattle.am_steps.specs.BothStates.{StateOf, log_state, silence_state}
-use Rattle.am_steps.specs.Contents.{carries}
-use Rattle.am_steps.specs.Recorded.{AreInFlight, HasGoneThrough, event_step, flights_in, sent_in}
-use Rattle.am_steps.proofs.Going.{members_go_on, own_member_changes}
-use Rattle.am_steps.proofs.Lending.{frames_are_flights}
-use Rattle.am_steps.proofs.States.{IsStateOf, of_log, of_silences}
+use Rattle.am_cluster.specs.BothStates.{StateOf, log_state, silence_state}
+use Rattle.am_cluster.specs.Contents.{carries}
+use Rattle.am_cluster.specs.Recorded.{AreInFlight, HasGoneThrough, event_step, flights_in, sent_in}
+use Rattle.am_cluster.proofs.Going.{members_go_on, own_member_changes}
+use Rattle.am_cluster.proofs.Lending.{frames_are_flights}
+use Rattle.am_cluster.proofs.States.{IsStateOf, of_log, of_silences}
 use Rattle.am_cluster.specs.declared.flight.Flight.{Flight}
 use Rattle.am_cluster.specs.Worlds.{Replica, World, replica_at, sent_on, with_replica, written}
 use Rattle.am_cluster.specs.BothRuns.{RunOf, log_run, silence_run}

@@ -13,8 +13,8 @@ use Rattle.am_instance.specs.Sendings.{whole_state}
 use Rattle.am_instance.specs.InstanceStates.{InstanceState, HoldsWhole}
 use Rattle.am_runs.specs.declared.step.Source.TheVariants.{Lent}
 use Rattle.am_runs.specs.Runs.{AreFrom}
-use Rattle.am_steps.specs.Contents.{carries}
-use Rattle.am_steps.specs.Recorded.{HasGoneThrough}
+use Rattle.am_cluster.specs.Contents.{carries}
+use Rattle.am_cluster.specs.Recorded.{HasGoneThrough}
 use Rattle.am_cluster.specs.Worlds.{Replica, World, replica_at}
 use Rattle.am_cluster.specs.Lives.{OfMember}
 use Rattle.am_cluster.specs.Settling.{CanLend}

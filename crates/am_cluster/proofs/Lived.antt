@@ -9,7 +9,7 @@ use Rattle.am_instance.specs.InstanceStates.{InstanceState, kept_silences, kept_
 use Rattle.am_runs.specs.Steps.{RunStep}
 use Rattle.am_runs.specs.Steps.RunStep.{Saved, Stopped, Started}
 use Rattle.am_runs.specs.Members.{last_of, member_of}
-use Rattle.am_steps.specs.BothStates.{log_state, silence_state}
+use Rattle.am_cluster.specs.BothStates.{log_state, silence_state}
 use Rattle.am_cluster.specs.Accounts.{Account}
 use Rattle.am_cluster.specs.Worlds.{Replica, World, replica_at, with_replica, written}
 use Rattle.am_cluster.specs.declared.flight.Flight.{Flight}

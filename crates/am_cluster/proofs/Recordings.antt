@@ -4,15 +4,15 @@ use Rattle.std.proofs.Common.{◌≡◌, ◌⊎◌, inl, inr, ℕ, Bool, true, f
 use Rattle.am_gossip.specs.declared.frame.Frame.{Frame}
 use Rattle.am_instance.specs.declared.event.Event.{Event}
 use Rattle.am_instance.specs.declared.event.Event.TheVariants as events
-use Rattle.am_refusals.specs.declared.error.StepError.TheVariants.{Memory}
+use Rattle.am_gossip.specs.declared.refusals.StepError.TheVariants.{Memory}
 use Rattle.am_instance.specs.declared.reply.Outcome.{Outcome}
 use Rattle.am_instance.specs.declared.reply.Reply.{Reply}
 use Rattle.am_instance.specs.Steps.{brought, collects, delivers}
 use Rattle.am_runs.specs.Steps.RunStep.{Took, Ticked}
-use Rattle.am_steps.specs.BothStates.{log_state, silence_state}
-use Rattle.am_steps.specs.Contents.{delivery_of, silences_in, entries_in}
-use Rattle.am_steps.specs.declared.carried.version.AnyVersion.{AnyVersion}
-use Rattle.am_steps.specs.Recorded.{AreInFlight, sent_in}
+use Rattle.am_cluster.specs.BothStates.{log_state, silence_state}
+use Rattle.am_cluster.specs.Contents.{delivery_of, silences_in, entries_in}
+use Rattle.am_cluster.specs.declared.carried.version.AnyVersion.{AnyVersion}
+use Rattle.am_cluster.specs.Recorded.{AreInFlight, sent_in}
 use Rattle.am_cluster.specs.Accounts.{Account}
 use Rattle.am_cluster.specs.Reports.{IsPossibleForSilences, IsPossibleForLog}
 use Rattle.am_cluster.specs.declared.recording.Kind.{Kind}

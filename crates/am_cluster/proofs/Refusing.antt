@@ -5,8 +5,8 @@ use Rattle.std.proofs.lemmas.Bool.Decides.{nat_tests}
 use Rattle.am_runs.specs.Members.{Member, last_of, member_of, stepped}
 use Rattle.am_instance.specs.Steps.{fault_of, knows_peer, peer_of}
 use Rattle.am_instance.specs.declared.event.Event.{Event}
-use Rattle.am_steps.specs.declared.asked.Asked.{Asked}
-use Rattle.am_steps.specs.declared.asked.Asked.TheVariants as asked
+use Rattle.am_cluster.specs.declared.resolved_event.ResolvedEvent.{ResolvedEvent}
+use Rattle.am_cluster.specs.declared.resolved_event.ResolvedEvent.TheVariants as asked
 use Rattle.am_cluster.specs.declared.error.ClusterError.{ClusterError}
 use Rattle.am_cluster.specs.declared.error.ClusterError.TheVariants as errors
 use Rattle.am_cluster.specs.declared.journal.mark.Mark.{Mark}
@@ -44,7 +44,7 @@ module _ (now : ℕ) where
   pub late_event : (known : Bool) (replica : Replica) (cause : ClusterError) (told : ℕ) → event_refusal known replica now ≡ Some cause → cause ≡ errors.MomentBack told → now < replica.stand.last
   late_event known replica cause told here back = by_event known replica.runs replica.stand.last cause told here back
 
-  pub late_cause : (replica : Replica) (what : Asked) (cause : ClusterError) (told : ℕ) → refused_anyway replica what now ≡ Some cause → cause ≡ errors.MomentBack told → now < replica.stand.last
+  pub late_cause : (replica : Replica) (what : ResolvedEvent) (cause : ClusterError) (told : ℕ) → refused_anyway replica what now ≡ Some cause → cause ≡ errors.MomentBack told → now < replica.stand.last
   late_cause replica (asked.Event e source) cause told here back = late_event (knows_peer replica.stand.config (peer_of e)) replica cause told here back
   late_cause replica asked.NoMember cause told here back = late_event false replica cause told here back
   late_cause replica asked.Start cause told here back = by_start replica.runs replica.stand.last cause told here back

@@ -24,19 +24,19 @@ use Rattle.am_collect.specs.Events.{after, after_all}
 use Rattle.am_collect.specs.Events.MapEvent.{Delivered}
 use Rattle.am_gossip.specs.declared.frame.Frame.{Frame}
 use Rattle.am_instance.specs.declared.event.Event.TheVariants as events
-use Rattle.am_refusals.specs.declared.error.StepError.{StepError}
-use Rattle.am_refusals.specs.declared.error.StepError.TheVariants.{Memory, MomentBack, UnknownPeer, Frame as FrameFault}
+use Rattle.am_gossip.specs.declared.refusals.StepError.{StepError}
+use Rattle.am_gossip.specs.declared.refusals.StepError.TheVariants.{Memory, MomentBack, UnknownPeer, Frame as FrameFault}
 use Rattle.am_instance.specs.declared.reply.Outcome.{Outcome}
 use Rattle.am_instance.specs.declared.reply.Reply.{Reply}
 use Rattle.am_instance.specs.Deliveries.Delivery.{OfEntry, OfSilence}
 use Rattle.am_instance.specs.OneStep.{IsStep}
 use Rattle.am_instance.specs.InstanceStates.{InstanceState}
 use Rattle.am_instance.specs.Steps.{AreSwept, brought, delivers}
-use Rattle.am_steps.specs.BothStates.{StateOf, log_state, silence_state}
-use Rattle.am_steps.specs.Contents.{IsReadable, held_in}
-use Rattle.am_steps.proofs.RoundTrip.{All-unmap, whole_carries}
-use Rattle.am_steps.proofs.Making.{frame_makes_nothing}
-use Rattle.am_steps.proofs.States.{IsStateOf, of_log, of_silences, takings}
+use Rattle.am_cluster.specs.BothStates.{StateOf, log_state, silence_state}
+use Rattle.am_cluster.specs.Contents.{IsReadable, held_in}
+use Rattle.am_cluster.proofs.RoundTrip.{All-unmap, whole_carries}
+use Rattle.am_cluster.proofs.Making.{frame_makes_nothing}
+use Rattle.am_cluster.proofs.States.{IsStateOf, of_log, of_silences, takings}
 use Rattle.am_runs.specs.declared.step.Source.{Source}
 use Rattle.am_runs.specs.declared.step.Source.TheVariants.{Lent, Made}
 use Rattle.am_runs.specs.Settles.{join_of}

@@ -4,7 +4,7 @@ use Rattle.std.specs.Prelude.{MatchOption}
 use Rattle.am_instance.specs.declared.reply.Reply.{Reply}
 use Rattle.am_schedule.specs.declared.step.Action.{Action}
 use Rattle.am_schedule.specs.declared.step.Action.TheVariants as actions
-use Rattle.am_steps.specs.declared.asked.Asked.{Asked}
+use Rattle.am_cluster.specs.declared.resolved_event.ResolvedEvent.{ResolvedEvent}
 use Rattle.am_cluster.specs.declared.error.ClusterError.{ClusterError}
 use Rattle.am_cluster.specs.Delivering.{IsDelivery}
 use Rattle.am_cluster.specs.Doing.{IsCarriedOut, IsDone}
@@ -13,7 +13,7 @@ use Rattle.am_cluster.specs.Steps.{IsStepped}
 use Rattle.am_cluster.specs.Worlds.{Replica, World}
 
 -- what came of what is asked of a member, by the first cause that stands
-pub done_by : (old new : World) (place : ℕ) (replica : Replica) (what : Asked) (now line : ℕ) (result : Result Reply ClusterError) (o : Option ClusterError) →
+pub done_by : (old new : World) (place : ℕ) (replica : Replica) (what : ResolvedEvent) (now line : ℕ) (result : Result Reply ClusterError) (o : Option ClusterError) →
     o ≡ refused_anyway replica what now →
     MatchOption o (IsUnmade old result new ⊎ IsCarriedOut old place replica what now line result new) (λ cause. IsRefused cause (mark_of cause place now) old line result new) →
     IsDone old place replica what now line result new
@@ -23,7 +23,7 @@ done_by old new place replica what now line result o told came =
     record { refused = λ cause stands. subst P stands is; done = λ none. subst P none is }
 
 -- no cause stands, and this is what was asked
-pub done_as : (old new : World) (place : ℕ) (replica : Replica) (what came : Asked) (now line : ℕ) (result : Result Reply ClusterError) →
+pub done_as : (old new : World) (place : ℕ) (replica : Replica) (what came : ResolvedEvent) (now line : ℕ) (result : Result Reply ClusterError) →
     None ≡ refused_anyway replica what now → came ≡ what → IsUnmade old result new ⊎ IsCarriedOut old place replica came now line result new →
     IsDone old place replica what now line result new
 done_as old new place replica what came now line result told same done =

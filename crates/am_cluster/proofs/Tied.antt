@@ -6,7 +6,7 @@ use Rattle.am_runs.specs.Steps.{RunStep, is_at}
 use Rattle.am_runs.specs.Steps.RunStep.{Saved, Stopped, Started}
 use Rattle.am_runs.specs.Members.{Member, stepped, member_of}
 use Rattle.am_runs.proofs.Pasts.{member_of-push, last-one, map_of-append}
-use Rattle.am_steps.specs.BothStates.{StateOf}
+use Rattle.am_cluster.specs.BothStates.{StateOf}
 use Rattle.am_cluster.specs.Ties.{IsTied}
 
 pub same_where : {A : Type 0} (b : Bool) (m : A) → cond b m m ≡ m

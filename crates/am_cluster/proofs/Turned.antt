@@ -7,8 +7,8 @@ use Rattle.am_collect.specs.Events.MapEvent.{Collected}
 use Rattle.am_gossip.specs.declared.frame.Frame.{Frame}
 use Rattle.am_instance.specs.declared.event.Event.{Event}
 use Rattle.am_instance.specs.declared.event.Event.TheVariants as events
-use Rattle.am_refusals.specs.declared.error.StepError.{StepError}
-use Rattle.am_refusals.specs.declared.error.StepError.TheVariants.{Memory, MomentBack, UnknownPeer, Frame as FrameFault}
+use Rattle.am_gossip.specs.declared.refusals.StepError.{StepError}
+use Rattle.am_gossip.specs.declared.refusals.StepError.TheVariants.{Memory, MomentBack, UnknownPeer, Frame as FrameFault}
 use Rattle.am_instance.specs.declared.reply.Outcome.{Outcome}
 use Rattle.am_instance.specs.declared.reply.Reply.{Reply}
 use Rattle.am_instance.specs.Deliveries.{Delivery, events_at, to_silences}
@@ -16,7 +16,7 @@ use Rattle.am_instance.specs.InstanceStates.{InstanceState}
 use Rattle.am_instance.specs.Configs.{Settings}
 use Rattle.am_instance.specs.Steps.{collects, delivers, fault_of, knows_peer, peer_of}
 use Rattle.am_instance.specs.OneStep.{IsStep}
-use Rattle.am_steps.proofs.States.{last_arrivals}
+use Rattle.am_cluster.proofs.States.{last_arrivals}
 use Rattle.am_runs.specs.declared.step.Source.{Source}
 use Rattle.am_runs.specs.declared.step.Source.TheVariants.{Lent, Made}
 use Rattle.am_cluster.specs.declared.error.ClusterError.{ClusterError}

@@ -2,7 +2,7 @@
 use Rattle.am_wire.specs.declared.unknown.Unknown.TheVariants.{Drop}
 use Rattle.std.specs.Prelude.{◌≡◌, ℕ, true, length, List, All, Result}
 use Rattle.am_instance.specs.declared.event.Event.{Event}
-use Rattle.am_refusals.specs.declared.error.StepError.{StepError}
+use Rattle.am_gossip.specs.declared.refusals.StepError.{StepError}
 use Rattle.am_instance.specs.declared.reply.Outcome.{Outcome}
 use Rattle.am_instance.specs.declared.reply.Reply.{Reply}
 use Rattle.am_instance.specs.InstanceStates.{InstanceState, HoldsWhole}
@@ -10,8 +10,8 @@ use Rattle.am_instance.specs.Steps.{IsAccepted}
 use Rattle.am_instance.specs.OneStep.{IsStep}
 use Rattle.am_runs.specs.Members.{member_of}
 use Rattle.am_runs.specs.Steps.{RunStep}
-use Rattle.am_steps.specs.BothStates.{StateOf, log_state, silence_state}
-use Rattle.am_steps.specs.Recorded.{HasGoneThrough, HasSource}
+use Rattle.am_cluster.specs.BothStates.{StateOf, log_state, silence_state}
+use Rattle.am_cluster.specs.Recorded.{HasGoneThrough, HasSource}
 use Rattle.am_cluster.specs.Accounts.{Account}
 use Rattle.am_cluster.specs.declared.error.ClusterError.{ClusterError}
 use Rattle.am_cluster.specs.declared.flight.Flight.{Flight}

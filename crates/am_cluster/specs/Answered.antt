@@ -8,8 +8,8 @@ use Rattle.am_schedule.specs.declared.step.Action.{Action}
 use Rattle.am_schedule.specs.declared.step.Action.TheVariants as actions
 use Rattle.am_schedule.specs.declared.step.LineEvent.{LineEvent}
 use Rattle.am_runs.specs.declared.step.Source.{Source}
-use Rattle.am_steps.specs.declared.asked.Asked.TheVariants as asked
-use Rattle.am_steps.specs.Events.{asked_by}
+use Rattle.am_cluster.specs.declared.resolved_event.ResolvedEvent.TheVariants as asked
+use Rattle.am_cluster.specs.LineEvents.{asked_by}
 use Rattle.am_cluster.specs.Replicas.{GoesOnAt}
 use Rattle.am_cluster.specs.Steps.{place_in}
 use Rattle.am_cluster.specs.Worlds.{Replica, World, replica_at}

@@ -4,7 +4,7 @@ use Rattle.am_silence.specs.Mesh.{Mesh}
 use Rattle.am_nflog.specs.Mesh.{Mesh as LogMesh}
 use Rattle.am_nflog.specs.LogKeys.{LogKey}
 use Rattle.am_runs.specs.Steps.{RunStep}
-use Rattle.am_steps.specs.BothStates.{StateOf, log_state, silence_state}
+use Rattle.am_cluster.specs.BothStates.{StateOf, log_state, silence_state}
 use Rattle.am_cluster.specs.Worlds.{Replica, World}
 
 -- A run with the types K of its keys and X of its versions: its state, what every step so far was to that, and what is saved of it

@@ -4,8 +4,8 @@ use Rattle.am_wire.specs.declared.unknown.Unknown.TheVariants.{Drop}
 use Rattle.am_instance.specs.declared.event.Event.TheVariants as events
 use Rattle.am_instance.specs.declared.reply.Reply.{Reply}
 use Rattle.am_runs.specs.declared.step.Source.TheVariants.{Arrived}
-use Rattle.am_steps.specs.declared.asked.Asked.{Asked}
-use Rattle.am_steps.specs.declared.asked.Asked.TheVariants as asked
+use Rattle.am_cluster.specs.declared.resolved_event.ResolvedEvent.{ResolvedEvent}
+use Rattle.am_cluster.specs.declared.resolved_event.ResolvedEvent.TheVariants as asked
 use Rattle.am_cluster.specs.declared.flight.Arrival.{Arrival}
 use Rattle.am_cluster.specs.declared.error.ClusterError.{ClusterError}
 use Rattle.am_cluster.specs.declared.error.ClusterError.TheVariants as errors
@@ -30,7 +30,7 @@ pub record IsArrival (world : World) (number : ℕ) (arrival : Arrival) : Type 0
   pub unknown : OfMember world flight.addressee (λ replica. replica.stand.config.unknown ≡ Drop)
 
 -- the step that the frame of this index asks of its addressee
-abbrev pub delivery : Flight → ℕ → Asked
+abbrev pub delivery : Flight → ℕ → ResolvedEvent
 delivery flight index = asked.Event (events.Frame flight.sender flight.frame) (Arrived index)
 
 -- the frame of this number comes to its addressee, as an event there; it stays in flight

@@ -1,3 +1,11 @@
+pub mod Contents
+pub mod States
+pub mod BothStates
+pub mod Recorded
+pub mod StepLaws
+pub mod Versions
+pub mod LineEvents
+pub mod LineLaws
 pub mod Twins
 pub mod Marks
 pub mod Accounts

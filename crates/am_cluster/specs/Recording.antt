@@ -4,8 +4,8 @@ use Rattle.std.specs.Prelude.{◌≡◌, ℕ, ◌<◌, ◌≤◌, true, ◌-◌,
 use Rattle.am_gossip.specs.declared.frame.Frame.{Frame}
 use Rattle.am_instance.specs.declared.event.Event.{Event}
 use Rattle.am_instance.specs.declared.event.Event.TheVariants as events
-use Rattle.am_refusals.specs.declared.error.StepError.{StepError}
-use Rattle.am_refusals.specs.declared.error.StepError.TheVariants as step_errors
+use Rattle.am_gossip.specs.declared.refusals.StepError.{StepError}
+use Rattle.am_gossip.specs.declared.refusals.StepError.TheVariants as step_errors
 use Rattle.am_instance.specs.declared.reply.Made.{Made}
 use Rattle.am_instance.specs.declared.reply.Outcome.{Outcome}
 use Rattle.am_instance.specs.declared.reply.Reply.{Reply}
@@ -13,10 +13,10 @@ use Rattle.am_instance.specs.Replies.{IsNothing}
 use Rattle.am_instance.specs.Steps.{brought, collects, delivers}
 use Rattle.am_runs.specs.Runs.{IsPossible}
 use Rattle.am_runs.specs.Steps.{RunStep, flights_of}
-use Rattle.am_steps.specs.BothStates.{StateOf, log_state, silence_state}
-use Rattle.am_steps.specs.Contents.{delivery_of, silences_in, entries_in}
-use Rattle.am_steps.specs.States.{Sorted}
-use Rattle.am_steps.specs.Recorded.{AreInFlight, event_step}
+use Rattle.am_cluster.specs.BothStates.{StateOf, log_state, silence_state}
+use Rattle.am_cluster.specs.Contents.{delivery_of, silences_in, entries_in}
+use Rattle.am_cluster.specs.States.{Sorted}
+use Rattle.am_cluster.specs.Recorded.{AreInFlight, event_step}
 use Rattle.am_cluster.specs.Accounts.{Account}
 use Rattle.am_cluster.specs.declared.error.ClusterError.{ClusterError}
 use Rattle.am_cluster.specs.declared.flight.Flight.{Flight}

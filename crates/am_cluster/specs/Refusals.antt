@@ -2,8 +2,8 @@
 use Rattle.std.specs.Prelude.{◌≡◌, ◌⊎◌, ℕ, ◌<◌, Bool, true, false, not, Option, Some, None, Result, Err, nat_lt, if◌then◌else◌}
 use Rattle.am_instance.specs.Configs.{Settings}
 use Rattle.am_instance.specs.Steps.{knows_peer, peer_of}
-use Rattle.am_steps.specs.declared.asked.Asked.{Asked}
-use Rattle.am_steps.specs.declared.asked.Asked.TheVariants as asked
+use Rattle.am_cluster.specs.declared.resolved_event.ResolvedEvent.{ResolvedEvent}
+use Rattle.am_cluster.specs.declared.resolved_event.ResolvedEvent.TheVariants as asked
 use Rattle.am_cluster.specs.declared.error.ClusterError.{ClusterError}
 use Rattle.am_cluster.specs.declared.error.ClusterError.TheVariants as errors
 use Rattle.am_cluster.specs.declared.journal.mark.Mark.{Mark}
@@ -12,7 +12,7 @@ use Rattle.am_cluster.specs.Marks.{step_of_mark}
 use Rattle.am_cluster.specs.Worlds.{Replica, World, written}
 
 -- true if what is asked names no peer, or one that is another member
-abbrev pub names_peer : Settings → Asked → Bool
+abbrev pub names_peer : Settings → ResolvedEvent → Bool
 names_peer config (asked.Event event source) = knows_peer config (peer_of event)
 names_peer config asked.Start = true
 names_peer config asked.NoMember = false
@@ -32,7 +32,7 @@ start_refusal replica now =
     else None
 
 -- The first reason that applies why what is asked is refused to a member, if it is. Finding that out takes no memory.
-abbrev pub refused_anyway : Replica → Asked → ℕ → Option ClusterError
+abbrev pub refused_anyway : Replica → ResolvedEvent → ℕ → Option ClusterError
 refused_anyway replica asked.Start now = start_refusal replica now
 refused_anyway replica what now = event_refusal (names_peer replica.stand.config what) replica now
 

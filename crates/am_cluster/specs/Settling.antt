@@ -14,8 +14,8 @@ use Rattle.am_instance.specs.InstanceStates.{InstanceState}
 use Rattle.am_snapshot.specs.Texts.{row_text}
 use Rattle.am_wire.specs.Limits.{most}
 use Rattle.am_merge.specs.Maps.{at, swept}
-use Rattle.am_steps.specs.BothStates.{StateOf, log_state, silence_state}
-use Rattle.am_steps.specs.Contents.{IsReadable}
+use Rattle.am_cluster.specs.BothStates.{StateOf, log_state, silence_state}
+use Rattle.am_cluster.specs.Contents.{IsReadable}
 use Rattle.am_silence.specs.Mesh.{mesh_version}
 use Rattle.am_nflog.specs.Mesh.{mesh_version as entry_version}
 use Rattle.am_runs.specs.Settles.{join_of}

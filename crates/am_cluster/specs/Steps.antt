@@ -4,16 +4,16 @@ use Rattle.std.specs.Prelude.{◌≡◌, ◌⊎◌, ℕ, List, Option, Some, Non
 use Rattle.am_silence.specs.Mesh.{Mesh}
 use Rattle.am_nflog.specs.Mesh.{Mesh as LogMesh}
 use Rattle.am_runs.specs.Steps.{RunStep}
-use Rattle.am_steps.specs.BothStates.{log_state, silence_state}
-use Rattle.am_steps.specs.Recorded.{HasSource}
+use Rattle.am_cluster.specs.BothStates.{log_state, silence_state}
+use Rattle.am_cluster.specs.Recorded.{HasSource}
 use Rattle.am_schedule.specs.declared.step.Action.{Action}
 use Rattle.am_schedule.specs.declared.step.Action.TheVariants as actions
 use Rattle.am_schedule.specs.declared.step.LineEvent.{LineEvent}
 use Rattle.am_instance.specs.Configs.{place_named}
 use Rattle.am_instance.specs.declared.reply.Reply.{Reply}
-use Rattle.am_steps.specs.declared.asked.Asked.{Asked}
-use Rattle.am_steps.specs.declared.asked.Asked.TheVariants as asked
-use Rattle.am_steps.specs.Events.{asked_by}
+use Rattle.am_cluster.specs.declared.resolved_event.ResolvedEvent.{ResolvedEvent}
+use Rattle.am_cluster.specs.declared.resolved_event.ResolvedEvent.TheVariants as asked
+use Rattle.am_cluster.specs.LineEvents.{asked_by}
 use Rattle.am_cluster.specs.declared.error.ClusterError.{ClusterError}
 use Rattle.am_cluster.specs.declared.error.ClusterError.TheVariants as errors
 use Rattle.am_cluster.specs.declared.journal.mark.Mark.TheVariants as marks
@@ -29,7 +29,7 @@ abbrev pub place_in : World → List ℕ → Option ℕ
 place_in world name = option_and_then (λ replica. place_named replica.stand.config name) (replica_at world 0)
 
 -- the versions that an event brings come from where it says, in any run
-abbrev pub Fits : Asked → Type 0
+abbrev pub Fits : ResolvedEvent → Type 0
 Fits (asked.Event event source) = (members now : ℕ) →
     ((before : List (RunStep Mesh)) → HasSource silence_state Drop members before now event source)
     × ((before : List (RunStep LogMesh)) → HasSource log_state Drop members before now event source)

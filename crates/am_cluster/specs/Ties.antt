@@ -14,9 +14,9 @@ use Rattle.am_instance.specs.OneStep.{IsStep}
 use Rattle.am_runs.specs.declared.step.Source.{Source}
 use Rattle.am_runs.specs.Steps.{RunStep, flights_by, flights_of, is_at}
 use Rattle.am_runs.specs.Members.{Member, member_of, map_of}
-use Rattle.am_steps.specs.BothStates.{StateOf}
-use Rattle.am_steps.specs.Contents.{carries}
-use Rattle.am_steps.specs.Recorded.{HasGoneThrough, event_step}
+use Rattle.am_cluster.specs.BothStates.{StateOf}
+use Rattle.am_cluster.specs.Contents.{carries}
+use Rattle.am_cluster.specs.Recorded.{HasGoneThrough, event_step}
 use Rattle.am_cluster.specs.BothRuns.{RunOf, log_run, silence_run}
 use Rattle.am_cluster.specs.declared.flight.Flight.{Flight}
 use Rattle.am_cluster.specs.Worlds.{Replica, World, replica_at}

@@ -6,8 +6,8 @@ use Rattle.am_nflog.specs.Mesh.{Mesh as LogMesh}
 use Rattle.am_gossip.specs.declared.frame.Frame.{Frame}
 use Rattle.am_runs.specs.Steps.{RunStep, flights_of}
 use Rattle.am_runs.specs.Steps.RunStep.{Took}
-use Rattle.am_steps.specs.BothStates.{log_state, silence_state}
-use Rattle.am_steps.specs.Recorded.{sent_in}
+use Rattle.am_cluster.specs.BothStates.{log_state, silence_state}
+use Rattle.am_cluster.specs.Recorded.{sent_in}
 use Rattle.am_cluster.specs.Accounts.{Account}
 use Rattle.am_cluster.specs.Reports.{IsPossibleForSilences, IsPossibleForLog}
 use Rattle.am_cluster.specs.declared.sending.Sent.{Sent}

@@ -3,7 +3,7 @@
 ghost use Rattle.std.specs.Prelude.{◌≡◌, ◌↔◌, ◌<◌, ℕ, [], Any, Err, IfOk, IsTrue, MatchOption, OnErr, OnOk, length, option_map};
 ghost use Rattle.std.specs.Option.{option_copied};
 ghost use Rattle.am_instance.specs.Configs.{HasTwice, IsEmptyName, IsLongName};
-ghost use Rattle.am_refusals.specs.declared.error.ConfigError.TheVariants as errors;
+ghost use Rattle.am_gossip.specs.declared.refusals.ConfigError.TheVariants as errors;
 ghost use Rattle.am_cluster.specs.Reports.{AreTimely, IsCalmInBoth, IsLineOfFault};
 ghost use Rattle.am_cluster.specs.Clusters.{IsCluster};
 ghost use Rattle.am_cluster.specs.Beginnings.{AreNewborn, AreUnborn, newborns};

@@ -7,27 +7,27 @@ ghost use Rattle.am_nflog.specs.Mesh.{IsMesh as IsLogMesh};
 ghost use Rattle.am_instance.specs.Laws.{HasMaps};
 ghost use Rattle.am_instance.specs.OneStep.{IsStep};
 ghost use Rattle.am_instance.specs.Steps.{IsAccepted, brought};
-ghost use Rattle.am_steps.specs.BothStates.{log_state, silence_state};
-ghost use Rattle.am_steps.specs.Contents.{IsValue, delivery_of};
-ghost use Rattle.am_steps.specs.Recorded.{HasSource};
+ghost use Rattle.am_cluster.specs.BothStates.{log_state, silence_state};
+ghost use Rattle.am_cluster.specs.Contents.{IsValue, delivery_of};
+ghost use Rattle.am_cluster.specs.Recorded.{HasSource};
 ghost use Rattle.am_cluster.specs.Acting.{CanHappen, HasActed};
 ghost use Rattle.am_cluster.specs.Events.{CanHave, IsEvent};
 ghost use Rattle.am_cluster.specs.Lives.{OfMember};
 ghost use Rattle.am_cluster.specs.Recording.{ComesWith, IsNoRefusal, IsRoomFor};
 
+use crate::carried::{AnyVersion, SplitVersions, versions_in_frame};
 use crate::cluster::Cluster;
 use crate::error::ClusterError;
 use crate::flight::Flight;
 use crate::journal::Journal;
 use crate::recording::{PendingDelivery, kind_of, write_answer};
-use crate::writing::Entry;
-use am_instance::{Event, Instance, Outcome, Reply, StepError};
-use am_runs::Source;
-use am_steps::carried::{AnyVersion, SplitVersions, versions_in_frame};
-use am_steps::laws::{
+use crate::step_laws::{
     collecting_leaves_nothing_out, few_are_made, sent_frames_are_sound, steps_are_possible,
     values_are_delivered,
 };
+use crate::writing::Entry;
+use am_instance::{Event, Instance, Outcome, Reply, StepError};
+use am_runs::Source;
 use am_version_order::{Moment, Version, versions_are_values};
 use am_wire::Unknown;
 use std::alloc::{AllocError, Global};

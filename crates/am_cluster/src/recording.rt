@@ -1,7 +1,7 @@
 //! Records of the answers of instances.
 
 ghost use Rattle.std.specs.Prelude.{◌≡◌, ◌⊎◌, ◌<◌, ◌++◌, ℕ, List, [], false, length, map, take, Ok, Err, OnErr, OnOk};
-ghost use Rattle.am_steps.specs.Contents.{delivery_of, entries_in, silences_in};
+ghost use Rattle.am_cluster.specs.Contents.{delivery_of, entries_in, silences_in};
 ghost use Rattle.am_instance.specs.declared.event.Event.{Event};
 ghost use Rattle.am_instance.specs.Replies.{IsNothing, listed};
 ghost use Rattle.am_instance.specs.Steps.{collects, made_here};
@@ -13,6 +13,7 @@ ghost use Rattle.am_cluster.specs.Recording.{AreDelivered, CanRecord, ComesWith,
 ghost use Rattle.am_cluster.specs.declared.flight.Flight.{Flight};
 ghost use Rattle.am_cluster.specs.declared.recording.Kind.TheVariants as kinds;
 
+use crate::carried::{AnyVersion, SplitVersions};
 use crate::error::ClusterError;
 use crate::flight::Flight;
 use crate::journal::{Journal, Mark};
@@ -21,7 +22,6 @@ use am_gossip::Frame;
 use am_instance::{Event, Made, Outcome, Place, Reply, StepError, Unsent};
 use am_nflog::MeshEntry;
 use am_runs::Source;
-use am_steps::carried::{AnyVersion, SplitVersions};
 use std::alloc::{AllocError, Global};
 
 /// The kind of an event, depending on the versions that it removes, brings or makes.

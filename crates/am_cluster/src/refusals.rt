@@ -2,7 +2,7 @@
 
 ghost use Rattle.std.specs.Prelude.{◌≡◌, ◌<◌, ℕ, OnErr, OnOk, Err, length};
 ghost use Rattle.am_instance.specs.declared.reply.Reply.{Reply};
-ghost use Rattle.am_steps.specs.Events.{asked_by};
+ghost use Rattle.am_cluster.specs.LineEvents.{asked_by};
 ghost use Rattle.am_cluster.specs.declared.error.ClusterError.TheVariants as errors;
 ghost use Rattle.am_cluster.specs.Lives.{OfMember};
 ghost use Rattle.am_cluster.specs.Marks.{step_of_mark};

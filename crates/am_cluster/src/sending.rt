@@ -2,17 +2,17 @@
 
 ghost use Rattle.std.specs.Prelude.{◌≡◌, ◌+◌, ◌-◌, ◌++◌, ◌≤◌, map, length, vec_capacity, vec_len, IfOk};
 ghost use Rattle.am_wire.specs.declared.unknown.Unknown.TheVariants.{Drop};
-ghost use Rattle.am_steps.specs.BothStates.{log_state, silence_state};
-ghost use Rattle.am_steps.specs.Contents.{carries, entries_in, silences_in};
-ghost use Rattle.am_steps.specs.Recorded.{sent_in};
+ghost use Rattle.am_cluster.specs.BothStates.{log_state, silence_state};
+ghost use Rattle.am_cluster.specs.Contents.{carries, entries_in, silences_in};
+ghost use Rattle.am_cluster.specs.Recorded.{sent_in};
 ghost use Rattle.am_cluster.specs.Worlds.{sent_on};
 
+use crate::carried::{SplitVersions, versions_in_frame};
 use crate::flight::Flight;
 use am_gossip::Frame;
 use am_instance::Place;
 use am_nflog::MeshEntry;
 use am_silence::MeshSilence;
-use am_steps::carried::{SplitVersions, versions_in_frame};
 use am_version_order::Moment;
 use am_wire::Unknown;
 use std::alloc::{AllocError, Global};

@@ -14,11 +14,11 @@ ghost use Rattle.am_instance.specs.InstanceStates.{HoldsWhole};
 ghost use Rattle.am_instance.specs.Laws.{HasMaps};
 ghost use Rattle.am_instance.specs.Sendings.{whole_state};
 ghost use Rattle.am_instance.specs.Steps.{fault_of};
-ghost use Rattle.am_steps.specs.BothStates.{log_state, silence_state};
-ghost use Rattle.am_steps.specs.Contents.{IsReadable};
+ghost use Rattle.am_cluster.specs.BothStates.{log_state, silence_state};
+ghost use Rattle.am_cluster.specs.Contents.{IsReadable};
 ghost use Rattle.am_runs.specs.declared.step.Source.TheVariants.{Lent};
 ghost use Rattle.am_runs.specs.Members.{last_of, member_of};
-ghost use Rattle.am_steps.specs.Recorded.{HasSource};
+ghost use Rattle.am_cluster.specs.Recorded.{HasSource};
 ghost use Rattle.am_cluster.specs.Lives.{OfMember};
 ghost use Rattle.am_cluster.specs.Settling.{AreTurns, CanLend, CanSettle, HasBacks, HasLate, HasSettled, HasStopped};
 ghost use Rattle.am_cluster.specs.Settling.{IsAdmitted, IsSettle, all_turns, collections, gatherings};
@@ -26,15 +26,15 @@ ghost use Rattle.am_cluster.specs.Settling.{late_places, loan, spreadings, with_
 ghost use Rattle.am_cluster.specs.Settling.Turn.{Collects, Takes};
 ghost use Rattle.am_cluster.specs.Worlds.{Replica, with_room};
 
+use crate::carried::laws::what_keeps_its_limit_is_readable;
 use crate::cluster::Cluster;
 use crate::error::SettleError;
 use crate::journal::{Journal, Mark};
 use crate::member::Member;
+use crate::step_laws::lent_maps_come_from_their_lender;
 use am_gossip::Frame;
 use am_instance::{Event, Instance, Place, whole_state};
 use am_runs::Source;
-use am_steps::carried::laws::what_keeps_its_limit_is_readable;
-use am_steps::laws::lent_maps_come_from_their_lender;
 use am_version_order::Moment;
 use std::alloc::{AllocError, Global};
 

@@ -1,7 +1,7 @@
 //! The steps of a schedule.
 
 ghost use Rattle.std.specs.Prelude.{◌≡◌, ◌<◌, IfOk, IfSome, length};
-ghost use Rattle.am_steps.specs.Events.{IsSound, asked_by};
+ghost use Rattle.am_cluster.specs.LineEvents.{IsSound, asked_by};
 ghost use Rattle.am_cluster.specs.Lives.{OfMember};
 ghost use Rattle.am_cluster.specs.Doing.{IsDone};
 ghost use Rattle.am_cluster.specs.Steps.{Fits, IsStepped, place_in};
@@ -9,9 +9,10 @@ ghost use Rattle.am_cluster.specs.Steps.{Fits, IsStepped, place_in};
 use crate::cluster::Cluster;
 use crate::error::ClusterError;
 use crate::journal::Mark;
+use crate::line_events::to_event;
+use crate::resolved_event::ResolvedEvent;
 use am_instance::Reply;
 use am_schedule::{Action, LineEvent, Step};
-use am_steps::{Asked, to_event};
 use am_version_order::Moment;
 use std::alloc::AllocError;
 
@@ -27,7 +28,7 @@ impl Cluster {
     }
 
     /// Returns what a line asks the member at a place to do.
-    fn asked(&self, place: usize, event: &LineEvent) -> Result<Asked, AllocError>
+    fn asked(&self, place: usize, event: &LineEvent) -> Result<ResolvedEvent, AllocError>
         requires { place < length self.now.replicas }
         ensures asked { IfOk result (λ asked. OfMember self.now place (λ replica. asked ≡ asked_by replica.stand.config event.now)) }
         ensures sound { IfOk result IsSound }
@@ -54,9 +55,11 @@ impl Cluster {
             return Err(self.refuse_at(place, cause, now, line));
         }
         match self.asked(place, event)? {
-            Asked::Event { event, source } => self.apply_event(place, event, source, now, line),
-            Asked::Start => self.start_at(place, now, line),
-            Asked::NoMember => {
+            ResolvedEvent::Event { event, source } => self.apply_event(
+                place, event, source, now, line,
+            ),
+            ResolvedEvent::Start => self.start_at(place, now, line),
+            ResolvedEvent::NoMember => {
                 Err(self.refuse(ClusterError::UnknownPeer, Mark::Refused { now }, line))
             }
         }

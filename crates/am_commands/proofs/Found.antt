@@ -4,7 +4,7 @@ use Rattle.std.specs.Prelude.{Bool}
 use Rattle.std.specs.declared.cmp.Ordering.{Ordering}
 use Rattle.am_version_order.specs.Versions.{Version}
 use Rattle.am_merge.proofs.Keys.{IsKeyOrder}
-use Rattle.am_report.specs.Sources.{Side, Source, rest_of, side_of}
+use Rattle.am_report.specs.Sources.{MergeCursor, Source, rest_of, side_of}
 use Rattle.am_report.specs.Differences.{AreDifferences, Difference}
 use Rattle.am_report.specs.declared.compared.Compared.{Compared}
 use Rattle.am_report.proofs.Differing.{AreTold, told_all, begins_there}
@@ -16,10 +16,10 @@ silent d = []
 
 module _ {K X : Type 0} (seen : X → Version K) (cmp : K → K → Ordering) (compared : Compared) (now : ℕ) where
   -- the walk has come from all sides to those that are left
-  abbrev pub IsCounted : List (Side X) → List (Side X) → Bool → Type 0
+  abbrev pub IsCounted : List (MergeCursor X) → List (MergeCursor X) → Bool → Type 0
   IsCounted all left found = AreTold seen cmp compared now (silent {D = Difference K X}) all left [] [] found
 
-  pub found_all : IsKeyOrder cmp → (all left : List (Side X)) (found : Bool) → IsCounted all left found
+  pub found_all : IsKeyOrder cmp → (all left : List (MergeCursor X)) (found : Bool) → IsCounted all left found
       → AreDifferences seen cmp compared now (map rest_of left) [] → IsFound seen cmp compared now (map rest_of all) found
   found_all keys all left found told none =
       let end = told_all seen cmp compared now (silent {D = Difference K X}) keys all left [] [] found told none in

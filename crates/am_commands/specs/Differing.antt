@@ -11,12 +11,12 @@ use Rattle.am_version_order.specs.Versions.{Version}
 use Rattle.am_report.specs.Sources.{Source}
 use Rattle.am_report.specs.Written.{AreLines}
 use Rattle.am_report.specs.Json.Written.{IsLine}
-use Rattle.am_report.specs.declared.manner.Manner.{Manner}
+use Rattle.am_report.specs.declared.format.Format.{Format}
 use Rattle.am_wire.specs.declared.rows.TheConstants.{MOST_MESSAGE_BYTES}
 use Rattle.am_wire.specs.declared.unknown.Unknown.TheVariants.{Drop, Keep}
-use Rattle.am_jobs.specs.declared.job.DiffJob.{DiffJob}
-use Rattle.am_jobs.specs.declared.job.Report.{Report}
-use Rattle.am_jobs.specs.declared.job.Report.TheVariants as reports
+use Rattle.am_options.specs.declared.job.DiffJob.{DiffJob}
+use Rattle.am_options.specs.declared.job.Report.{Report}
+use Rattle.am_options.specs.declared.job.Report.TheVariants as reports
 use Rattle.am_snapshot.specs.declared.error.SnapshotError.{SnapshotError}
 use Rattle.am_snapshot.specs.declared.error.SnapshotError.TheVariants.{Write, Memory}
 use Rattle.am_commands.specs.declared.diff.Comparison.{Comparison}
@@ -35,7 +35,7 @@ abbrev pub diff_comparison : DiffJob → ℕ → Bool → Comparison
 diff_comparison job now is_live = record {
   compared = job.compared;
   report = job.report;
-  manner = record { moment = now; has_expiries = not is_live; is_long = job.is_long };
+  format = record { moment = now; has_expiries = not is_live; is_long = job.is_long };
 }
 
 -- the way in which a job reads each of its sources; with a server among them unknown fields are dropped
@@ -46,15 +46,15 @@ diff_reading job is_live = record { state = job.state; keys = Repeated; most = M
 abbrev pub diff_wants : DiffJob → Bool → Wanted
 diff_wants job is_live = wanted_by job.sources.items job.has_logs (diff_reading job is_live)
 
-module _ {K X : Type 0} (seen : X → Version K) (cmp : K → K → Ordering) (begins : K → List ℕ) (told : Manner → X → List ℕ)
-    (more : Manner → X → X → List ℕ) (by : X → X → List ℕ) (key_data : K → Data) (name : List ℕ) (value : ℕ → X → Data) (how : Comparison) where
+module _ {K X : Type 0} (seen : X → Version K) (cmp : K → K → Ordering) (begins : K → List ℕ) (told : Format → X → List ℕ)
+    (more : Format → X → X → List ℕ) (by : X → X → List ℕ) (key_data : K → Data) (name : List ℕ) (value : ℕ → X → Data) (how : Comparison) where
   -- the text tells all differences of the sources in this form, and `found` says whether there is one
   abbrev pub IsReportIn : Report → List (Source X) → Bool → List ℕ → Type 0
   IsReportIn reports.Lines sources found text =
-      AreLines seen cmp begins (told how.manner) (more how.manner) by how.compared how.manner.moment sources found text
+      AreLines seen cmp begins (told how.format) (more how.format) by how.compared how.format.moment sources found text
   IsReportIn reports.Json sources found text =
-      IsLine seen cmp key_data name (value how.manner.moment) by how.compared how.manner.moment sources found text
-  IsReportIn reports.Figures sources found text = AreFigures seen cmp how.compared how.manner.moment sources found text
+      IsLine seen cmp key_data name (value how.format.moment) by how.compared how.format.moment sources found text
+  IsReportIn reports.Figures sources found text = AreFigures seen cmp how.compared how.format.moment sources found text
 
   -- the same in the form that is asked for
   abbrev pub IsReport : List (Source X) → Bool → List ℕ → Type 0

@@ -3,8 +3,8 @@
 use Rattle.std.specs.Prelude.{◌≡◌, ℕ, List, [], ◌∷◌, Option, None, fold, map}
 use Rattle.std.specs.Borrow.{Bor}
 use Rattle.std.specs.declared.cmp.Ordering.{Ordering}
-use Rattle.am_jobs.specs.declared.job.FoldJob.{FoldJob}
-use Rattle.am_jobs.specs.declared.source.TheConstants.{STANDARD_INPUT}
+use Rattle.am_options.specs.declared.job.FoldJob.{FoldJob}
+use Rattle.am_options.specs.declared.source.TheConstants.{STANDARD_INPUT}
 use Rattle.am_version_order.specs.Versions.{Version}
 use Rattle.am_merge.specs.Maps.{IsMap, at, greater_of}
 use Rattle.am_snapshot.specs.Texts.{row_text}

@@ -2,7 +2,7 @@
 -- S is the type of sources, and `opens` says what opening a source that is asked for may give.
 use Rattle.std.specs.Prelude.{◌≡◌, ℕ, ◌<◌, Bool, List, length, take, map, Result, Ok, Err, ◌⊎◌}
 use Rattle.std.specs.List.{AllZip, slice_index_or}
-use Rattle.am_jobs.specs.declared.source.SourceWord.{SourceWord}
+use Rattle.am_options.specs.declared.source.SourceWord.{SourceWord}
 use Rattle.am_snapshot.specs.declared.error.SnapshotError.TheVariants.{Memory}
 use Rattle.am_commands.specs.Statuses.{stopped_status}
 use Rattle.am_commands.specs.declared.fault.SourceFault.{SourceFault}

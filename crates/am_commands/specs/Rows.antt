@@ -9,7 +9,7 @@ use Rattle.am_wire.specs.Inputs.{AreMessages, StopsWithin}
 use Rattle.am_merge.specs.Views.{HoldsBest}
 use Rattle.am_snapshot.specs.Loads.{IsLoaded, StopsLoadWithin, load_fault}
 use Rattle.am_snapshot.specs.declared.error.SnapshotError.{SnapshotError}
-use Rattle.am_faults.specs.declared.fault.Fault.TheVariants.{Snapshot}
+use Rattle.am_diagnostics.specs.declared.fault.Fault.TheVariants.{Snapshot}
 use Rattle.am_commands.specs.declared.fault.SourceFault.{SourceFault}
 use Rattle.am_commands.specs.declared.fault.SourceFault.TheVariants.{Own}
 use Rattle.am_commands.specs.declared.opened.Keys.{Keys}

@@ -11,10 +11,10 @@ use Rattle.am_merge.specs.Maps.{IsMap}
 use Rattle.am_report.specs.Views.{StopsWriting}
 use Rattle.am_report.specs.Json.Views.{view_line}
 use Rattle.am_wire.specs.declared.rows.TheConstants.{MOST_MESSAGE_BYTES}
-use Rattle.am_jobs.specs.declared.source.TheConstants.{STANDARD_INPUT}
-use Rattle.am_jobs.specs.declared.job.ShowJob.{ShowJob}
-use Rattle.am_jobs.specs.declared.job.Form.{Form}
-use Rattle.am_jobs.specs.declared.job.Form.TheVariants.{Lines, Json}
+use Rattle.am_options.specs.declared.source.TheConstants.{STANDARD_INPUT}
+use Rattle.am_options.specs.declared.job.ShowJob.{ShowJob}
+use Rattle.am_options.specs.declared.job.Form.{Form}
+use Rattle.am_options.specs.declared.job.Form.TheVariants.{Lines, Json}
 use Rattle.am_commands.specs.declared.fault.SourceFault.{SourceFault}
 use Rattle.am_commands.specs.declared.fault.Stopped.{Stopped}
 use Rattle.am_commands.specs.declared.fault.Stopped.TheVariants as stopped

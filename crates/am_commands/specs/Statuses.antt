@@ -1,6 +1,6 @@
 -- The exit status of the program where a command stopped.
 use Rattle.std.specs.Prelude.{ℕ}
-use Rattle.am_faults.specs.Statuses.{fault_status, file_status, row_status}
+use Rattle.am_diagnostics.specs.Statuses.{fault_status, file_status, row_status}
 use Rattle.am_commands.specs.declared.fault.SourceFault.{SourceFault}
 use Rattle.am_commands.specs.declared.fault.SourceFault.TheVariants.{Own, Log, Words}
 use Rattle.am_commands.specs.declared.fault.Stopped.{Stopped}

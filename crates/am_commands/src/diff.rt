@@ -19,11 +19,11 @@ use crate::moment::{moment_of, warn};
 use crate::opened::{Asked, Keys, Opened, Reading, Row, open};
 use crate::replica::told_by;
 use crate::source::{Input, Source, inputs_of, read_sources};
-use am_faults::{report, status};
-use am_jobs::{DiffJob, PullJob, Report, StateName};
+use am_diagnostics::{report, status};
 use am_nflog::MeshEntry;
+use am_options::{DiffJob, PullJob, Report, StateName};
 use am_report::{
-    Compared, InJson, Manner, Replica, ReportLine, has_later_source, write_differences,
+    Compared, Format, InJson, Replica, ReportLine, has_later_source, write_differences,
     write_differences_json,
 };
 use am_silence::MeshSilence;
@@ -135,7 +135,7 @@ pub struct Comparison {
     pub compared: Compared,
     pub report: Report,
     /// The moment, and the form of lines.
-    pub manner: Manner,
+    pub format: Format,
 }
 
 /// Returns what of a job's sources is compared at a moment, and how that is told: API v2, and so a comparison with a server,
@@ -146,7 +146,7 @@ fn comparison_of(job: &DiffJob<'_>, now: Moment, is_live: bool) -> Comparison
     Comparison {
         compared: job.compared,
         report: job.report,
-        manner: Manner {
+        format: Format {
             moment: now,
             has_expiries: !is_live,
             is_long: job.is_long,
@@ -209,17 +209,17 @@ fn write_report<V: ReportLine + InJson, W: Write>(
     ensures stopped { IfErr result (StopsReport V.seen V.Key.cmp V.begins V.told V.more (less_word V.seen V.unknown_of V.known_of) V.key_data V.named V.value how.now replicas.now
         W.contents writer.old writer.new) }
 {
-    let manner = &how.manner;
+    let format = &how.format;
     match how.report {
-        Report::Lines => write_differences(alloc, replicas, how.compared, manner, writer),
+        Report::Lines => write_differences(alloc, replicas, how.compared, format, writer),
         Report::Json => write_differences_json(
             alloc,
             replicas,
             how.compared,
-            manner.moment,
+            format.moment,
             writer,
         ),
-        Report::Figures => write_figures(alloc, replicas, how.compared, manner.moment, writer),
+        Report::Figures => write_figures(alloc, replicas, how.compared, format.moment, writer),
     }
 }
 
@@ -239,7 +239,7 @@ pub fn diff_sources<V: ReportLine + InJson, S: Source<V>, W: Write>(
     // PROMISE: `diff` prints exactly the lines, or the array, of all keys at which its sources differ.
     ensures told { IfOk result (λ outcome. (sources : List (NamedMap V)) ×
         AllZip (IsRead V.seen V.Key.cmp S.gives) inputs.old sources ×
-        (outcome.has_later ≡ has_later_source V.seen how.now.manner.moment sources) × (text : List ℕ) ×
+        (outcome.has_later ≡ has_later_source V.seen how.now.format.moment sources) × (text : List ℕ) ×
         IsReport V.seen V.Key.cmp V.begins V.told V.more (less_word V.seen V.unknown_of V.known_of) V.key_data V.named V.value how.now sources outcome.found text ×
         Appends (W.contents writer.old) (W.contents writer.new) text) }
 
@@ -251,7 +251,7 @@ pub fn diff_sources<V: ReportLine + InJson, S: Source<V>, W: Write>(
         Ok(replicas) => replicas,
         Err(stopped) => return Err(stopped),
     };
-    let has_later = has_later_source(&replicas, how.manner.moment);
+    let has_later = has_later_source(&replicas, how.format.moment);
     let written = write_report(alloc, &replicas, how, writer);
     mem::forget(replicas);
     match written {

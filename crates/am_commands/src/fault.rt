@@ -4,11 +4,10 @@ ghost use Rattle.std.specs.Prelude.{◌≡◌, ◌≤◌, ◌++◌, ◌∷◌, [
 ghost use Rattle.am_commands.specs.Statuses.{source_status, stopped_status};
 
 use crate::host::Host;
-use am_disk::FileFault;
-use am_faults::{Fault, report, report_source, status};
-use am_files::LogFault;
+use am_diagnostics::{Fault, report, report_source, status};
 use am_report::Word;
 use am_snapshot::SnapshotError;
+use am_store::{FileFault, LogFault};
 use std::alloc::AllocError;
 
 /// A fault because of which a source isn't read.

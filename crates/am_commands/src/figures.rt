@@ -7,12 +7,11 @@ ghost use Rattle.am_report.specs.Sources.{rest_of};
 ghost use Rattle.am_report.specs.Views.{StopsWriting};
 ghost use Rattle.am_commands.specs.Figures.{AreFigures, IsFound, StopsFigures};
 
-use am_metrics::{Family, Kind, Label, Number, Sample, write_families};
-use am_report::{Compared, InJson, Replica, Side, greatest_of, next_difference, sides_of};
+use am_metrics::{Family, Label, MetricType, Number, Sample, write_families};
+use am_report::{Compared, InJson, MergeCursor, Replica, greatest_of, next_difference, sides_of};
 use am_snapshot::SnapshotError;
-use am_streams::send;
 use am_version_order::{Moment, Version};
-use am_wire::Text;
+use am_wire::{Text, send};
 use std::alloc::{AllocError, Global};
 use std::io::Write;
 
@@ -33,10 +32,10 @@ struct Tallies {
 }
 
 /// Counts what sources lack at the key where a walk is.
-fn count_here<V: Version>(each: &mut [Tally], sides: &[Side<'_, V>]) {
+fn count_here<V: Version>(each: &mut [Tally], sides: &[MergeCursor<'_, V>]) {
     let greatest = greatest_of(sides);
-    for (tally, side) in each.iter_mut().zip(sides) {
-        match (side.here(), greatest) {
+    for (tally, cursor) in each.iter_mut().zip(sides) {
+        match (cursor.here(), greatest) {
             (Some(here), Some(greatest)) if here.compare(greatest).is_eq() => {}
             (Some(_), _) => tally.behind = tally.behind.saturating_add(1),
             (None, _) => tally.missing = tally.missing.saturating_add(1),
@@ -47,11 +46,11 @@ fn count_here<V: Version>(each: &mut [Tally], sides: &[Side<'_, V>]) {
 /// Counts what is left of all differences on a walk. Returns whether there is one.
 fn count_left<V: Version>(
     each: &mut [Tally],
-    sides: &mut [Side<'_, V>],
+    sides: &mut [MergeCursor<'_, V>],
     compared: Compared,
     now: Moment,
 ) -> bool
-    requires order { All (λ side. IsMap V.seen V.Key.cmp side.left) sides.old }
+    requires order { All (λ cursor. IsMap V.seen V.Key.cmp cursor.left) sides.old }
     ensures { IsFound V.seen V.Key.cmp compared now (map rest_of sides.old) result }
 {
     let mut found = false;
@@ -124,7 +123,7 @@ fn versions_family<V: Version>(
     Ok(Family {
         name: "am_diff_versions",
         help: "Silences or entries at which replicas differ, by replica: it holds none, or is behind the greatest.",
-        kind: Kind::Gauge,
+        kind: MetricType::Gauge,
         samples,
     })
 }
@@ -143,7 +142,7 @@ fn success_family(alloc: Global, kind: &'static str, now: Moment) -> Result<Fami
     Ok(Family {
         name: "am_diff_last_success_timestamp_seconds",
         help: "When all replicas were last read and compared, in seconds since 1970.",
-        kind: Kind::Gauge,
+        kind: MetricType::Gauge,
         samples,
     })
 }

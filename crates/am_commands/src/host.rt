@@ -1,6 +1,6 @@
 //! The parts of the system that a command uses.
 
-use am_faults::HasAudience;
+use am_diagnostics::HasAudience;
 use std::fs::File;
 use std::io::{Stdin, Stdout};
 use std::net::{Net, TcpStream};

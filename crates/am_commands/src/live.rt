@@ -12,7 +12,7 @@ use crate::host::Host;
 use crate::losses::HasLosses;
 use crate::opened::Asked;
 use crate::source::Source;
-use am_faults::Fault;
+use am_diagnostics::Fault;
 use am_merge::Held;
 use am_peers::{Server, body_of, fetch, held_of, shown_of_row};
 use am_report::Losses;

@@ -2,8 +2,8 @@
 
 use crate::host::Host;
 use crate::source::Input;
-use am_faults::Audience;
-use am_jobs::StateName;
+use am_diagnostics::Audience;
+use am_options::StateName;
 use am_report::{LossReader, Losses, Lost, MessageKind};
 use am_wire::Unknown;
 use std::alloc::{AllocError, Global};

@@ -7,12 +7,12 @@ use crate::mending::{Addressee, Mending};
 use crate::moment::moment_of;
 use crate::push::write_text;
 use crate::replica::{NO_STATES, exchange};
-use am_faults::{Fault, report, status};
-use am_jobs::{MendJob, PullJob, StateName};
-use am_mend::Handed;
+use am_alertmanager::Candidate;
+use am_diagnostics::{Fault, report, status};
 use am_merge::Held;
 use am_nflog::MeshEntry;
-use am_report::{Compared, Manner, Replica, ReportLine, write_differences};
+use am_options::{MendJob, PullJob, StateName};
+use am_report::{Compared, Format, Replica, ReportLine, write_differences};
 use am_silence::MeshSilence;
 use am_snapshot::load_bytes;
 use am_version_order::{Moment, Version};
@@ -45,7 +45,7 @@ fn name_of<'a>(job: &MendJob<'a>, stopped: &Stopped) -> Option<&'a str> {
 
 /// Writes how replicas differ. Where they are to be mended, sends each what it lacks, and compares them again. Returns whether
 /// they differ at the end.
-fn mend<R: Host, V: Handed + Message + ReportLine>(
+fn mend<R: Host, V: Candidate + Message + ReportLine>(
     rt: &R,
     mut output: Stdout,
     job: &MendJob<'_>,
@@ -126,12 +126,12 @@ fn tell<V: ReportLine, W: Write>(
     now: Moment,
     output: &mut W,
 ) -> Result<bool, Stopped> {
-    let manner = Manner {
+    let format = Format {
         moment: now,
         has_expiries: true,
         is_long: true,
     };
-    match write_differences(alloc, replicas, Compared::Shown, &manner, output) {
+    match write_differences(alloc, replicas, Compared::Shown, &format, output) {
         Ok(found) => Ok(found),
         Err(error) => Err(Stopped::Told(error)),
     }
@@ -149,7 +149,7 @@ fn join_all<V: Version>(alloc: Global, replicas: &[Replica<'_, V>]) -> Result<He
 }
 
 /// Sends each replica what it lacks, and writes what that is.
-fn send_all<R: Host, V: Handed + Message + ReportLine, W: Write>(
+fn send_all<R: Host, V: Candidate + Message + ReportLine, W: Write>(
     rt: &R,
     job: &MendJob<'_>,
     replicas: &[Replica<'_, V>],
@@ -173,7 +173,7 @@ fn send_all<R: Host, V: Handed + Message + ReportLine, W: Write>(
 }
 
 /// Writes which versions replicas lack though they were sent.
-fn tell_refused<V: Handed + Message + ReportLine, W: Write>(
+fn tell_refused<V: Candidate + Message + ReportLine, W: Write>(
     alloc: Global,
     replicas: &[Replica<'_, V>],
     mending: &Mending<V>,

@@ -8,13 +8,13 @@ ghost use Rattle.am_commands.specs.Sending.{is_sent, IsSending, IsSendingOf};
 use crate::fault::SourceFault;
 use crate::host::Host;
 use crate::replica::{exchange, key_of};
-use am_faults::Fault;
-use am_jobs::PullJob;
+use am_alertmanager::{Candidate, Refused, is_lacked, lacked, why_refused};
+use am_diagnostics::Fault;
 use am_matcher::Hazard;
 use am_memberlist::states_text;
-use am_mend::{Handed, Refused, is_lacked, lacked, why_refused};
 use am_merge::Held;
-use am_report::{ListedWord, Manner, ReportLine};
+use am_options::PullJob;
+use am_report::{Format, ListedWord, ReportLine};
 use am_snapshot::SnapshotError;
 use am_version_order::{Moment, Version};
 use am_wire::writing::append_delimited;
@@ -60,7 +60,7 @@ pub struct Addressee<'n> {
     pub name: Option<&'n str>,
 }
 
-impl<V: Handed + Message + ReportLine> Mending<V> {
+impl<V: Candidate + Message + ReportLine> Mending<V> {
     /// Tells whether this is the version that counts of its key, the replica lacks it, and it isn't later than the moment.
     #[tactic(auto, unfolding(am_version_order::specs::Versions::is_below))]
     fn is_sent(&self, held: &Held<V>, version: &V) -> bool
@@ -248,7 +248,7 @@ fn append_line<V: ReportLine>(
     to: Addressee<'_>,
     moment: Moment,
 ) -> Result<(), AllocError> {
-    let manner = Manner {
+    let format = Format {
         moment,
         has_expiries: true,
         is_long: false,
@@ -258,6 +258,6 @@ fn append_line<V: ReportLine>(
     if let Some(name) = to.name {
         write!(out, "{} ", ListedWord(name.as_bytes()))?;
     }
-    version.append_told(out, &manner)?;
+    version.append_told(out, &format)?;
     writeln!(out, "{}", said.cause)
 }

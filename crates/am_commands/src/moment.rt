@@ -1,7 +1,7 @@
 //! The moment at which maps are shown and compared.
 
 use crate::host::Host;
-use am_faults::{Audience, Fault};
+use am_diagnostics::{Audience, Fault};
 use am_peers::later_moment;
 use am_silence_json::moments::write_moment;
 use am_version_order::Moment;

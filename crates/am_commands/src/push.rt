@@ -11,17 +11,16 @@ use crate::losses::warn_of_rows;
 use crate::mending::{Addressee, Mending};
 use crate::moment::moment_of;
 use crate::replica::held_by;
-use am_faults::{report, status};
-use am_jobs::{PushJob, StateName};
-use am_mend::Handed;
+use am_alertmanager::Candidate;
+use am_diagnostics::{report, status};
 use am_merge::Held;
 use am_nflog::MeshEntry;
+use am_options::{PushJob, StateName};
 use am_report::ReportLine;
 use am_silence::MeshSilence;
 use am_snapshot::{SnapshotError, take_row};
-use am_streams::{Stop, fill, send};
 use am_version_order::{Moment, Version};
-use am_wire::{MOST_MESSAGE_BYTES, Message, Unknown};
+use am_wire::{MOST_MESSAGE_BYTES, Message, Stop, Unknown, fill, send};
 use std::alloc::Global;
 use std::io::{Read, Write};
 
@@ -46,7 +45,7 @@ pub fn run_push<R: Host>(rt: &R, streams: Streams, job: &PushJob<'_>) -> u8 {
 }
 
 /// Sends a replica what it lacks. Returns whether it lacks something then, or would be sent something.
-fn push<R: Host, V: Handed + Message + ReportLine>(
+fn push<R: Host, V: Candidate + Message + ReportLine>(
     rt: &R,
     streams: Streams,
     job: &PushJob<'_>,
@@ -78,7 +77,7 @@ fn push<R: Host, V: Handed + Message + ReportLine>(
 }
 
 /// Writes which versions a replica lacks though they were sent. Returns whether there is one.
-fn tell_refused<V: Handed + Message + ReportLine, W: Write>(
+fn tell_refused<V: Candidate + Message + ReportLine, W: Write>(
     alloc: Global,
     mending: &Mending<V>,
     held: &Held<V>,

@@ -3,11 +3,11 @@
 use crate::fault::SourceFault;
 use crate::host::Host;
 use crate::opened::{Origin, Row, row_from};
-use am_faults::Fault;
+use am_diagnostics::Fault;
 use am_gossip::StateKey;
-use am_jobs::{PullJob, StateName};
 use am_memberlist::{AnswerError, Said, read_message, request_text, row_in, unpack_answer};
 use am_merge::Held;
+use am_options::{PullJob, StateName};
 use am_peers::ask;
 use am_snapshot::load_bytes;
 use am_version_order::Version;

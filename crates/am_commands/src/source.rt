@@ -11,8 +11,8 @@ ghost use Rattle.am_commands.specs.Folding.{IsFoldOf};
 
 use crate::fault::{SourceFault, Stopped, add};
 use crate::opened::{Asked, Reading};
-use am_jobs::SourceWord;
 use am_merge::Held;
+use am_options::SourceWord;
 use am_report::Replica;
 use am_version_order::{Moment, Version};
 use std::alloc::{AllocError, Global};

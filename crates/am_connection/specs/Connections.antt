@@ -3,16 +3,16 @@ use Rattle.std.specs.Prelude.{◌≡◌, ◌⊎◌, ◌||◌, ℕ, ◌+◌, ◌<
 use Rattle.std.specs.List.{flat_map}
 use Rattle.std.specs.Option.{IsSome, option_or}
 use Rattle.std.specs.Io.KnownBytes.{Appends, Consumes, IsAtEnd}
-use Rattle.am_streams.specs.Writing.{WritesPart}
+use Rattle.am_wire.specs.OutputWriting.{WritesPart}
 use Rattle.am_http.specs.Sessions.{IsOver, Spoken, Standing, fresh, most_bytes, name_of}
 use Rattle.am_instance.specs.InstanceStates.{InstanceState}
 use Rattle.am_instance.specs.Sendings.{Gathers}
-use Rattle.am_api_silences.specs.PendingReply.{IsMadeOf}
+use Rattle.am_api_silences.specs.ReplyBuilder.{IsMadeOf}
 use Rattle.am_api_silences.specs.Replies.{bytes_of}
-use Rattle.am_api_silences.specs.declared.pending_reply.PendingReply.{PendingReply}
-use Rattle.am_api_silences.specs.declared.replies.ReplyBytes.{ReplyBytes}
-use Rattle.am_peers.specs.declared.fault.Fault.{Fault}
-use Rattle.am_peers.specs.declared.fault.Fault.TheVariants.{Read, TooLarge, Write}
+use Rattle.am_api_silences.specs.declared.reply_builder.ReplyBuilder.{ReplyBuilder}
+use Rattle.am_api_silences.specs.declared.replies.ResponseBytes.{ResponseBytes}
+use Rattle.am_peers.specs.declared.fault.ConnectionFault.{ConnectionFault}
+use Rattle.am_peers.specs.declared.fault.ConnectionFault.TheVariants.{Read, TooLarge, Write}
 use Rattle.am_member.specs.Exchanging.{IsSessionAnswer, left_at}
 use Rattle.am_member.specs.Incoming.{no_effects}
 use Rattle.am_member.specs.Lives.{Came, Tells}
@@ -47,15 +47,15 @@ pub record AddsAll (more before after : StepEffects) : Type 0 where
   pub ticked : after.ticked ≡ (before.ticked || more.ticked)
 
 -- a reply goes out, or exactly as many of its first bytes as are counted if a write failed; if there is no reply, nothing goes out
-abbrev pub GoesOut : Option PendingReply → Option (List ℕ) → Option (List ℕ) → Option Fault → Type 0
+abbrev pub GoesOut : Option ReplyBuilder → Option (List ℕ) → Option (List ℕ) → Option ConnectionFault → Type 0
 GoesOut None before after fault = (after ≡ before) × (fault ≡ None)
-GoesOut (Some making) before after None = (reply : ReplyBytes) × IsMadeOf making reply × Appends before after (bytes_of reply)
+GoesOut (Some making) before after None = (reply : ResponseBytes) × IsMadeOf making reply × Appends before after (bytes_of reply)
 GoesOut (Some making) before after (Some (Write written)) =
-    (reply : ReplyBytes) × IsMadeOf making reply × WritesPart before after (bytes_of reply) written
+    (reply : ResponseBytes) × IsMadeOf making reply × WritesPart before after (bytes_of reply) written
 GoesOut (Some making) before after (Some _) = ⊥
 
 -- the outcome of one piece, or of the end of the input
-pub record IsTurn (bits now : ℕ) (piece : List ℕ) (before after : Stand) (fault : Option Fault) : Type 0 where
+pub record IsTurn (bits now : ℕ) (piece : List ℕ) (before after : Stand) (fault : Option ConnectionFault) : Type 0 where
   -- the session says this of it
   pub said : Spoken
   pub heard : Standing
@@ -67,7 +67,7 @@ pub record IsTurn (bits now : ℕ) (piece : List ℕ) (before after : Stand) (fa
   -- their effects are added
   pub adds : AddsAll answer.effects before.effects after.effects
   -- the reply goes out
-  pub stop : Option Fault
+  pub stop : Option ConnectionFault
   pub written : GoesOut answer.reply before.written after.written stop
   -- the fault is told, or else that of the write
   pub told : fault ≡ option_or answer.fault stop
@@ -84,33 +84,33 @@ AreTurns bits now [] before after = after ≡ before
 AreTurns bits now (piece ∷ pieces) before after = (mid : Stand) × IsTurn bits now piece before mid None × AreTurns bits now pieces mid after
 
 -- a read failed, after `count` bytes had come
-pub record FailsToRead (count : ℕ) (input left : Option (List ℕ)) (before after : Stand) (fault : Option Fault) : Type 0 where
+pub record FailsToRead (count : ℕ) (input left : Option (List ℕ)) (before after : Stand) (fault : Option ConnectionFault) : Type 0 where
   pub nothing : Consumes input left []
   pub same : after ≡ before
   pub told : fault ≡ Some (Read count)
 
 -- nothing more is heard behind the last piece: it is the end of the input, or at fault, or all was said
-pub record IsLast (piece : List ℕ) (after : Stand) (stop fault : Option Fault) : Type 0 where
+pub record IsLast (piece : List ℕ) (after : Stand) (stop fault : Option ConnectionFault) : Type 0 where
   pub why : (piece ≡ []) ⊎ (IsSome stop ⊎ IsOver after.session)
   pub told : fault ≡ stop
 
 -- more bytes came than a connection may have
-pub record IsTooLarge (count : ℕ) (stop fault : Option Fault) : Type 0 where
+pub record IsTooLarge (count : ℕ) (stop fault : Option ConnectionFault) : Type 0 where
   pub many : most_bytes < count
   pub none : stop ≡ None
   pub told : fault ≡ Some TooLarge
 
 -- the last piece came, behind `count` bytes
-pub record EndsWith (bits now count : ℕ) (input left : Option (List ℕ)) (before after : Stand) (fault : Option Fault) : Type 0 where
+pub record EndsWith (bits now count : ℕ) (input left : Option (List ℕ)) (before after : Stand) (fault : Option ConnectionFault) : Type 0 where
   pub piece : List ℕ
   pub consumed : Consumes input left piece
   pub at_end : piece ≡ [] → IsAtEnd left
-  pub stop : Option Fault
+  pub stop : Option ConnectionFault
   pub turn : IsTurn bits now piece before after stop
   pub ends : IsLast piece after stop fault ⊎ IsTooLarge (count + length piece) stop fault
 
 -- the outcome of all pieces over a reader and a writer
-pub record IsConversed (bits now : ℕ) (input left : Option (List ℕ)) (before after : Stand) (fault : Option Fault) : Type 0 where
+pub record IsConversed (bits now : ℕ) (input left : Option (List ℕ)) (before after : Stand) (fault : Option ConnectionFault) : Type 0 where
   -- pieces come that are not at fault, one after the other
   pub pieces : List (List ℕ)
   pub mid_input : Option (List ℕ)

@@ -5,7 +5,7 @@ use Rattle.std.specs.Io.KnownBytes.{Appends}
 use Rattle.am_gossip.specs.Frames.{frame_text}
 use Rattle.am_gossip.specs.declared.frame.Frame.{Frame}
 use Rattle.am_peers.specs.Outgoing.{greeting_text}
-use Rattle.am_streams.specs.Writing.{WritesPart}
+use Rattle.am_wire.specs.OutputWriting.{WritesPart}
 use Rattle.am_connection.specs.declared.sending.SendError.{SendError}
 use Rattle.am_connection.specs.declared.sending.SendError.TheVariants.{Write}
 

@@ -6,11 +6,11 @@ ghost use Rattle.am_member.specs.Lives.{Tells};
 ghost use Rattle.am_connection.specs.Connections.{GoesOut, IsConnection, IsConversed, IsTurn, came_of, stand};
 
 use crate::ended::{Ended, add, no_effects};
-use am_api_silences::PendingReply;
+use am_api_silences::ReplyBuilder;
 use am_http::session::{Session, SessionOutput};
 use am_instance::Instance;
 use am_member::{SessionAnswer, StepEffects, apply_session_output};
-use am_peers::Fault;
+use am_peers::ConnectionFault;
 use am_version_order::Moment;
 use std::alloc::Global;
 use std::io;
@@ -36,16 +36,16 @@ fn tell(session: &mut Session, piece: &[u8]) -> SessionOutput
 fn write_reply<W: io::Write>(
     alloc: Global,
     writer: &mut W,
-    reply: Option<PendingReply>,
-) -> Option<Fault>
+    reply: Option<ReplyBuilder>,
+) -> Option<ConnectionFault>
     ensures { GoesOut reply (W.contents writer.old) (W.contents writer.new) result }
 {
     let Some(making) = reply else {
         return None;
     };
-    match am_streams::send(writer, making.finish(alloc).as_slice()) {
+    match am_wire::send(writer, making.finish(alloc).as_slice()) {
         Ok(()) => None,
-        Err(fault) => Some(Fault::Write {
+        Err(fault) => Some(ConnectionFault::Write {
             written: fault.written,
         }),
     }
@@ -61,7 +61,7 @@ fn hear<W: io::Write>(
     writer: &mut W,
     bits: u128,
     now: Moment,
-) -> Option<Fault>
+) -> Option<ConnectionFault>
     ensures { IsTurn bits now piece.now (stand session.old instance.old effects.old (W.contents writer.old))
         (stand session.new instance.new effects.new (W.contents writer.new)) result }
 {
@@ -86,7 +86,7 @@ fn converse<R: io::Read, W: io::Write>(
     writer: &mut W,
     bits: u128,
     now: Moment,
-) -> Option<Fault>
+) -> Option<ConnectionFault>
     ensures { IsConversed bits now (R.remaining reader.old) (R.remaining reader.new)
         (stand session.old instance.old effects.old (W.contents writer.old))
         (stand session.new instance.new effects.new (W.contents writer.new)) result }
@@ -95,7 +95,7 @@ fn converse<R: io::Read, W: io::Write>(
     let mut count = 0;
     loop {
         let Ok(size) = reader.read(&mut piece) else {
-            return Some(Fault::Read { at: count });
+            return Some(ConnectionFault::Read { at: count });
         };
         let fault = hear(
             alloc,
@@ -112,7 +112,7 @@ fn converse<R: io::Read, W: io::Write>(
         }
         count += size as u64;
         if count > MOST_BYTES {
-            return Some(Fault::TooLarge);
+            return Some(ConnectionFault::TooLarge);
         }
     }
 }

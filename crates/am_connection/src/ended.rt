@@ -7,7 +7,7 @@ ghost use Rattle.am_member.specs.Incoming.{no_effects};
 use am_gossip::Frame;
 use am_instance::{FrameSender, Place, Unsent};
 use am_member::StepEffects;
-use am_peers::Fault;
+use am_peers::ConnectionFault;
 use std::alloc::Global;
 
 /// The outcome of a connection that has ended.
@@ -20,12 +20,12 @@ pub struct Ended {
     /// True if a Tick was among the steps that were made.
     pub ticked: bool,
     /// The reason why the connection ended before its input did.
-    pub fault: Option<Fault>,
+    pub fault: Option<ConnectionFault>,
 }
 
 impl Ended {
     /// Returns the outcome of a connection whose steps had these effects.
-    pub(crate) fn new(effects: StepEffects, fault: Option<Fault>) -> Ended
+    pub(crate) fn new(effects: StepEffects, fault: Option<ConnectionFault>) -> Ended
         ensures effects { effects_of result ≡ effects }
         ensures fault { result.fault ≡ fault }
     {

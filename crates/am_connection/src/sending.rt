@@ -68,7 +68,7 @@ pub fn send<W: io::Write>(
     ensures too_long { (result ≡ Err errors.Length) ↔ ((is_name name.now && all_fit frames.now) ≡ false) }
 {
     let text = outgoing(alloc, name, frames)?;
-    match am_streams::send(writer, &text) {
+    match am_wire::send(writer, &text) {
         Ok(()) => Ok(text.len() as u64),
         Err(fault) => Err(SendError::Write {
             written: fault.written,

@@ -2,17 +2,17 @@
 use Rattle.std.proofs.Common.{◌≡◌, ◌∙◌, ℕ, false, Bor, List, Option, None, Some, Ok, inl, refl, sym, subst}
 use Rattle.std.proofs.lemmas.Option.{none-some}
 use Rattle.std.specs.Option.{is_some, option_copied}
-use Rattle.am_dialogue.specs.Answered.{IsAnswered, IsTaken, SaysBy}
-use Rattle.am_dialogue.specs.Talks.{Stays, Talk}
+use Rattle.am_server.specs.Answered.{IsAnswered, IsTaken, SaysBy}
+use Rattle.am_server.specs.Talks.{Stays, Talk}
 use Rattle.am_http.specs.Sessions.{Spoken, Standing, name_of, nothing}
 use Rattle.am_instance.specs.InstanceStates.{InstanceState}
 use Rattle.am_member.specs.declared.session_answer.SessionAnswer.{SessionAnswer}
 use Rattle.am_member.specs.Exchanging.{IsSessionAnswer, left_at}
 use Rattle.am_member.specs.Incoming.{no_effects}
-use Rattle.am_member.specs.Sparing.{spared}
+use Rattle.am_member.specs.Sparing.{deferred}
 
 -- its steps were made
-pub steps_taken : (said given : Spoken) (old new : InstanceState) (talk talk' : Talk) (mid : Standing) (exchanged : SessionAnswer) → given ≡ spared said →
+pub steps_taken : (said given : Spoken) (old new : InstanceState) (talk talk' : Talk) (mid : Standing) (exchanged : SessionAnswer) → given ≡ deferred said →
     ((bits : ℕ) × (now : ℕ) × IsSessionAnswer (name_of talk.session) bits now given old new exchanged) → mid ≡ left_at exchanged.fault talk.session →
     Stays (record talk { session = mid }) talk' → SaysBy exchanged.reply talk.saying talk'.saying → IsTaken said old talk new talk'
 steps_taken said given old new talk talk' mid exchanged is steps left stays says = record {
@@ -35,7 +35,7 @@ no_name (Some text) none = absurd cc
 abbrev no_answer : SessionAnswer
 no_answer = record { reply = None; effects = no_effects; fault = None }
 
-unsaid : (old : InstanceState) → IsSessionAnswer None 0 0 (spared nothing) old old no_answer
+unsaid : (old : InstanceState) → IsSessionAnswer None 0 0 (deferred nothing) old old no_answer
 unsaid old = record {
   asked = λ read some. absurd (none-some read some);
   heard = λ none. record { silent = refl; steps = Ok tt; stepped = (0, refl, refl); all = refl; stop = tt };
@@ -47,8 +47,8 @@ nothing_taken said old talk is name = record {
   bits = 0;
   now = 0;
   answer = no_answer;
-  exchanged = subst (λ (n : Option (List ℕ)). IsSessionAnswer n 0 0 (spared said) old old no_answer) (sym name)
-      (subst (λ (s : Spoken). IsSessionAnswer None 0 0 (spared s) old old no_answer) (sym is) (unsaid old));
+  exchanged = subst (λ (n : Option (List ℕ)). IsSessionAnswer n 0 0 (deferred said) old old no_answer) (sym name)
+      (subst (λ (s : Spoken). IsSessionAnswer None 0 0 (deferred s) old old no_answer) (sym is) (unsaid old));
   way = refl;
   session = refl;
   waiting = inl refl;

@@ -3,15 +3,15 @@ use Rattle.std.proofs.Common.{◌≡◌, ◌∙◌, ℕ, Option, Some, Ok, sym, 
 use Rattle.am_api_decisions.specs.Asked.{IsAsked}
 use Rattle.am_api_decisions.specs.declared.asked.Asked.TheVariants as asks
 use Rattle.am_api_decisions.specs.declared.asked.Question.{Question}
-use Rattle.am_api_silences.specs.PendingReply.{IsMadeOf, Makes}
-use Rattle.am_api_silences.specs.declared.pending_reply.PendingReply.{PendingReply}
-use Rattle.am_api_silences.specs.declared.replies.ReplyBytes.{ReplyBytes}
-use Rattle.am_dialogue.proofs.Calls.{away_replied, made_given, put_given, question_replied, same_given, told_given}
-use Rattle.am_dialogue.specs.Calls.{AnswersQuestion, CallCause, IsOnly, WhenTold}
-use Rattle.am_dialogue.specs.Calls.CallCause.{TooManyWait}
-use Rattle.am_dialogue.specs.Talks.{IsCallReply, IsReplyTo, KeepsBy, KeepsIf, Saying, put_next}
-use Rattle.am_dialogue.specs.declared.conversation.CallProgress.{CallProgress}
-use Rattle.am_dialogue.specs.declared.conversation.CallProgress.TheVariants as progress
+use Rattle.am_api_silences.specs.ReplyBuilder.{IsMadeOf, Makes}
+use Rattle.am_api_silences.specs.declared.reply_builder.ReplyBuilder.{ReplyBuilder}
+use Rattle.am_api_silences.specs.declared.replies.ResponseBytes.{ResponseBytes}
+use Rattle.am_server.proofs.Calls.{away_replied, made_given, put_given, question_replied, same_given, told_given}
+use Rattle.am_server.specs.Calls.{AnswersQuestion, CallCause, IsOnly, WhenTold}
+use Rattle.am_server.specs.Calls.CallCause.{TooManyWait}
+use Rattle.am_server.specs.Talks.{IsCallReply, IsReplyTo, KeepsBy, KeepsIf, Saying, put_next}
+use Rattle.am_server.specs.declared.connection_state.CallProgress.{CallProgress}
+use Rattle.am_server.specs.declared.connection_state.CallProgress.TheVariants as progress
 use Rattle.am_http.specs.Lines.{line_seen}
 use Rattle.am_http.specs.declared.refusal.Refusal.{Refusal}
 use Rattle.am_http.specs.declared.request.Request.{Request}
@@ -31,8 +31,8 @@ later_follows call old new puts request start end silent called = put_given call
 pub refused_follows : (refusal : Refusal) (old new : Saying) → KeepsIf (λ owed. WhenTold (IsReplyTo owed) (line_seen refusal)) old new → Follows (outcomes.Refused refusal) old new
 refused_follows refusal old new told request start end silent called = told_given request (line_seen refusal) start end old new silent told called
 
-pub made_follows : (making : PendingReply) (news : ℕ) (old new : Saying) → KeepsBy making old new → Follows (outcomes.Made making news) old new
-made_follows making news old new by request start end silent called = made_given request making start end old new silent by called
+pub made_follows : (making : ReplyBuilder) (changes : ℕ) (old new : Saying) → KeepsBy making old new → Follows (outcomes.Made making changes) old new
+made_follows making changes old new by request start end silent called = made_given request making start end old new silent by called
 
 -- ---- outcomes
 
@@ -41,7 +41,7 @@ pub away_called : (request : Request) (cause : CallCause) (old : InstanceState) 
 away_called request cause old outcomes.Nothing new is = absurd is
 away_called request cause old (outcomes.Later call) new is = absurd is
 away_called request cause old (outcomes.Refused refusal) new is = away_replied request cause (line_seen refusal) old new is
-away_called request cause old (outcomes.Made making news) new is = absurd is
+away_called request cause old (outcomes.Made making changes) new is = absurd is
 
 -- a call that waits, or too many do
 pub put_off_called : (request waits : Request) (old : InstanceState) (called : Called) (new : InstanceState) → waits ≡ request → IsPutOff waits called → IsCalled request old called new
@@ -50,17 +50,17 @@ put_off_called request waits old (outcomes.Later (progress.Turn turn)) new same 
 put_off_called request waits old (outcomes.Later (progress.Due due)) new same is = absurd is
 put_off_called request waits old (outcomes.Later (progress.Deciding it)) new same is = absurd is
 put_off_called request waits old (outcomes.Later (progress.Log writing)) new same is = absurd is
-put_off_called request waits old (outcomes.Later (progress.Counting census)) new same is = absurd is
+put_off_called request waits old (outcomes.Later (progress.Counting state_count)) new same is = absurd is
 put_off_called request waits old (outcomes.Refused refusal) new same is = away_replied request TooManyWait (line_seen refusal) old new is
-put_off_called request waits old (outcomes.Made making news) new same is = absurd is
+put_off_called request waits old (outcomes.Made making changes) new same is = absurd is
 
 -- a reply that is made
-pub made_called : (request : Request) (making : PendingReply) (old : InstanceState) (called : Called) (new : InstanceState) → ((news : ℕ) × (called ≡ outcomes.Made making news)) →
+pub made_called : (request : Request) (making : ReplyBuilder) (old : InstanceState) (called : Called) (new : InstanceState) → ((changes : ℕ) × (called ≡ outcomes.Made making changes)) →
     Makes (λ reply. IsCallReply request old reply new) making → IsCalled request old called new
 made_called request making old called new is makes = subst (λ (c : Called). IsCalled request old c new) (sym is.1) makes
 
 -- a decision that is given, or whose request waits
-module _ (request : Request) (question : Question) (start : InstanceState) (reply : ReplyBytes) (unheard : Option Request) (new : InstanceState)
+module _ (request : Request) (question : Question) (start : InstanceState) (reply : ResponseBytes) (unheard : Option Request) (new : InstanceState)
     (asked : IsAsked request (Ok (asks.Decide question))) (only : IsOnly request unheard) where
   waits_called : (called : Called) → ((other : Request) × (unheard ≡ Some other) × IsPutOff other called) → IsCalled request start called new
   waits_called called waits = put_off_called request waits.0 start called new (subst (IsOnly request) waits.1 only) waits.2
@@ -69,14 +69,14 @@ module _ (request : Request) (question : Question) (start : InstanceState) (repl
   given_called outcomes.Nothing answers waits = waits_called outcomes.Nothing waits
   given_called (outcomes.Later call) answers waits = waits_called (outcomes.Later call) waits
   given_called (outcomes.Refused refusal) answers waits = waits_called (outcomes.Refused refusal) waits
-  given_called (outcomes.Made making news) answers gives = λ other made.
-      let same : other ≡ reply = subst (λ (m : PendingReply). IsMadeOf m other) gives made in
-      subst (λ (r : ReplyBytes). IsCallReply request start r new) (sym same) (question_replied request question start reply new asked answers)
+  given_called (outcomes.Made making changes) answers gives = λ other made.
+      let same : other ≡ reply = subst (λ (m : ReplyBuilder). IsMadeOf m other) gives made in
+      subst (λ (r : ResponseBytes). IsCallReply request start r new) (sym same) (question_replied request question start reply new asked answers)
 
 -- the request waits that is still unheard
-pub put_off_waits : (reply : ReplyBytes) (unheard : Option Request) (request : Request) (called : Called) → unheard ≡ Some request → IsPutOff request called →
+pub put_off_waits : (reply : ResponseBytes) (unheard : Option Request) (request : Request) (called : Called) → unheard ≡ Some request → IsPutOff request called →
     GivesOrWaits reply unheard called
 put_off_waits reply unheard request outcomes.Nothing some is = absurd is
 put_off_waits reply unheard request (outcomes.Later call) some is = (request, some, is)
 put_off_waits reply unheard request (outcomes.Refused refusal) some is = (request, some, is)
-put_off_waits reply unheard request (outcomes.Made making news) some is = absurd is
+put_off_waits reply unheard request (outcomes.Made making changes) some is = absurd is

@@ -1,9 +1,9 @@
 -- What comes of an Alertmanager's answer.
 use Rattle.std.proofs.Common.{ℕ, Option, None, Some}
 use Rattle.std.specs.Prelude.{option_map}
-use Rattle.am_beside.specs.Comings.{frame_in}
-use Rattle.am_beside.specs.declared.replicas.Came.TheVariants.{Whole}
-use Rattle.am_dialogue.specs.Answered.{IsStepOfFrame}
+use Rattle.am_alertmanager.specs.Comings.{frame_in}
+use Rattle.am_alertmanager.specs.declared.replicas.Came.TheVariants.{Whole}
+use Rattle.am_server.specs.Answered.{IsStepOfFrame}
 use Rattle.am_gossip.specs.declared.frame.Frame.{Frame}
 use Rattle.am_instance.specs.InstanceStates.{InstanceState}
 

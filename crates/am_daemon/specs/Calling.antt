@@ -1,14 +1,14 @@
 -- The outcomes of calls of programs that send pages.
 use Rattle.std.specs.Prelude.{◌≡◌, Option, Some, ⊤}
-use Rattle.am_api_silences.specs.PendingReply.{Makes}
-use Rattle.am_api_silences.specs.declared.pending_reply.PendingReply.TheVariants.{Whole}
-use Rattle.am_api_silences.specs.declared.replies.ReplyBytes.{ReplyBytes}
-use Rattle.am_dialogue.specs.Calls.{CallCause, IsProgressOf, WhenTold, call_line}
-use Rattle.am_dialogue.specs.Calls.CallCause.{TooManyWait}
-use Rattle.am_dialogue.specs.Talks.{IsCallReply, IsGiven, Saying}
-use Rattle.am_dialogue.specs.Talks.Saying.{Silent}
-use Rattle.am_dialogue.specs.Waiting.{request_of}
-use Rattle.am_dialogue.specs.declared.conversation.CallProgress.TheVariants.{Turn as InTurn}
+use Rattle.am_api_silences.specs.ReplyBuilder.{Makes}
+use Rattle.am_api_silences.specs.declared.reply_builder.ReplyBuilder.TheVariants.{Whole}
+use Rattle.am_api_silences.specs.declared.replies.ResponseBytes.{ResponseBytes}
+use Rattle.am_server.specs.Calls.{CallCause, IsProgressOf, WhenTold, call_line}
+use Rattle.am_server.specs.Calls.CallCause.{TooManyWait}
+use Rattle.am_server.specs.Talks.{IsCallReply, IsGiven, Saying}
+use Rattle.am_server.specs.Talks.Saying.{Silent}
+use Rattle.am_server.specs.Waiting.{request_of}
+use Rattle.am_server.specs.declared.connection_state.CallProgress.TheVariants.{Turn as InTurn}
 use Rattle.am_http.specs.Lines.{line_seen}
 use Rattle.am_http.specs.declared.request.Request.{Request}
 use Rattle.am_instance.specs.InstanceStates.{InstanceState}
@@ -20,7 +20,7 @@ abbrev pub IsCalled : Request → InstanceState → Called → InstanceState →
 IsCalled request old outcomes.Nothing new = ⊤
 IsCalled request old (outcomes.Later call) new = IsProgressOf request call
 IsCalled request old (outcomes.Refused refusal) new = WhenTold (λ reply. IsCallReply request old reply new) (line_seen refusal)
-IsCalled request old (outcomes.Made making news) new = Makes (λ reply. IsCallReply request old reply new) making
+IsCalled request old (outcomes.Made making changes) new = Makes (λ reply. IsCallReply request old reply new) making
 
 -- The call is turned away for this cause.
 abbrev pub IsTurnedAwayFor : CallCause → Called → Type 0
@@ -34,8 +34,8 @@ IsPutOff request (outcomes.Refused refusal) = line_seen refusal ≡ call_line To
 IsPutOff request _ = ⊥
 
 -- The reply is given, or the request waits that is still unheard.
-abbrev pub GivesOrWaits : ReplyBytes → Option Request → Called → Type 0
-GivesOrWaits reply unheard (outcomes.Made making news) = making ≡ Whole reply
+abbrev pub GivesOrWaits : ResponseBytes → Option Request → Called → Type 0
+GivesOrWaits reply unheard (outcomes.Made making changes) = making ≡ Whole reply
 GivesOrWaits reply unheard called = (request : Request) × (unheard ≡ Some request) × IsPutOff request called
 
 -- If nothing was replied before, what is replied to a call follows from its outcome, between the same states.

@@ -1,16 +1,16 @@
 //! A running member of a cluster: what it answers, and what it does by itself.
 
-mod bursts;
-mod clerk;
+mod compilation;
 mod counting;
 mod deciding;
-mod desk;
 mod gossiping;
 mod guarding;
 mod hearing;
-mod judging;
 mod links;
+mod pending_frames;
 mod resuming;
+mod server;
+mod server_state;
 mod serving;
 mod start;
 mod telling;

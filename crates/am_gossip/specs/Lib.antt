@@ -1,3 +1,4 @@
+pub mod Refusals
 pub mod Answers
 pub mod Kinds
 pub mod Keys

@@ -6,12 +6,12 @@ use Rattle.am_gossip.specs.Streams.{rest_bytes}
 use Rattle.am_http.specs.Requests.{IsUnfinished}
 use Rattle.am_http.specs.declared.session.fault.SessionFault.{SessionFault}
 use Rattle.am_http.specs.declared.session.fault.SessionFault.TheVariants.{TooLarge, Frame as InFrame}
-use Rattle.am_http.specs.declared.session.state.State.{State}
-use Rattle.am_http.specs.declared.session.state.State.TheVariants.{Fresh, Asking, Greeting, Hearing, Over}
+use Rattle.am_http.specs.declared.session.state.SessionState.{SessionState}
+use Rattle.am_http.specs.declared.session.state.SessionState.TheVariants.{Fresh, Asking, Greeting, Hearing, Over}
 use Rattle.am_http.specs.Sessions.{Standing, fresh, InRequest, InGreeting, InFrames, over}
 
 -- the progress of the connection
-abbrev pub standing_in : State → Standing
+abbrev pub standing_in : SessionState → Standing
 standing_in Fresh = fresh
 standing_in (Asking bytes) = InRequest bytes.items
 standing_in (Greeting bytes) = InGreeting bytes.items
@@ -19,7 +19,7 @@ standing_in (Hearing h) = InFrames (string_bytes h.name) h.count (rest_bytes h.f
 standing_in (Over name) = over (option_map string_bytes name)
 
 -- a request that was begun isn't decided, and a stream that goes on has had no fault
-abbrev pub IsSound : State → Type 0
+abbrev pub IsSound : SessionState → Type 0
 IsSound (Asking bytes) = (0 < length bytes.items) × IsUnfinished bytes.items
 IsSound (Hearing h) = IsSome h.feeder
 IsSound _ = ⊤

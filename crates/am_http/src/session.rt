@@ -16,12 +16,12 @@ mod output;
 mod screening;
 mod state;
 
-use crate::Screened;
+use crate::hosts::Screened;
 pub use fault::SessionFault;
 use feeding::{end_of, next_of};
 pub use output::SessionOutput;
 use screening::screened;
-use state::State;
+use state::SessionState;
 use std::alloc::{AllocError, Global};
 use std::marker::Model;
 use std::mem;
@@ -33,7 +33,7 @@ use std::mem;
 #[derive(Drop)]
 pub struct Session {
     alloc: Global,
-    state: State,
+    state: SessionState,
 }
 
 impl Model for Session {
@@ -54,7 +54,7 @@ impl Session {
     {
         Session {
             alloc,
-            state: State::Fresh,
+            state: SessionState::Fresh,
         }
     }
 
@@ -65,7 +65,7 @@ impl Session {
         // PROMISE: A piece of a connection says the frames or the request that end in it.
         ensures { Feeds self.old piece.now (spoken result) self.new }
     {
-        let state = mem::replace(&mut self.state, State::Over(None));
+        let state = mem::replace(&mut self.state, SessionState::Over(None));
         let (said, next) = next_of(self.alloc, state, piece);
         self.state = next;
         said
@@ -104,15 +104,15 @@ impl Session {
     pub fn stop(&mut self)
         ensures { self.new ≡ over (name_of self.old) }
     {
-        let state = mem::replace(&mut self.state, State::Over(None));
-        self.state = State::Over(state.into_name());
+        let state = mem::replace(&mut self.state, SessionState::Over(None));
+        self.state = SessionState::Over(state.into_name());
     }
 
     /// Returns whether nothing more is heard.
     pub fn is_over(&self) -> bool
         ensures { IsTrue result ↔ (self.now ≡ over (name_of self.now)) }
     {
-        matches!(self.state, State::Over(_))
+        matches!(self.state, SessionState::Over(_))
     }
 
     /// Returns the name in the greeting, if one came.

@@ -5,8 +5,8 @@ use Rattle.am_gossip.specs.declared.frame.Frame.{Frame as GossipFrame}
 use Rattle.am_gossip.specs.declared.frame.Part.{Part}
 use Rattle.am_gossip.specs.Answers.{frame_fault}
 use Rattle.am_instance.specs.declared.event.Event.TheVariants as events
-use Rattle.am_refusals.specs.declared.error.StepError.{StepError}
-use Rattle.am_refusals.specs.declared.error.StepError.TheVariants.{MomentBack, UnknownPeer, Frame, Memory}
+use Rattle.am_gossip.specs.declared.refusals.StepError.{StepError}
+use Rattle.am_gossip.specs.declared.refusals.StepError.TheVariants.{MomentBack, UnknownPeer, Frame, Memory}
 use Rattle.am_instance.specs.declared.reply.Reply.TheVariants as replies
 use Rattle.am_instance.specs.declared.reply.Outcome.{Outcome}
 use Rattle.am_instance.specs.Configs.{peers_but}

@@ -8,11 +8,11 @@ use Rattle.am_wire.specs.declared.unknown.Unknown.{Unknown}
 use Rattle.am_gossip.specs.Answers.{frame_fault}
 use Rattle.am_gossip.specs.declared.error.FrameError.{FrameError}
 use Rattle.am_gossip.specs.declared.frame.Part.{Part}
-use Rattle.am_refusals.specs.declared.error.StepError.{StepError}
-use Rattle.am_refusals.specs.declared.error.StepError.TheVariants.{MomentBack, UnknownPeer, Frame, Memory}
+use Rattle.am_gossip.specs.declared.refusals.StepError.{StepError}
+use Rattle.am_gossip.specs.declared.refusals.StepError.TheVariants.{MomentBack, UnknownPeer, Frame, Memory}
 use Rattle.am_instance.specs.Deliveries.{Delivery, first_fault, rows_in, rows_of}
 use Rattle.am_instance.specs.Steps.{IsJudgement}
-use Rattle.am_refusals.specs.Refusals.{step_fault}
+use Rattle.am_gossip.specs.Refusals.{step_fault}
 use Rattle.am_instance.proofs.Arrivals.{first_fault_here}
 
 pub judged : (fault : Option WireError) (e : WireError) → (e ≢ wire.Memory → fault ≡ Some e) → IsJudgement fault (step_fault e)

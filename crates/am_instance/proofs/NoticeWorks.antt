@@ -10,8 +10,8 @@ use Rattle.am_gossip.specs.declared.error.FrameError.TheVariants as frame_errors
 use Rattle.am_nflog.specs.Mesh.{Mesh as LogMesh, writes_mesh_entry}
 use Rattle.am_nflog.specs.Made.{made_entry, expiry}
 use Rattle.am_nflog.specs.declared.receiver.Receiver.{Receiver}
-use Rattle.am_refusals.specs.declared.error.StepError.{StepError}
-use Rattle.am_refusals.specs.declared.error.StepError.TheVariants.{Memory}
+use Rattle.am_gossip.specs.declared.refusals.StepError.{StepError}
+use Rattle.am_gossip.specs.declared.refusals.StepError.TheVariants.{Memory}
 use Rattle.am_instance.specs.declared.event.Event.TheVariants as events
 use Rattle.am_instance.specs.declared.reply.Reply.TheVariants as replies
 use Rattle.am_instance.specs.declared.reply.Outcome.{Outcome}
@@ -20,7 +20,7 @@ use Rattle.am_instance.specs.Sendings.{sent_by, nothing_sent}
 use Rattle.am_instance.specs.InstanceStates.{InstanceState}
 use Rattle.am_instance.specs.Replies.{IsLogged, IsNothing}
 use Rattle.am_instance.specs.Steps.{IsWork, IsLoggedHere}
-use Rattle.am_refusals.specs.Refusals.{step_fault}
+use Rattle.am_gossip.specs.Refusals.{step_fault}
 use Rattle.am_instance.proofs.Works.{made_work, quiet_work, stopped_work, memory_work, made_entry_here}
 
 -- the fault of a notification, by its two tests

@@ -12,8 +12,8 @@ use Rattle.am_collect.specs.Events.{MapEvent, MoveForward, last_moment}
 use Rattle.am_collect.specs.Events.MapEvent.{Collected}
 use Rattle.am_collect.specs.Kept.{Kept}
 use Rattle.am_instance.specs.declared.event.Event.{Event}
-use Rattle.am_refusals.specs.declared.error.StepError.{StepError}
-use Rattle.am_refusals.specs.declared.error.StepError.TheVariants.{MomentBack, UnknownPeer, Frame, Memory}
+use Rattle.am_gossip.specs.declared.refusals.StepError.{StepError}
+use Rattle.am_gossip.specs.declared.refusals.StepError.TheVariants.{MomentBack, UnknownPeer, Frame, Memory}
 use Rattle.am_instance.specs.declared.reply.Outcome.{Outcome}
 use Rattle.am_instance.specs.Deliveries.{Delivery, events_at, to_silences, to_log}
 use Rattle.am_instance.specs.InstanceStates.{InstanceState, kept_silences, kept_log, AreSilencesLeftBy, IsLogLeftBy}

@@ -20,8 +20,8 @@ use Rattle.am_matcher.specs.declared.dialect.Dialect.{Dialect}
 use Rattle.am_matcher.specs.Matching.{has_regexp, matches_value}
 use Rattle.am_matcher.specs.Dialects.{AreMeant, IsVerdictIn, takes_names}
 use Rattle.am_matcher.proofs.Meant.{meant_once, plain_are_meant}
-use Rattle.am_refusals.specs.declared.error.StepError.{StepError}
-use Rattle.am_refusals.specs.declared.error.StepError.TheVariants.{Memory}
+use Rattle.am_gossip.specs.declared.refusals.StepError.{StepError}
+use Rattle.am_gossip.specs.declared.refusals.StepError.TheVariants.{Memory}
 use Rattle.am_instance.specs.declared.event.Event.TheVariants as events
 use Rattle.am_instance.specs.declared.event.Request.TheVariants as requests
 use Rattle.am_instance.specs.declared.reply.Reply.{Reply}

@@ -7,13 +7,13 @@ use Rattle.am_wire.specs.declared.unknown.Unknown.{Unknown}
 use Rattle.am_nflog.specs.Keys.{key_cmp}
 use Rattle.am_collect.specs.Events.{MapEvent, after_all}
 use Rattle.am_collect.specs.Events.MapEvent.{Collected}
-use Rattle.am_refusals.specs.declared.error.StepError.{StepError}
+use Rattle.am_gossip.specs.declared.refusals.StepError.{StepError}
 use Rattle.am_silence.specs.Mesh.{Mesh, mesh_version}
 use Rattle.am_nflog.specs.Mesh.{Mesh as LogMesh, mesh_version as entry_version}
 use Rattle.am_merge.specs.Maps.{if_live}
 use Rattle.am_nflog.specs.LogKeys.{LogKey}
 use Rattle.am_instance.specs.declared.event.Event.{Event}
-use Rattle.am_refusals.specs.declared.error.StepError.TheVariants.{Memory}
+use Rattle.am_gossip.specs.declared.refusals.StepError.TheVariants.{Memory}
 use Rattle.am_instance.specs.declared.reply.Made.{Made}
 use Rattle.am_instance.specs.declared.reply.Outcome.{Outcome}
 use Rattle.am_instance.specs.Configs.{peers_but}

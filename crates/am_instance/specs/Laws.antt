@@ -14,7 +14,7 @@ use Rattle.am_collect.specs.Calm.{IsCalm}
 use Rattle.am_instance.specs.declared.event.Event.{Event}
 use Rattle.am_instance.specs.declared.event.Event.TheVariants as events
 use Rattle.am_instance.specs.declared.event.Request.TheVariants as requests
-use Rattle.am_refusals.specs.declared.error.StepError.{StepError}
+use Rattle.am_gossip.specs.declared.refusals.StepError.{StepError}
 use Rattle.am_instance.specs.declared.reply.Outcome.{Outcome}
 use Rattle.am_instance.specs.Deliveries.{Delivery, to_silences, to_log}
 use Rattle.am_instance.specs.InstanceStates.{InstanceState, kept_silences, kept_log, AreSilencesLeftBy, IsLogLeftBy}

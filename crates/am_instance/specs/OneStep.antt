@@ -1,7 +1,7 @@
 -- The contract of a step, for contracts that speak of several.
 use Rattle.std.specs.Prelude.{◌≡◌, ℕ, true, OnOk, IfOk, IfErr, Result}
 use Rattle.am_instance.specs.declared.event.Event.{Event}
-use Rattle.am_refusals.specs.declared.error.StepError.{StepError}
+use Rattle.am_gossip.specs.declared.refusals.StepError.{StepError}
 use Rattle.am_instance.specs.declared.reply.Outcome.{Outcome}
 use Rattle.am_instance.specs.Deliveries.{to_silences, to_log}
 use Rattle.am_instance.specs.InstanceStates.{InstanceState, HoldsWhole, AreSilencesLeftBy, IsLogLeftBy, kept_silences, kept_log}

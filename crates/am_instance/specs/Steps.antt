@@ -25,8 +25,8 @@ use Rattle.am_collect.specs.Events.MapEvent.{Collected}
 use Rattle.am_instance.specs.declared.event.Event.{Event}
 use Rattle.am_instance.specs.declared.event.Event.TheVariants as events
 use Rattle.am_instance.specs.declared.event.Request.TheVariants as requests
-use Rattle.am_refusals.specs.declared.error.StepError.{StepError}
-use Rattle.am_refusals.specs.declared.error.StepError.TheVariants.{MomentBack, UnknownPeer, Frame, Memory}
+use Rattle.am_gossip.specs.declared.refusals.StepError.{StepError}
+use Rattle.am_gossip.specs.declared.refusals.StepError.TheVariants.{MomentBack, UnknownPeer, Frame, Memory}
 use Rattle.am_instance.specs.declared.reply.Made.{Made}
 use Rattle.am_instance.specs.declared.reply.Outcome.{Outcome}
 use Rattle.am_instance.specs.Configs.{Settings, is_peer, peers_but}

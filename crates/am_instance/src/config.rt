@@ -6,14 +6,13 @@ ghost use Rattle.std.specs.Option.{SomeIff};
 ghost use Rattle.std.specs.Str.{bytes_eq};
 ghost use Rattle.am_version_order.specs.Moments.{greatest};
 ghost use Rattle.am_instance.specs.Configs.{AreInOrder, AreMembers, HasTwice, IsEmptyName, IsLongName, is_peer, place_named};
-ghost use Rattle.am_refusals.specs.declared.error.ConfigError.TheVariants as errors;
+ghost use Rattle.am_gossip.specs.declared.refusals.ConfigError.TheVariants as errors;
 ghost use Rattle.am_matcher.specs.declared.dialect.Dialect.TheVariants as dialects;
 ghost use Rattle.am_wire.specs.declared.unknown.Unknown.TheVariants as unknowns;
 
 use am_dedup::due;
-use am_gossip::MOST_NAME_BYTES;
+use am_gossip::{ConfigError, MOST_NAME_BYTES, Place};
 use am_matcher::Dialect;
-use am_refusals::{ConfigError, Place};
 use am_version_order::{Interval, Moment};
 use am_wire::{Text, Unknown};
 use std::alloc::{AllocError, Global};

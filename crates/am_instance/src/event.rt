@@ -1,9 +1,8 @@
 //! The events of an instance.
 
-use am_gossip::Frame;
+use am_gossip::{Frame, Place};
 use am_matcher::{Filter, Labels};
 use am_nflog::{Hashes, Receiver};
-use am_refusals::Place;
 use am_silence::Posted;
 use am_version_order::Interval;
 use am_wire::{Bytes, Text};

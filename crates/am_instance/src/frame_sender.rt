@@ -14,10 +14,9 @@ ghost use Rattle.am_instance.specs.Sendings.{Gathers, IsSent, Sends, addressed, 
 ghost use Rattle.am_instance.specs.Sendings.{nothing_sent, over_limit, whole_state};
 
 use crate::reply::Unsent;
-use am_gossip::{Frame, FullState, Part, StateKey, delta_fits, states_fit};
+use am_gossip::{Frame, FullState, Part, Place, StateKey, delta_fits, states_fit};
 use am_merge::Held;
 use am_nflog::MeshEntry;
-use am_refusals::Place;
 use am_silence::MeshSilence;
 use am_snapshot::{row_bytes, row_length};
 use am_version_order::Version;

@@ -9,10 +9,10 @@ ghost use Rattle.am_instance.specs.Steps.{IsAdmitted, IsUnadmitted, IsWork, coun
 use crate::config::Config;
 use crate::event::Event;
 use crate::reply::Outcome;
+use am_gossip::{Place, StepError};
 use am_matcher::PatternCache;
 use am_merge::Held;
 use am_nflog::MeshEntry;
-use am_refusals::{Place, StepError};
 use am_silence::MeshSilence;
 use am_version_order::Moment;
 use std::alloc::Global;

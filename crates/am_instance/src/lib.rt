@@ -14,7 +14,7 @@ mod requests;
 mod rows;
 mod views;
 
-pub use am_refusals::{ConfigError, Place, StepError};
+pub use am_gossip::{ConfigError, Place, StepError};
 pub use config::Config;
 pub use event::{Event, Request};
 pub use frame_sender::{FrameSender, whole_state};

@@ -2,7 +2,7 @@
 
 ghost use Rattle.std.specs.Prelude.{◌≡◌, [], Some, OnErr, IfOk, IfErr};
 ghost use Rattle.am_instance.specs.declared.event.Event.TheVariants as events;
-ghost use Rattle.am_refusals.specs.declared.error.StepError.TheVariants as errors;
+ghost use Rattle.am_gossip.specs.declared.refusals.StepError.TheVariants as errors;
 ghost use Rattle.am_instance.specs.declared.reply.Reply.TheVariants as replies;
 ghost use Rattle.am_instance.specs.Configs.{peers_but};
 ghost use Rattle.am_instance.specs.Changes.{only_if};
@@ -16,11 +16,10 @@ use crate::reply::{Made, Outcome, Reply};
 use crate::requests::{is_changed, quiet};
 use crate::views::{entry_in_view, log_shown, silences_shown};
 use am_dedup::decide_over;
-use am_gossip::StateKey;
+use am_gossip::{StateKey, StepError};
 use am_matcher::Labels;
 use am_merge::Taken;
 use am_nflog::{Hashes, LogKey, MeshEntry, Receiver, make_entry};
-use am_refusals::StepError;
 use am_version_order::{Interval, Moment, Version};
 use am_wire::Bytes;
 use std::alloc::Global;

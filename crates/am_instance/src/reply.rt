@@ -5,10 +5,9 @@ ghost use Rattle.am_instance.specs.Sendings.{sent_by};
 
 use crate::frame_sender::FrameSender;
 use am_dedup::Decision;
-use am_gossip::Frame;
+use am_gossip::{Frame, Place};
 use am_matcher::Mutes;
 use am_nflog::MeshEntry;
-use am_refusals::Place;
 use am_silence::{MeshSilence, SilenceError, State};
 use am_wire::Text;
 

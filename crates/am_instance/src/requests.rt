@@ -9,7 +9,7 @@ ghost use Rattle.am_silence.specs.declared.error.SilenceError.TheVariants as sil
 ghost use Rattle.am_matcher.specs.Matching.{has_regexp};
 ghost use Rattle.am_matcher.specs.Dialects.{IsVerdictIn};
 ghost use Rattle.am_instance.specs.InstanceStates.{silence_at};
-ghost use Rattle.am_refusals.specs.declared.error.StepError.TheVariants as errors;
+ghost use Rattle.am_gossip.specs.declared.refusals.StepError.TheVariants as errors;
 ghost use Rattle.am_instance.specs.declared.event.Event.TheVariants as events;
 ghost use Rattle.am_instance.specs.declared.event.Request.TheVariants as requests;
 ghost use Rattle.am_instance.specs.Configs.{peers_but};
@@ -26,10 +26,9 @@ use crate::frames::outcome;
 use crate::instance::Instance;
 use crate::reply::{Made, Outcome, Reply};
 use crate::views::{silence_in_view, silences_shown};
-use am_gossip::StateKey;
+use am_gossip::{StateKey, StepError};
 use am_matcher::Filter;
 use am_merge::{Held, Taken};
-use am_refusals::StepError;
 use am_silence::{
     Matchers, MeshSilence, Plan, Posted, SilenceError, Verdict, fresh_id, plan_expire, plan_post,
     refused_unread,

@@ -5,8 +5,8 @@ use Rattle.std.specs.Prelude.{◌==◌, if◌then◌else◌}
 use Rattle.std.specs.List.{AllByRecursion, flat_map}
 use Rattle.am_instance.specs.InstanceStates.{InstanceState}
 use Rattle.am_http.specs.Sessions.{Says, SaysAll, Spoken, Standing, fresh}
-use Rattle.am_peers.specs.declared.fault.Fault.{Fault}
-use Rattle.am_peers.specs.declared.fault.Fault.TheVariants.{Read, Write, TooLarge, Frame as InFrame, UnknownName, Step}
+use Rattle.am_peers.specs.declared.fault.ConnectionFault.{ConnectionFault}
+use Rattle.am_peers.specs.declared.fault.ConnectionFault.TheVariants.{Read, Write, TooLarge, Frame as InFrame, UnknownName, Step}
 use Rattle.am_member.specs.Exchanging.{is_stopped, left_at}
 use Rattle.am_member.specs.Lives.{Came, Deed, IsHeardOut, IsLife, IsTurn, Tells, Turn, bytes_in, bytes_of, said_in, standings_after, standings_in, turns_of}
 use Rattle.am_member.specs.Lives.Came.{Heard, Fed, AtEnd, Opened}
@@ -29,7 +29,7 @@ told_heard AtEnd piece old said new is tells = absurd cc
 told_heard (Opened greeting frames) piece old said new is tells = absurd cc
 
 -- the connection is heard on
-heard_on : (fault : Option Fault) (standing : Standing) → is_stopped fault ≡ false → left_at fault standing ≡ standing
+heard_on : (fault : Option ConnectionFault) (standing : Standing) → is_stopped fault ≡ false → left_at fault standing ≡ standing
 heard_on None standing on = refl
 heard_on (Some (Read at)) standing on = refl
 heard_on (Some (Write written)) standing on = refl

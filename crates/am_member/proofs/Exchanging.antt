@@ -14,8 +14,8 @@ use Rattle.am_http.specs.declared.session.fault.SessionFault.TheVariants as sess
 use Rattle.am_http.specs.Sessions.{Standing, name_of, over}
 use Rattle.am_member.specs.declared.session_answer.StepEffects.{StepEffects}
 use Rattle.am_member.specs.declared.session_answer.SessionAnswer.{SessionAnswer}
-use Rattle.am_peers.specs.declared.fault.Fault.{Fault}
-use Rattle.am_peers.specs.declared.fault.Fault.TheVariants.{Read as InRead, Write, TooLarge, Frame as InFrame, UnknownName, Step}
+use Rattle.am_peers.specs.declared.fault.ConnectionFault.{ConnectionFault}
+use Rattle.am_peers.specs.declared.fault.ConnectionFault.TheVariants.{Read as InRead, Write, TooLarge, Frame as InFrame, UnknownName, Step}
 use Rattle.am_member.specs.Incoming.{SoFar, no_effects, so_far}
 use Rattle.am_member.specs.Exchanging.{AreHeard, AreStepped, IsReadAnswer, fault_heard, left_at}
 
@@ -36,7 +36,7 @@ heard_fault (Some session_faults.TooLarge) standing = refl
 heard_fault (Some (session_faults.Frame error)) standing = refl
 
 -- a step that isn't made stops it
-pub stopped : (name : Option (List ℕ)) (now : ℕ) (frames : List Frame) (before after : SoFar) (stop : Fault) (standing : Standing) →
+pub stopped : (name : Option (List ℕ)) (now : ℕ) (frames : List Frame) (before after : SoFar) (stop : ConnectionFault) (standing : Standing) →
     AreStepped name now frames before after (Err stop) → left_at (Some stop) standing ≡ over (name_of standing)
 stopped name now frames before after UnknownName standing stepped = refl
 stopped name now frames before after (Step error) standing stepped = refl
@@ -48,7 +48,7 @@ stopped name now frames before after (InFrame error) standing stepped = absurd s
 module _ (name given : Option (List ℕ)) (now : ℕ) (frames : List Frame) (fault : Option SessionFault) (old : InstanceState) (before : StepEffects) (new : InstanceState) (answer : SessionAnswer)
     (same : given ≡ name) (none : before ≡ no_effects) (silent : answer.reply ≡ None) where
   -- the same of steps with the name of the session, from no effects on
-  as_said : (result : Result Unit Fault) → AreStepped given now frames (so_far old before) (so_far new answer.effects) result →
+  as_said : (result : Result Unit ConnectionFault) → AreStepped given now frames (so_far old before) (so_far new answer.effects) result →
       AreStepped name now frames (so_far old no_effects) (so_far new answer.effects) result
   as_said result stepped =
       subst (λ (e : StepEffects). AreStepped name now frames (so_far old e) (so_far new answer.effects) result) none
@@ -60,6 +60,6 @@ module _ (name given : Option (List ℕ)) (now : ℕ) (frames : List Frame) (fau
   heard_out stepped is = record { silent = silent; steps = Ok tt; stepped = as_said (Ok tt) stepped; all = is; stop = tt }
 
   -- one wasn't
-  pub heard_stop : (stop : Fault) → AreStepped given now frames (so_far old before) (so_far new answer.effects) (Err stop) → answer.fault ≡ Some stop →
+  pub heard_stop : (stop : ConnectionFault) → AreStepped given now frames (so_far old before) (so_far new answer.effects) (Err stop) → answer.fault ≡ Some stop →
       AreHeard name now frames fault old new answer
   heard_stop stop stepped is = record { silent = silent; steps = Err stop; stepped = as_said (Err stop) stepped; all = tt; stop = is }

@@ -13,15 +13,15 @@ use Rattle.am_instance.specs.InstanceStates.{InstanceState, AreSilencesLeftBy, I
 use Rattle.am_instance.specs.Laws.{AreMade, Happened}
 use Rattle.am_instance.specs.OneStep.{IsStep}
 use Rattle.am_instance.specs.Steps.{step_events}
-use Rattle.am_refusals.specs.declared.error.StepError.{StepError}
+use Rattle.am_gossip.specs.declared.refusals.StepError.{StepError}
 use Rattle.am_instance.specs.declared.event.Event.{Event}
 use Rattle.am_instance.specs.declared.event.Event.TheVariants as events
 use Rattle.am_instance.specs.declared.reply.Outcome.{Outcome}
 use Rattle.am_api_silences.specs.Answers.{Answered, IsRefusalAnswer, IsRequestAnswer, IsStepAnswer, with_reply}
 use Rattle.am_http.specs.Sessions.{Standing, name_of}
-use Rattle.am_member.specs.Sparing.{spared}
-use Rattle.am_peers.specs.declared.fault.Fault.{Fault}
-use Rattle.am_peers.specs.declared.fault.Fault.TheVariants.{Read as InRead, Write, TooLarge, Frame as InFrame, UnknownName, Step}
+use Rattle.am_member.specs.Sparing.{deferred}
+use Rattle.am_peers.specs.declared.fault.ConnectionFault.{ConnectionFault}
+use Rattle.am_peers.specs.declared.fault.ConnectionFault.TheVariants.{Read as InRead, Write, TooLarge, Frame as InFrame, UnknownName, Step}
 use Rattle.am_member.specs.declared.session_answer.SessionAnswer.{SessionAnswer}
 use Rattle.am_member.specs.Incoming.{MakesAll, SoFar, StopsAt, no_effects, so_far}
 use Rattle.am_member.proofs.Finished.{finish_of}
@@ -149,7 +149,7 @@ record FrameSteps (name : Option (List ℕ)) (now : ℕ) (frames : List Frame) (
   steps : (steps : List Happened) × AreStepsUpTo now asked stopped old steps new
 
 -- what the frames of a connection did
-stepped_steps : (name : Option (List ℕ)) (now : ℕ) (frames : List Frame) (before after : SoFar) (steps : Result Unit Fault) (told : Option Fault) → AreStepped name now frames before after steps →
+stepped_steps : (name : Option (List ℕ)) (now : ℕ) (frames : List Frame) (before after : SoFar) (steps : Result Unit ConnectionFault) (told : Option ConnectionFault) → AreStepped name now frames before after steps →
     IfErr steps (λ stop. told ≡ Some stop) → FrameSteps name now frames (is_stopped told) before.instance after.instance
 stepped_steps name now frames before after (Ok _) told stepped is = record {
   asked = sent_from stepped.0 frames;
@@ -162,7 +162,7 @@ stepped_steps name now frames before after (Err UnknownName) told stepped is = r
   steps = whole_steps now [] (is_stopped told) before.instance after.instance (none_at now before.instance after.instance (ap (λ (s : SoFar). s.instance) stepped.1));
 }
 stepped_steps name now frames before after (Err (Step error)) told stepped is =
-    subst (λ (f : Option Fault). FrameSteps name now frames (is_stopped f) before.instance after.instance) (sym is) (record {
+    subst (λ (f : Option ConnectionFault). FrameSteps name now frames (is_stopped f) before.instance after.instance) (sym is) (record {
       asked = sent_from stepped.0 frames;
       are = inr (stepped.0, stepped.1, refl);
       steps = stop_steps stepped.0 now frames before after error stepped.2;
@@ -209,7 +209,7 @@ read_steps More bits now stopped old new answer done =
 -- ---- a turn
 
 -- the steps of the events that were asked for, of a turn
-steps_of_turn : (old : InstanceState) (turn : Turn) (asked : List Event) → AreEventsOf old.config (name_of turn.heard) turn.bits (spared turn.said) asked →
+steps_of_turn : (old : InstanceState) (turn : Turn) (asked : List Event) → AreEventsOf old.config (name_of turn.heard) turn.bits (deferred turn.said) asked →
     ((steps : List Happened) × AreStepsUpTo turn.now asked (is_stopped turn.answer.fault) old steps turn.left) →
     (steps : List Happened) × AreStepsOf old turn steps
 steps_of_turn old turn asked said up_to = (
@@ -232,19 +232,19 @@ or_given other (Some x) = x
 some_is : {A : Type 0} (x y : A) (o : Option A) → o ≡ Some x → o ≡ Some y → x ≡ y
 some_is x y o is also = ap (or_given x) (sym is ∙ also)
 
-turn_by : (old : InstanceState) (turn : Turn) (request : Option Read) → (spared turn.said).request ≡ request →
-    IsSessionAnswer (name_of turn.heard) turn.bits turn.now (spared turn.said) old turn.left turn.answer → (steps : List Happened) × AreStepsOf old turn steps
+turn_by : (old : InstanceState) (turn : Turn) (request : Option Read) → (deferred turn.said).request ≡ request →
+    IsSessionAnswer (name_of turn.heard) turn.bits turn.now (deferred turn.said) old turn.left turn.answer → (steps : List Happened) × AreStepsOf old turn steps
 turn_by old turn (Some read) is done =
     let found = read_steps read turn.bits turn.now (is_stopped turn.answer.fault) old turn.left turn.answer (done.asked read is) in
     steps_of_turn old turn found.asked
     (record {
-      of_request = λ other also. subst (λ (r : Read). AreEventsOfRead old.config.dialect r turn.bits found.asked) (some_is read other (spared turn.said).request is also) found.are;
+      of_request = λ other also. subst (λ (r : Read). AreEventsOfRead old.config.dialect r turn.bits found.asked) (some_is read other (deferred turn.said).request is also) found.are;
       of_frames = λ none. absurd (none-some read (sym none ∙ is));
     })
     found.steps
 turn_by old turn None is done =
     let heard = done.heard is in
-    let found = stepped_steps (name_of turn.heard) turn.now (spared turn.said).frames (so_far old no_effects) (so_far turn.left turn.answer.effects) heard.steps turn.answer.fault heard.stepped heard.stop in
+    let found = stepped_steps (name_of turn.heard) turn.now (deferred turn.said).frames (so_far old no_effects) (so_far turn.left turn.answer.effects) heard.steps turn.answer.fault heard.stepped heard.stop in
     steps_of_turn old turn found.asked
     (record {
       of_request = λ read some. absurd (none-some read (sym is ∙ some));
@@ -253,7 +253,7 @@ turn_by old turn None is done =
     found.steps
 
 pub turn_steps : (standing : Standing) (old : InstanceState) (turn : Turn) → IsTurn standing old turn → (steps : List Happened) × AreStepsOf old turn steps
-turn_steps standing old turn done = turn_by old turn (spared turn.said).request refl done.answered
+turn_steps standing old turn done = turn_by old turn (deferred turn.said).request refl done.answered
 
 -- all deeds
 pub life_steps : (standings : ℕ → Standing) (start new : InstanceState) (deeds : List Deed) → IsLife standings start deeds new →

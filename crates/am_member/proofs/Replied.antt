@@ -9,22 +9,22 @@ use Rattle.am_instance.specs.Bare.{IsBareReply, asks_shown}
 use Rattle.am_instance.specs.InstanceStates.{InstanceState}
 use Rattle.am_instance.specs.OneStep.{IsStep}
 use Rattle.am_instance.specs.Replies.{IsReply}
-use Rattle.am_refusals.specs.declared.error.StepError.{StepError}
-use Rattle.am_refusals.specs.declared.error.StepError.TheVariants.{MomentBack, UnknownPeer, Frame, Memory}
+use Rattle.am_gossip.specs.declared.refusals.StepError.{StepError}
+use Rattle.am_gossip.specs.declared.refusals.StepError.TheVariants.{MomentBack, UnknownPeer, Frame, Memory}
 use Rattle.am_instance.specs.declared.event.Event.{Event}
 use Rattle.am_instance.specs.declared.reply.Made.{Made}
 use Rattle.am_instance.specs.declared.reply.Outcome.{Outcome}
 use Rattle.am_instance.specs.declared.reply.Reply.{Reply}
 use Rattle.am_api_silences.specs.Answers.{Answered, IsErrorBytes, IsRefusalAnswer, IsRequestAnswer, IsStepAnswer, with_reply}
 use Rattle.am_api_silences.specs.Replies.{IsReplyBytes, Says}
-use Rattle.am_api_silences.specs.declared.replies.ReplyBytes.{ReplyBytes}
-use Rattle.am_api_silences.specs.declared.replies.ReplyBytes.TheVariants.{Own, Fixed}
+use Rattle.am_api_silences.specs.declared.replies.ResponseBytes.{ResponseBytes}
+use Rattle.am_api_silences.specs.declared.replies.ResponseBytes.TheVariants.{Own, Fixed}
 use Rattle.am_member.specs.declared.session_answer.SessionAnswer.{SessionAnswer}
 use Rattle.am_member.specs.Exchanging.{IsReadAnswer}
 use Rattle.am_http.specs.declared.request.Read.TheVariants.{Whole}
 use Rattle.am_member.specs.Lives.{IsBareAnswer, IsBareBytes, RepliesBare}
 
-weaker : (IsMeant Other : List ℕ → Type 0) → ((bytes : List ℕ) → IsMeant bytes → Other bytes) → (reply : ReplyBytes) → Says IsMeant reply → Says Other reply
+weaker : (IsMeant Other : List ℕ → Type 0) → ((bytes : List ℕ) → IsMeant bytes → Other bytes) → (reply : ResponseBytes) → Says IsMeant reply → Says Other reply
 weaker IsMeant Other less (Own bytes) says = less bytes.items says
 weaker IsMeant Other less (Fixed bytes) says = says
 
@@ -41,7 +41,7 @@ RepliesAsSets dialect silences log stand = (event : Event) (now : ℕ) (reply : 
     IsBareReply dialect silences log event now reply
 
 -- a step tells what they reply
-step_bare : (dialect : Dialect) (silences : List Mesh) (log : List LogMesh) (stand new : InstanceState) (event : Event) (now : ℕ) (step : Result Outcome StepError) (reply : ReplyBytes) →
+step_bare : (dialect : Dialect) (silences : List Mesh) (log : List LogMesh) (stand new : InstanceState) (event : Event) (now : ℕ) (step : Result Outcome StepError) (reply : ResponseBytes) →
     RepliesAsSets dialect silences log stand → IsStep stand event now step new → IfOk step (λ outcome. Says (IsReplyBytes outcome.reply) reply) → IfErr step (λ error. Says (IsErrorBytes error) reply) →
     asks_shown event ≡ true → Says (IsBareBytes dialect silences log event now) reply
 step_bare dialect silences log stand new event now (Ok outcome) reply sets made replied refused asks =

@@ -15,8 +15,8 @@ use Rattle.am_http.specs.declared.session.fault.SessionFault.{SessionFault}
 use Rattle.am_http.specs.declared.session.fault.SessionFault.TheVariants as session_faults
 use Rattle.am_http.specs.Sessions.{Spoken, Standing, name_of, over}
 use Rattle.am_member.specs.declared.session_answer.SessionAnswer.{SessionAnswer}
-use Rattle.am_peers.specs.declared.fault.Fault.{Fault}
-use Rattle.am_peers.specs.declared.fault.Fault.TheVariants.{TooLarge, Frame as InFrame, UnknownName, Step}
+use Rattle.am_peers.specs.declared.fault.ConnectionFault.{ConnectionFault}
+use Rattle.am_peers.specs.declared.fault.ConnectionFault.TheVariants.{TooLarge, Frame as InFrame, UnknownName, Step}
 use Rattle.am_member.specs.Incoming.{IsOnlyPeerOf, IsPeerOf, MakesAll, SoFar, StopsAt, no_effects, so_far}
 
 -- ---- a request
@@ -60,7 +60,7 @@ IsFromNobody config None frames = frames ≢ []
 IsFromNobody config (Some name) frames = (place : ℕ) → ¬ IsPeerOf config name place
 
 -- the frames of a connection with this name did this: each step was made; or one is refused; or no peer has the name
-abbrev pub AreStepped : Option (List ℕ) → ℕ → List Frame → SoFar → SoFar → Result Unit Fault → Type 0
+abbrev pub AreStepped : Option (List ℕ) → ℕ → List Frame → SoFar → SoFar → Result Unit ConnectionFault → Type 0
 AreStepped name now frames before after (Ok _) =
     (sender : ℕ) × AreFrom before.instance.config name frames sender × MakesAll sender now frames before after
 AreStepped name now frames before after (Err (Step error)) =
@@ -69,7 +69,7 @@ AreStepped name now frames before after (Err UnknownName) = IsFromNobody before.
 AreStepped name now frames before after (Err _) = ⊥
 
 -- the fault of a session as one of its connection
-abbrev pub fault_heard : SessionFault → Fault
+abbrev pub fault_heard : SessionFault → ConnectionFault
 fault_heard session_faults.TooLarge = TooLarge
 fault_heard (session_faults.Frame error) = InFrame error
 
@@ -78,7 +78,7 @@ pub record AreHeard (name : Option (List ℕ)) (now : ℕ) (frames : List Frame)
   -- nothing is replied
   pub silent : answer.reply ≡ None
   -- each is a step, up to the first that can't be made
-  pub steps : Result Unit Fault
+  pub steps : Result Unit ConnectionFault
   pub stepped : AreStepped name now frames (so_far old no_effects) (so_far new answer.effects) steps
   -- if all are made, the session's own fault is told
   pub all : OnOk steps (answer.fault ≡ option_map fault_heard fault)
@@ -95,13 +95,13 @@ pub record IsSessionAnswer (name : Option (List ℕ)) (bits now : ℕ) (said : S
   pub heard : said.request ≡ None → AreHeard name now said.frames said.fault old new answer
 
 -- true if nothing more is heard of a connection, because its peer is unknown or a step of it was refused
-abbrev pub is_stopped : Option Fault → Bool
+abbrev pub is_stopped : Option ConnectionFault → Bool
 is_stopped (Some UnknownName) = true
 is_stopped (Some (Step error)) = true
 is_stopped _ = false
 
 -- the standing of a connection after a fault, or without one
-abbrev pub left_at : Option Fault → Standing → Standing
+abbrev pub left_at : Option ConnectionFault → Standing → Standing
 left_at (Some UnknownName) standing = over (name_of standing)
 left_at (Some (Step error)) standing = over (name_of standing)
 left_at _ standing = standing

@@ -24,15 +24,15 @@ use Rattle.am_instance.specs.declared.event.Event.{Event}
 use Rattle.am_instance.specs.declared.event.Event.TheVariants as events
 use Rattle.am_instance.specs.declared.reply.Reply.{Reply}
 use Rattle.am_api_silences.specs.Events.{IsEventIn}
-use Rattle.am_api_silences.specs.PendingReply.{Makes}
+use Rattle.am_api_silences.specs.ReplyBuilder.{Makes}
 use Rattle.am_api_silences.specs.Replies.{IsReplyBytes, Says, line_bytes, memory_bytes}
 use Rattle.am_api_silences.specs.Table.{clock_line}
-use Rattle.am_api_silences.specs.declared.pending_reply.PendingReply.{PendingReply}
-use Rattle.am_api_silences.specs.declared.replies.ReplyBytes.{ReplyBytes}
+use Rattle.am_api_silences.specs.declared.reply_builder.ReplyBuilder.{ReplyBuilder}
+use Rattle.am_api_silences.specs.declared.replies.ResponseBytes.{ResponseBytes}
 use Rattle.am_http.specs.Sessions.{Feeds, Says as SaysPiece, SaysEnd, Spoken, Standing, and_then, name_of, nothing, over}
 use Rattle.am_member.specs.declared.session_answer.SessionAnswer.{SessionAnswer}
 use Rattle.am_member.specs.Exchanging.{AreFrom, IsSessionAnswer, IsFromNobody, is_stopped, left_at}
-use Rattle.am_member.specs.Sparing.{spared}
+use Rattle.am_member.specs.Sparing.{deferred}
 
 -- the input of a connection: a piece for which there was memory, any piece, or the end of its input; or frames that were sealed,
 -- with the text of the greeting before them if that came with them
@@ -83,7 +83,7 @@ pub record Turn : Type 0 where
 -- the rest is answered as the contract of `apply_session_output` says.
 pub record IsTurn (standing : Standing) (old : InstanceState) (turn : Turn) : Type 0 where
   pub tells : Tells standing turn.came turn.said turn.heard
-  pub answered : IsSessionAnswer (name_of turn.heard) turn.bits turn.now (spared turn.said) old turn.left turn.answer
+  pub answered : IsSessionAnswer (name_of turn.heard) turn.bits turn.now (deferred turn.said) old turn.left turn.answer
 
 -- the standings after a turn: its connection's as the turn left it, and each other one as before
 abbrev pub standings_after : (ℕ → Standing) → Turn → ℕ → Standing
@@ -175,7 +175,7 @@ pub record AreEventsOf (config : Settings) (name : Option (List ℕ)) (bits : �
 -- first that was refused.
 pub record AreStepsOf (old : InstanceState) (turn : Turn) (steps : List Happened) : Type 0 where
   pub asked : List Event
-  pub said : AreEventsOf old.config (name_of turn.heard) turn.bits (spared turn.said) asked
+  pub said : AreEventsOf old.config (name_of turn.heard) turn.bits (deferred turn.said) asked
   pub others : List Event
   pub parts : asked ≡ map (λ step. step.event) steps ++ others
   pub whole : (others ≡ []) ⊎ (is_stopped turn.answer.fault ≡ true)
@@ -212,18 +212,18 @@ IsBareBytes dialect silences log event now bytes =
 
 -- The reply to a request for a list or a silence: the bytes that the bare sets give. A request that is refused before its step has
 -- its line of the table.
-abbrev pub RepliesBare : Dialect → List Mesh → List LogMesh → Result Event Refusal → ℕ → ReplyBytes → Type 0
+abbrev pub RepliesBare : Dialect → List Mesh → List LogMesh → Result Event Refusal → ℕ → ResponseBytes → Type 0
 RepliesBare dialect silences log (Ok event) now reply = asks_shown event ≡ true → Says (IsBareBytes dialect silences log event now) reply
 RepliesBare dialect silences log (Err refusal) now reply = Says (λ bytes. bytes ≡ line_bytes (line_seen refusal)) reply
 
 -- the reply to a request, whatever it means
-pub record IsBareTold (dialect : Dialect) (silences : List Mesh) (log : List LogMesh) (request : Request) (bits now : ℕ) (reply : ReplyBytes) : Type 0 where
+pub record IsBareTold (dialect : Dialect) (silences : List Mesh) (log : List LogMesh) (request : Request) (bits now : ℕ) (reply : ResponseBytes) : Type 0 where
   pub meant : Result Event Refusal
   pub means : IsEventIn dialect request bits meant
   pub replied : RepliesBare dialect silences log meant now reply
 
 -- such a reply is made
 pub record IsBareAnswer (dialect : Dialect) (silences : List Mesh) (log : List LogMesh) (request : Request) (bits now : ℕ) (answer : SessionAnswer) : Type 0 where
-  pub making : PendingReply
+  pub making : ReplyBuilder
   pub is : answer.reply ≡ Some making
   pub told : Makes (IsBareTold dialect silences log request bits now) making

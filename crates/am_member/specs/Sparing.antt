@@ -24,5 +24,5 @@ quiet (Push state) = Pull state
 quiet frame = frame
 
 -- the output of a session without what its frames ask for: a Push is the Pull that it brings, and a Tick brings nothing
-abbrev pub spared : Spoken → Spoken
-spared said = record said { frames = map quiet (filter brings said.frames) }
+abbrev pub deferred : Spoken → Spoken
+deferred said = record said { frames = map quiet (filter brings said.frames) }

@@ -68,7 +68,7 @@ impl PatternsAhead {
     /// Compiles some of the patterns that weren't looked at yet, of silences that haven't ended at `now`, and returns whether none is
     /// left. If enough are kept, or memory runs out, the rest are left to the steps that need them; so are the patterns that come
     /// meanwhile, until the next call, since whoever waits would otherwise wait for as long as silences come.
-    pub fn go_on(&mut self, instance: &mut Instance, now: Moment) -> bool
+    pub fn resume(&mut self, instance: &mut Instance, now: Moment) -> bool
         ensures same { instance.new ≡ instance.old }
     {
         if matches!(&self.left, Left::Nothing) {

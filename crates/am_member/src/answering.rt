@@ -14,7 +14,7 @@ use am_gossip::Frame;
 use am_http::session::{Session, SessionFault, SessionOutput};
 use am_http::{Call, Cause, Read, call_of};
 use am_instance::Instance;
-use am_peers::Fault;
+use am_peers::ConnectionFault;
 use am_version_order::Moment;
 use std::alloc::Global;
 
@@ -57,7 +57,7 @@ fn reply_to(
 ///
 /// # Errors
 ///
-/// [`Fault::UnknownName`] if no peer has the name, and the [`Fault::Step`] of the first frame that is refused. The steps
+/// [`ConnectionFault::UnknownName`] if no peer has the name, and the [`ConnectionFault::Step`] of the first frame that is refused. The steps
 /// before it stand.
 fn step_named(
     instance: &mut Instance,
@@ -65,30 +65,30 @@ fn step_named(
     name: Option<&str>,
     frames: Vec<Frame>,
     now: Moment,
-) -> Result<(), Fault>
+) -> Result<(), ConnectionFault>
     ensures { AreStepped (option_copied name.entry) now frames.items (so_far instance.old effects.old) (so_far instance.new effects.new) result }
 {
     let Some(name) = name else {
         return if frames.is_empty() {
             Ok(())
         } else {
-            Err(Fault::UnknownName)
+            Err(ConnectionFault::UnknownName)
         };
     };
     let Some(sender) = peer_named(instance.config(), name) else {
-        return Err(Fault::UnknownName);
+        return Err(ConnectionFault::UnknownName);
     };
     make_steps(instance, effects, sender, frames, now)?;
     Ok(())
 }
 
 /// Converts the fault of a session, if there is one, to that of its connection.
-fn fault_heard(fault: Option<SessionFault>) -> Option<Fault>
+fn fault_heard(fault: Option<SessionFault>) -> Option<ConnectionFault>
     ensures { result ≡ option_map fault_heard fault }
 {
     match fault {
-        Some(SessionFault::TooLarge) => Some(Fault::TooLarge),
-        Some(SessionFault::Frame(error)) => Some(Fault::Frame(error)),
+        Some(SessionFault::TooLarge) => Some(ConnectionFault::TooLarge),
+        Some(SessionFault::Frame(error)) => Some(ConnectionFault::Frame(error)),
         None => None,
     }
 }

@@ -3,15 +3,15 @@
 
 mod ahead;
 mod answering;
-mod judging;
+mod deferring;
 pub mod laws;
+mod pattern_compilation;
 mod sender;
 mod session_answer;
-mod sparing;
 mod steps;
 
 pub use ahead::PatternsAhead;
 pub use answering::{apply_session_output, is_list_request};
-pub use judging::{Judged, Judging};
+pub use deferring::{Deferred, defer_requests};
+pub use pattern_compilation::{Judged, PatternCompilation};
 pub use session_answer::{SessionAnswer, StepEffects};
-pub use sparing::{Spared, spare};

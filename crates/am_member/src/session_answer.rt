@@ -4,9 +4,9 @@ ghost use Rattle.std.specs.Prelude.{◌≡◌, None};
 ghost use Rattle.am_instance.specs.Sendings.{sent_by};
 ghost use Rattle.am_member.specs.Incoming.{Adds, no_effects};
 
-use am_api_silences::PendingReply;
+use am_api_silences::ReplyBuilder;
 use am_instance::{FrameSender, Outcome};
-use am_peers::Fault;
+use am_peers::ConnectionFault;
 use std::alloc::Global;
 
 /// The effects of steps besides those on the instance.
@@ -42,10 +42,10 @@ impl StepEffects {
 #[derive(Drop)]
 pub struct SessionAnswer {
     /// The reply, if a request was answered. That of a list is still to be written.
-    pub reply: Option<PendingReply>,
+    pub reply: Option<ReplyBuilder>,
     pub effects: StepEffects,
     /// The reason why nothing more is heard of the connection.
-    pub fault: Option<Fault>,
+    pub fault: Option<ConnectionFault>,
 }
 
 impl SessionAnswer {

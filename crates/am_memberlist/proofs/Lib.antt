@@ -1,3 +1,8 @@
+pub mod LowBits
+pub mod Places
+pub mod Plain
+pub mod Repeats
+pub mod Steps
 pub mod Again
 pub mod Maps
 pub mod Numbers

@@ -1,12 +1,12 @@
 -- Answers that are unpacked in stretches.
 use Rattle.std.proofs.Common.{◌≡◌, ℕ, List, [], ◌∷◌, length, drop, Result, Ok, Err, refl, ap}
-use Rattle.am_lzw.proofs.Steps.{at_start}
-use Rattle.am_lzw.specs.declared.error.LzwError.{LzwError}
-use Rattle.am_lzw.specs.declared.unpacking.Stretch.{Stretch}
-use Rattle.am_lzw.specs.declared.unpacking.Stretch.TheVariants.{Whole, Part}
-use Rattle.am_lzw.specs.Lzw.{unpacked}
-use Rattle.am_lzw.specs.Standings.{Standing}
-use Rattle.am_lzw.specs.Stretches.{rest, rest_of}
+use Rattle.am_memberlist.proofs.Steps.{at_start}
+use Rattle.am_memberlist.specs.declared.lzw_error.LzwError.{LzwError}
+use Rattle.am_memberlist.specs.declared.unpacking.Stretch.{Stretch}
+use Rattle.am_memberlist.specs.declared.unpacking.Stretch.TheVariants.{Whole, Part}
+use Rattle.am_memberlist.specs.Lzw.{unpacked}
+use Rattle.am_memberlist.specs.Standings.{Standing}
+use Rattle.am_memberlist.specs.LzwStretches.{rest, rest_of}
 use Rattle.am_memberlist.specs.declared.error.AnswerError.{AnswerError}
 use Rattle.am_memberlist.specs.Answers.{◌>>=◌, unpacking_fault}
 use Rattle.am_memberlist.specs.Messages.{as_part, packed_in, plain_of, unpacked_in}

@@ -1,7 +1,7 @@
 -- The results of calls, apart from running out of memory.
 use Rattle.std.specs.Prelude.{◌≡◌, ◌≢◌, Result, Ok, Err}
-use Rattle.am_lzw.specs.declared.error.LzwError.{LzwError}
-use Rattle.am_lzw.specs.declared.error.LzwError.TheVariants as lzw
+use Rattle.am_memberlist.specs.declared.lzw_error.LzwError.{LzwError}
+use Rattle.am_memberlist.specs.declared.lzw_error.LzwError.TheVariants as lzw
 use Rattle.am_wire.specs.declared.error.WireError.{WireError}
 use Rattle.am_wire.specs.declared.error.WireError.TheVariants as wire
 use Rattle.am_memberlist.specs.declared.error.AnswerError.{AnswerError}

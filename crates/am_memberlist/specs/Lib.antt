@@ -1,3 +1,7 @@
+pub mod Lzw
+pub mod Plain
+pub mod Standings
+pub mod LzwStretches
 pub mod Answers
 pub mod Messages
 pub mod Msgpack

@@ -1,7 +1,7 @@
 -- Answers to a push/pull: the states of a replica after a header and its nodes, or an error in words; either may be compressed.
 use Rattle.std.specs.Prelude.{ℕ, zero, suc, nat_lt, ◌==◌, if◌then◌else◌, List, [], ◌∷◌, length, codes, Result, Ok, Err}
-use Rattle.am_lzw.specs.declared.error.LzwError.{LzwError}
-use Rattle.am_lzw.specs.Lzw.{unpacked}
+use Rattle.am_memberlist.specs.declared.lzw_error.LzwError.{LzwError}
+use Rattle.am_memberlist.specs.Lzw.{unpacked}
 use Rattle.am_memberlist.specs.declared.error.AnswerError.{AnswerError}
 use Rattle.am_memberlist.specs.declared.error.AnswerError.TheVariants.{Nothing, Kind, Compression, Nodes, Length}
 use Rattle.am_memberlist.specs.declared.answer.Said.{Said}

@@ -1,9 +1,9 @@
 -- Answers unpacked in stretches.
 use Rattle.std.specs.Prelude.{ℕ, List, drop, Result, Ok}
-use Rattle.am_lzw.specs.declared.unpacking.Stretch.{Stretch}
-use Rattle.am_lzw.specs.declared.unpacking.Stretch.TheVariants.{Whole, Part}
-use Rattle.am_lzw.specs.Standings.{Standing}
-use Rattle.am_lzw.specs.Stretches.{rest}
+use Rattle.am_memberlist.specs.declared.unpacking.Stretch.{Stretch}
+use Rattle.am_memberlist.specs.declared.unpacking.Stretch.TheVariants.{Whole, Part}
+use Rattle.am_memberlist.specs.Standings.{Standing}
+use Rattle.am_memberlist.specs.LzwStretches.{rest}
 use Rattle.am_memberlist.specs.declared.answer.Answer.{Answer}
 use Rattle.am_memberlist.specs.declared.answer.Answer.TheVariants.{Message, Packed}
 use Rattle.am_memberlist.specs.declared.error.AnswerError.{AnswerError}

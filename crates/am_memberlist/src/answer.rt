@@ -10,7 +10,7 @@ ghost use Rattle.am_memberlist.specs.Seen.{bytes_seen, items_seen, pair_of, opti
 
 use crate::error::AnswerError;
 use crate::msgpack::{Pair, Scalar, map_at};
-use am_lzw::{Stretch, Unpacking, unpack};
+use crate::unpacking::{Stretch, Unpacking, unpack};
 use std::alloc::Global;
 
 /// The maximum number of nodes in an answer.
@@ -203,12 +203,12 @@ impl Answer {
         }
     }
 
-    /// Unpacks `count` more codes, as [`Unpacking::go_on`] does.
+    /// Unpacks `count` more codes, as [`Unpacking::resume`] does.
     ///
     /// # Errors
     ///
     /// Returns the errors of [`unpack_answer`].
-    pub fn go_on(self, alloc: Global, count: usize) -> Result<Answer, AnswerError>
+    pub fn resume(self, alloc: Global, count: usize) -> Result<Answer, AnswerError>
         ensures found { IfOk result (λ answer. message_of answer ≡ message_of self) }
         ensures fault { IfErr result (λ e. e ≢ Memory → message_of self ≡ Err e) }
     {
@@ -216,7 +216,7 @@ impl Answer {
             Answer::Message(message) => return Ok(Answer::Message(message)),
             Answer::Packed(answer, unpacking) => (answer, unpacking),
         };
-        match go_on_in(alloc, &answer, unpacking, count)? {
+        match resume_in(alloc, &answer, unpacking, count)? {
             Stretch::Whole(message) => Ok(Answer::Message(message)),
             Stretch::Part(unpacking) => Ok(Answer::Packed(answer, unpacking)),
         }
@@ -235,7 +235,7 @@ fn behind_type(message: &[u8]) -> &[u8]
 
 /// Unpacks one more stretch of a compressed answer.
 #[tactic(auto, using(crate::proofs::Stretches::stretched, crate::proofs::Stretches::at_fault, crate::proofs::Stretches::not_packed))]
-fn go_on_in(
+fn resume_in(
     alloc: Global,
     answer: &[u8],
     unpacking: Unpacking,
@@ -245,5 +245,5 @@ fn go_on_in(
     ensures fault { IfErr result (λ e. e ≢ Memory → unpacked_from answer.now unpacking ≡ Err e) }
 {
     let packed = packed_in(alloc, behind_type(answer))?;
-    Ok(unpacking.go_on(packed, count)?)
+    Ok(unpacking.resume(packed, count)?)
 }

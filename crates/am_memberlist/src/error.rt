@@ -4,7 +4,7 @@ ghost use Rattle.std.specs.Prelude.{◌≡◌};
 ghost use Rattle.am_memberlist.specs.Answers.{unpacking_fault, wire_fault};
 ghost use Rattle.am_memberlist.specs.declared.error.AnswerError.TheVariants.{Memory};
 
-use am_lzw::LzwError;
+use crate::lzw_error::LzwError;
 use am_wire::{RowFault, WireError};
 use std::alloc::{AllocError, AllocFailed};
 use thiserror::Error;

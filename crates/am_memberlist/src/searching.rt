@@ -80,7 +80,7 @@ impl RowSearch {
     /// # Errors
     ///
     /// Returns the errors of [`crate::row_in`].
-    pub fn go_on(
+    pub fn resume(
         self,
         alloc: Global,
         states: &[u8],

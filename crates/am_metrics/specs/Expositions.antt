@@ -1,7 +1,7 @@
 -- Prometheus' text format, version 0.0.4: a HELP line, a TYPE line, and a line for each figure of a name.
 use Rattle.std.specs.Prelude.{ℕ, List, [], ◌∷◌, ◌++◌, ◌+◌, ◌==◌, codes, decimal, drop, if◌then◌else◌}
 use Rattle.std.specs.List.{flat_map}
-use Rattle.am_metrics.specs.Kinds.{kind_text}
+use Rattle.am_metrics.specs.MetricTypes.{kind_text}
 use Rattle.am_metrics.specs.declared.family.Number.{Number}
 use Rattle.am_metrics.specs.declared.family.Number.TheVariants.{Whole, Nanos}
 use Rattle.am_metrics.specs.declared.family.Label.{Label}

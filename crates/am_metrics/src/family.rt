@@ -1,13 +1,13 @@
 //! Families of figures.
 
 ghost use Rattle.std.specs.Prelude.{◌≡◌, ◌<◌};
-ghost use Rattle.am_metrics.specs.Kinds.{kind_text};
+ghost use Rattle.am_metrics.specs.MetricTypes.{kind_text};
 
 use am_wire::Text;
 
 /// The kind of the figures of a family.
 #[derive(Clone, Copy, PartialEq, Eq)]
-pub enum Kind {
+pub enum MetricType {
     /// The figures only grow, from 0 at the start.
     Counter,
     Gauge,
@@ -15,15 +15,15 @@ pub enum Kind {
     Histogram,
 }
 
-impl Kind {
+impl MetricType {
     /// Returns the name of the kind.
     pub const fn text(self) -> &'static str
         ensures { result.now ≡ kind_text self }
     {
         match self {
-            Kind::Counter => "counter",
-            Kind::Gauge => "gauge",
-            Kind::Histogram => "histogram",
+            MetricType::Counter => "counter",
+            MetricType::Gauge => "gauge",
+            MetricType::Histogram => "histogram",
         }
     }
 }
@@ -58,6 +58,6 @@ pub struct Family {
     pub name: &'static str,
     /// The description of the figures.
     pub help: &'static str,
-    pub kind: Kind,
+    pub kind: MetricType,
     pub samples: Vec<Sample>,
 }

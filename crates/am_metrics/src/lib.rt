@@ -1,8 +1,28 @@
-//! Figures in Prometheus' text format.
+//! Prometheus' text format, and the metrics of a member: what it counts, and the families that its /metrics has.
 #![tactic(auto)]
 
+mod beside;
+mod counters;
 mod family;
+mod metrics;
+mod peers;
+mod saves;
+mod sheet;
+mod telling;
+mod times;
+mod words;
 mod writing;
 
-pub use family::{Family, Kind, Label, Number, Sample};
+pub use beside::Beside;
+pub use counters::Counters;
+pub use family::{Family, Label, MetricType, Number, Sample};
+pub use metrics::Metrics;
+pub use peers::{Heard, PeerName};
+pub use saves::Save;
+pub use sheet::{Shown, SilenceCounts};
+pub use telling::families;
+pub use words::{
+    CauseLabel, CounterLabel, DecisionLabel, Failing, RequestLabel, SavedState, StepLabel,
+    VersionKind, WithheldBy,
+};
 pub use writing::write_families;

@@ -220,7 +220,7 @@ fn add_families(alloc: Global, out: &mut Vec<u8>, families: &[Family]) -> Result
 ///
 /// Returns [`AllocError`] if memory runs out.
 pub fn write_families(alloc: Global, families: &[Family]) -> Result<Vec<u8>, AllocError>
-    // PROMISE: Figures are in Prometheus' text format 0.0.4.
+    // PROMISE: Metrics are in Prometheus' text format 0.0.4.
     ensures { IfOk result (λ text. text.items ≡ exposition families.now) }
 {
     let mut text = Vec::new(alloc);

@@ -7,7 +7,7 @@ mod tries;
 mod versions;
 mod words;
 
-pub use crate::common::case::{Case, Fault};
+pub use crate::common::case::{Case, CaseFault};
 pub use crate::common::matching::matcher_parts;
 pub use crate::common::tries::{Brittle, Call, Cut, How, Pieces};
 pub use crate::common::versions::{Printed, Spelled, Told};

@@ -2,13 +2,12 @@
 
 ghost use Rattle.std.specs.Prelude.{◌≡◌};
 
-use am_gossip::FrameError;
-use am_refusals::StepError;
+use am_gossip::{FrameError, StepError};
 use thiserror::Error;
 
 /// The reason why a connection ended before its input did: the first of these that applies.
 #[derive(Clone, Copy, Debug, PartialEq, Eq, Error)]
-pub enum Fault {
+pub enum ConnectionFault {
     /// A read failed, after `at` bytes had come.
     #[error("Read {at}")]
     Read { at: u64 },
@@ -29,12 +28,12 @@ pub enum Fault {
     Step(StepError),
 }
 
-impl From<StepError> for Fault {
-    ghost use Rattle.am_peers.specs.declared.fault.Fault.TheVariants.{Step};
+impl From<StepError> for ConnectionFault {
+    ghost use Rattle.am_peers.specs.declared.fault.ConnectionFault.TheVariants.{Step};
 
     ghost from_gives = { λ given e. e ≡ Step given };
 
-    fn from(error: StepError) -> Fault {
-        Fault::Step(error)
+    fn from(error: StepError) -> ConnectionFault {
+        ConnectionFault::Step(error)
     }
 }

@@ -3,7 +3,7 @@
 use crate::asking::{read_reply, request_text};
 use crate::error::ServerFault;
 use crate::timed::{Timed, end_after, left_until};
-use am_streams::send;
+use am_wire::send;
 use std::alloc::Global;
 use std::io;
 use std::net::{Ipv4Addr, Ipv6Addr, Net, SocketAddr, TcpStream};

@@ -3,8 +3,7 @@
 ghost use Rattle.std.specs.Prelude.{◌≡◌, IfOk};
 ghost use Rattle.am_peers.specs.Queues.{frames_beside, frames_for};
 
-use am_gossip::Frame;
-use am_refusals::Place;
+use am_gossip::{Frame, Place};
 use std::alloc::{AllocError, Global};
 
 /// Frames that are split into those for one peer and those for all others.

@@ -4,13 +4,13 @@ ghost use Rattle.std.specs.Prelude.{OnOk};
 ghost use Rattle.std.specs.Io.KnownBytes.{Appends};
 ghost use Rattle.am_replay.specs.Replays.{HasReplayed};
 
+use crate::drawing::{Drawing, picture_of};
 use crate::play::Host;
 use crate::progress::Display;
 use crate::schedule_fault::ScheduleFault;
-use am_disk::FileFault;
-use am_picture::{Drawing, picture_of};
 use am_replay::{ReplayError, read_input};
-use am_streams::send;
+use am_store::FileFault;
+use am_wire::send;
 use std::fs;
 use std::io::{Read, Write};
 

@@ -6,8 +6,8 @@ ghost use Rattle.am_replay.specs.Replays.{HasReplayed};
 use crate::picture::draw;
 use crate::progress::Display;
 use crate::schedule_fault::{ScheduleFault, report};
-use am_faults::{HasAudience, status};
-use am_replay::{Onlooker, run_shown};
+use am_diagnostics::{HasAudience, status};
+use am_replay::{Observer, run_shown};
 use std::alloc::Global;
 use std::io::{Read, Write};
 use std::rt::{Clock, Files};
@@ -38,14 +38,14 @@ pub fn run_replay<H: Host, R: Read, W: Write>(
 }
 
 /// Plays the schedule on the input.
-fn play<R: Read, W: Write, O: Onlooker>(
+fn play<R: Read, W: Write, O: Observer>(
     alloc: Global,
     input: &mut R,
     output: &mut W,
-    onlooker: &mut O,
+    observer: &mut O,
 ) -> Result<(), ScheduleFault>
     ensures played { OnOk result (HasReplayed (R.remaining input.old) (W.contents output.old) (W.contents output.new)) }
 {
-    run_shown(alloc, input, output, onlooker)?;
+    run_shown(alloc, input, output, observer)?;
     Ok(())
 }

@@ -1,8 +1,8 @@
 //! The progress of playing a schedule, for people.
 
 use crate::play::Host;
-use am_faults::Audience;
-use am_replay::Onlooker;
+use am_diagnostics::Audience;
+use am_replay::Observer;
 use std::time::{Duration, Instant};
 
 /// The time, in milliseconds, for which nothing is shown.
@@ -59,7 +59,7 @@ impl<'a, H: Host> Display<'a, H> {
     }
 }
 
-impl<H: Host> Onlooker for Display<'_, H> {
+impl<H: Host> Observer for Display<'_, H> {
     fn is_at(&mut self, lines: usize, all: usize) {
         if self.due.is_none() {
             return;

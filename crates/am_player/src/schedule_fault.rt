@@ -2,11 +2,11 @@
 
 ghost use Rattle.std.specs.Prelude.{◌≤◌};
 
-use am_disk::FileFault;
-use am_faults::{Fault, HasAudience, status};
+use am_diagnostics::{Fault, HasAudience, status};
 use am_replay::ReplayError;
 use am_schedule::FaultKind;
 use am_snapshot::SnapshotError;
+use am_store::FileFault;
 use std::fmt::{self, Formatter};
 use thiserror::Error;
 

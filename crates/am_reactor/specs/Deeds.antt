@@ -12,8 +12,8 @@ pub data Deed : Type 0 where
   Sent : List ℕ → Deed
   Resumed : Deed
   Released : Deed
-  CameDue : Deed
-  Hurried : Deed
+  ReachedDeadline : Deed
+  AbandonedWait : Deed
   BrokenOff : Broken → Deed
 
 -- the calls that tell of pieces that came

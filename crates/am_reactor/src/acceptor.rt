@@ -32,7 +32,7 @@ pub struct Acceptor {
 
 /// The result of an accept.
 #[derive(Drop)]
-pub enum Answer {
+pub enum AcceptResult {
     Came(TcpStream, Entrance),
     /// No connection waits; an event tells of the next.
     Nobody,
@@ -96,12 +96,12 @@ impl Acceptor {
     }
 
     /// Accepts a connection if one waits.
-    pub fn accept(&mut self, now: Instant) -> Answer {
+    pub fn accept(&mut self, now: Instant) -> AcceptResult {
         self.pause = None;
         match self.accept_by_turns() {
             Ok((stream, entrance)) => {
                 self.left = self.left.saturating_sub(1);
-                Answer::Came(stream, entrance)
+                AcceptResult::Came(stream, entrance)
             }
             Err(error) => self.refused(error, now),
         }
@@ -128,20 +128,20 @@ impl Acceptor {
     }
 
     /// Converts an error of an accept to an answer, and notes what follows from it.
-    fn refused(&mut self, error: io::Error, now: Instant) -> Answer {
+    fn refused(&mut self, error: io::Error, now: Instant) -> AcceptResult {
         let kind = error.kind();
         if kind == ErrorKind::WouldBlock {
             self.is_knocked = false;
-            return Answer::Nobody;
+            return AcceptResult::Nobody;
         }
         if is_of_client(kind) {
-            return Answer::Missed(kind);
+            return AcceptResult::Missed(kind);
         }
         if is_scarce(&error) {
             self.pause = now.checked_add(Duration::from_secs(PAUSE));
-            return Answer::Missed(kind);
+            return AcceptResult::Missed(kind);
         }
-        Answer::Failed(error)
+        AcceptResult::Failed(error)
     }
 }
 

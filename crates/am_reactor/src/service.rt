@@ -5,7 +5,7 @@ ghost use Rattle.std.specs.Option.{option_map};
 ghost use Rattle.std.specs.declared.time.Instant.{Instant};
 ghost use Rattle.am_reactor.specs.declared.fault.LinkFault.{LinkFault};
 ghost use Rattle.am_reactor.specs.Deeds.{Deed};
-ghost use Rattle.am_reactor.specs.Deeds.Deed.{Fed, Ended, Sent, Resumed, Released, CameDue, Hurried, BrokenOff};
+ghost use Rattle.am_reactor.specs.Deeds.Deed.{Fed, Ended, Sent, Resumed, Released, ReachedDeadline, AbandonedWait, BrokenOff};
 ghost use Rattle.am_reactor.specs.Sending.{IsFirstPart};
 
 use crate::entrance::Entrance;
@@ -129,14 +129,14 @@ pub trait Service {
 
     /// Lets the session go on because the moment has come for which its reply waited, or the loop stops: the reply no longer waits
     /// for it. The time of the connection, which didn't count meanwhile, begins anew.
-    fn come_due(&mut self, session: &mut Self::Session)
-        ensures { does self.old session.old CameDue self.new session.new };
+    fn reach_deadline(&mut self, session: &mut Self::Session)
+        ensures { does self.old session.old ReachedDeadline self.new session.new };
 
     /// Does what waits at once, or gives it up: it may not be done now, and the time of the connection is over in a quarter of a
     /// second, or another connection is to get its place. The former is checked in each turn, so a service in which something waits
     /// for long should be woken often.
-    fn hurry(&mut self, session: &mut Self::Session)
-        ensures { does self.old session.old Hurried self.new session.new };
+    fn abandon_wait(&mut self, session: &mut Self::Session)
+        ensures { does self.old session.old AbandonedWait self.new session.new };
 
     /// Returns what is still to be written, or a first part of it that has at least one byte.
     fn output<'a>(&self, session: &'a Self::Session) -> &'a [u8]

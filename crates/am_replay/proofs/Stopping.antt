@@ -2,7 +2,7 @@
 use Rattle.std.proofs.Common.{◌≡◌, ℕ, List, Option, refl, subst}
 use Rattle.std.specs.Io.KnownBytes.{Consumes, IsAtEnd}
 use Rattle.std.proofs.KnownBytes.{Consumes-whole}
-use Rattle.am_streams.specs.Writing.{WritesPart}
+use Rattle.am_wire.specs.OutputWriting.{WritesPart}
 use Rattle.am_replay.specs.declared.error.ReplayError.TheVariants as errors
 use Rattle.am_replay.specs.Replays.{IsReplay, StopsReplay}
 

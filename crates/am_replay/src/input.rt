@@ -5,7 +5,7 @@ ghost use Rattle.std.specs.Io.KnownBytes.{Consumes, IsAtEnd};
 ghost use Rattle.am_replay.specs.Inputs.{StopsReading, most_bytes};
 
 use crate::error::ReplayError;
-use am_streams::{Stop, fill};
+use am_wire::{Stop, fill};
 use std::alloc::Global;
 use std::io::Read;
 

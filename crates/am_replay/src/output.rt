@@ -5,7 +5,7 @@ ghost use Rattle.std.specs.Option.{option_copied};
 ghost use Rattle.am_replay.specs.Texts.{Prints, refused_text, told};
 
 use crate::line::{OutputLine, append_line};
-use crate::onlooker::Answer;
+use crate::observer::LineAnswer;
 use crate::refusal::Refusal;
 use std::alloc::AllocError;
 
@@ -23,13 +23,13 @@ pub fn tell_refusal(
     out: &mut String,
     name: Option<&str>,
     refusal: Option<Refusal>,
-) -> Result<Answer, AllocError>
+) -> Result<LineAnswer, AllocError>
     ensures { OnOk result (Prints (refused_text (option_copied name.entry) refusal) (string_bytes out.old) (string_bytes out.new)) }
 {
     match refusal {
         Some(refusal) => {
             tell(out, &OutputLine::Refused { name, refusal })?;
-            Ok(Answer::Refused(refusal))
+            Ok(LineAnswer::Refused(refusal))
         }
         None => Err(AllocError),
     }

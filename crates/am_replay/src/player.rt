@@ -13,7 +13,7 @@ ghost use Rattle.am_replay.specs.Texts.{Prints, settle_refusal, settle_text};
 use crate::error::ReplayError;
 use crate::flights::tell_flights;
 use crate::line::OutputLine;
-use crate::onlooker::{Answer, Onlooker};
+use crate::observer::{LineAnswer, Observer};
 use crate::output::{tell, tell_refusal};
 use crate::refusal::Refusal;
 use crate::replies::{tell_answer, tell_refused};
@@ -30,13 +30,13 @@ fn play_step(
     step: &Step,
     number: u64,
     out: &mut String,
-) -> Result<Answer, AllocError>
+) -> Result<LineAnswer, AllocError>
     ensures { OnOk result (Plays cluster.old (kinds.Step step.now) number cluster.new (string_bytes out.old) (string_bytes out.new)) }
 {
     match cluster.step(step, number) {
         Ok(reply) => {
             tell_answer(out, step.action(), &reply)?;
-            Ok(Answer::of_reply(&reply))
+            Ok(LineAnswer::of_reply(&reply))
         }
         Err(error) => tell_refused(out, step.action(), error),
     }
@@ -58,13 +58,16 @@ fn refusal_of(error: SettleError) -> Option<Refusal>
 /// # Errors
 ///
 /// [`AllocError`], also if the settle was refused because memory ran out.
-fn tell_settled(out: &mut String, settled: Result<(), SettleError>) -> Result<Answer, AllocError>
+fn tell_settled(
+    out: &mut String,
+    settled: Result<(), SettleError>,
+) -> Result<LineAnswer, AllocError>
     ensures { OnOk result (Prints (settle_text settled) (string_bytes out.old) (string_bytes out.new)) }
 {
     match settled {
         Ok(()) => {
             tell(out, &OutputLine::Settled)?;
-            Ok(Answer::Nothing)
+            Ok(LineAnswer::Nothing)
         }
         Err(error) => tell_refusal(out, None, refusal_of(error)),
     }
@@ -76,7 +79,7 @@ fn play_settle(
     now: Moment,
     number: u64,
     out: &mut String,
-) -> Result<Answer, AllocError>
+) -> Result<LineAnswer, AllocError>
     ensures { OnOk result (Plays cluster.old (kinds.Settle now) number cluster.new (string_bytes out.old) (string_bytes out.new)) }
 {
     let settled = cluster.settle(now, number);
@@ -89,7 +92,7 @@ fn play_line(
     line: &Line,
     number: u64,
     out: &mut String,
-) -> Result<Answer, AllocError>
+) -> Result<LineAnswer, AllocError>
     ensures { OnOk result (Plays cluster.old line.now number cluster.new (string_bytes out.old) (string_bytes out.new)) }
 {
     match line {
@@ -98,27 +101,27 @@ fn play_line(
         Line::Timely(spread, flight) => {
             let is_timely = cluster.timely(*spread, *flight);
             tell(out, &OutputLine::Timely { is_timely })?;
-            Ok(Answer::Is(is_timely))
+            Ok(LineAnswer::Is(is_timely))
         }
         Line::Frames => {
             tell_flights(out, cluster)?;
-            Ok(Answer::Nothing)
+            Ok(LineAnswer::Nothing)
         }
     }
 }
 
-/// Plays a line, appends its output, and shows it to the onlooker.
-fn show_line<O: Onlooker>(
+/// Plays a line, appends its output, and shows it to the observer.
+fn show_line<O: Observer>(
     cluster: &mut Cluster,
     line: &Line,
     number: u64,
     out: &mut String,
-    onlooker: &mut O,
+    observer: &mut O,
 ) -> Result<(), AllocError>
     ensures { OnOk result (Plays cluster.old line.now number cluster.new (string_bytes out.old) (string_bytes out.new)) }
 {
     let answer = play_line(cluster, line, number, out)?;
-    onlooker.saw(cluster, line, number, answer)
+    observer.saw(cluster, line, number, answer)
 }
 
 /// Plays lines one after the other, and appends their output.
@@ -126,18 +129,18 @@ fn show_line<O: Onlooker>(
 /// # Errors
 ///
 /// [`ReplayError::Memory`] with the line at which memory ran out.
-fn play_lines<O: Onlooker>(
+fn play_lines<O: Observer>(
     cluster: &mut Cluster,
     lines: &[(Line, u64)],
     out: &mut String,
-    onlooker: &mut O,
+    observer: &mut O,
 ) -> Result<(), ReplayError>
     ensures played { OnOk result (PlaysAll cluster.old lines.now cluster.new (string_bytes out.old) (string_bytes out.new)) }
     ensures halted { IfErr result (λ fault. (line : ℕ) × (fault ≡ Memory line) × Reaches cluster.old lines.now line) }
 {
     for (index, (line, number)) in lines.iter().enumerate() {
-        onlooker.is_at(index, lines.len());
-        match show_line(cluster, line, *number, out, onlooker) {
+        observer.is_at(index, lines.len());
+        match show_line(cluster, line, *number, out, observer) {
             Ok(()) => {}
             Err(_) => return Err(ReplayError::Memory { line: *number }),
         }
@@ -174,18 +177,18 @@ fn newborn(alloc: Global, schedule: &Schedule) -> Result<Cluster, AllocError>
 ///
 /// [`ReplayError::Memory`] with the line at which memory ran out, or with line 0 if it ran out before the first line or
 /// after the last one.
-pub fn play<O: Onlooker>(
+pub fn play<O: Observer>(
     alloc: Global,
     schedule: &Schedule,
-    onlooker: &mut O,
+    observer: &mut O,
 ) -> Result<String, ReplayError>
     ensures output { IfOk result (λ text. IsOutput schedule.now (string_bytes text)) }
     ensures halted { IfErr result (StopsPlaying schedule.now) }
 {
     let mut cluster = newborn(alloc, schedule)?;
     let mut out = String::new(alloc);
-    play_lines(&mut cluster, schedule.lines.as_slice(), &mut out, onlooker)?;
-    onlooker.saw_end(&cluster)?;
+    play_lines(&mut cluster, schedule.lines.as_slice(), &mut out, observer)?;
+    observer.saw_end(&cluster)?;
     tell_reports(&mut out, &cluster)?;
     Ok(out)
 }

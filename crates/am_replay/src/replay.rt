@@ -5,10 +5,10 @@ ghost use Rattle.am_replay.specs.Replays.{HasReplayed, StopsReplay};
 
 use crate::error::ReplayError;
 use crate::input::read_input;
-use crate::onlooker::{Nobody, Onlooker};
+use crate::observer::{Nobody, Observer};
 use crate::player::play;
 use am_schedule::parse;
-use am_streams::send;
+use am_wire::send;
 use std::alloc::Global;
 use std::io::{Read, Write};
 
@@ -31,23 +31,23 @@ pub fn run<R: Read, W: Write>(
     run_shown(alloc, reader, writer, &mut Nobody)
 }
 
-/// Reads, plays and writes a schedule as [`run`] does, while an onlooker watches.
+/// Reads, plays and writes a schedule as [`run`] does, while an observer watches.
 ///
 /// # Errors
 ///
 /// The errors of [`run`].
-pub fn run_shown<R: Read, W: Write, O: Onlooker>(
+pub fn run_shown<R: Read, W: Write, O: Observer>(
     alloc: Global,
     reader: &mut R,
     writer: &mut W,
-    onlooker: &mut O,
+    observer: &mut O,
 ) -> Result<(), ReplayError>
     ensures played { OnOk result (HasReplayed (R.remaining reader.old) (W.contents writer.old) (W.contents writer.new)) }
     ensures stopped { IfErr result (StopsReplay (R.remaining reader.old) (R.remaining reader.new) W.contents writer.old writer.new) }
 {
     let input = read_input(alloc, reader)?;
     let schedule = parse(alloc, &input)?;
-    let text = play(alloc, &schedule, onlooker)?;
+    let text = play(alloc, &schedule, observer)?;
     match send(writer, text.as_str().as_bytes()) {
         Ok(()) => Ok(()),
         Err(fault) => Err(ReplayError::Write {

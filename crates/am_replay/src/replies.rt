@@ -6,7 +6,7 @@ ghost use Rattle.am_replay.specs.Texts.{Prints, answer_text, ended_text, muted_t
 ghost use Rattle.am_replay.specs.Texts.{reply_text, step_refusal};
 
 use crate::line::OutputLine;
-use crate::onlooker::Answer;
+use crate::observer::LineAnswer;
 use crate::output::{tell, tell_refusal};
 use crate::refusal::Refusal;
 use am_cluster::ClusterError;
@@ -138,7 +138,7 @@ pub fn tell_refused(
     out: &mut String,
     action: &Action,
     error: ClusterError,
-) -> Result<Answer, AllocError>
+) -> Result<LineAnswer, AllocError>
     ensures { OnOk result (Prints (refused_text (owner_of action.now) (step_refusal error)) (string_bytes out.old) (string_bytes out.new)) }
 {
     tell_refusal(out, owner_of(action), refusal_of(error))

@@ -7,7 +7,7 @@ use Rattle.json.specs.Written.{Written}
 use Rattle.serde_json.specs.Data.{Data, array}
 use Rattle.serde_json.specs.View.{items_of}
 use Rattle.am_version_order.specs.Versions.{Version}
-use Rattle.am_report.specs.Sources.{Side, Source, rest_of}
+use Rattle.am_report.specs.Sources.{MergeCursor, Source, rest_of}
 use Rattle.am_report.specs.declared.compared.Compared.{Compared}
 use Rattle.am_merge.proofs.Keys.{IsKeyOrder}
 use Rattle.am_report.specs.ReportLine.{is_any}
@@ -19,7 +19,7 @@ use Rattle.am_report.specs.Json.Written.{AreAdded, IsLine}
 use Rattle.am_report.proofs.Adding.{line_is, row_of}
 
 module _ {K X : Type 0} (seen : X → Version K) (cmp : K → K → Ordering) (key_data : K → Data) (name : List ℕ) (value : X → Data) (by : X → X → List ℕ) (compared : Compared) (now : ℕ) where
-  pub all_added : (all : List (Side X)) (a b : Written) (found : Bool) → b.before ≡ a.before
+  pub all_added : (all : List (MergeCursor X)) (a b : Written) (found : Bool) → b.before ≡ a.before
       → AreAllTold seen cmp compared now (λ d. data_tokens (difference_data seen name value by key_data d)) all a.tokens b.tokens found
       → AreAdded seen cmp key_data name value by compared now (map rest_of all) found a b
   all_added all a b found before told = record {

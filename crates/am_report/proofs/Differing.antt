@@ -11,7 +11,7 @@ use Rattle.am_merge.specs.Maps.{IsMap, at}
 use Rattle.am_merge.proofs.Keys.{IsKeyOrder, at-Contains, all_weaker, both_parts}
 use Rattle.am_merge.proofs.Puts.{at-member}
 use Rattle.am_merge.proofs.Joins.{same_map}
-use Rattle.am_report.specs.Sources.{Source, Holding, Side, holding_of, side_of, rest_of}
+use Rattle.am_report.specs.Sources.{Source, Holding, MergeCursor, holding_of, side_of, rest_of}
 use Rattle.am_report.specs.Differences.{Difference, AreDifferences, held_at, is_different}
 use Rattle.am_report.specs.Groups.{within, greatest_within}
 use Rattle.am_report.specs.declared.compared.Compared.{Compared}
@@ -122,14 +122,14 @@ module _ {K X : Type 0} (seen : X → Version K) (cmp : K → K → Ordering) (k
 
 module _ {K X C : Type 0} (seen : X → Version K) (cmp : K → K → Ordering) (compared : Compared) (now : ℕ) (piece : Difference K X → List C) where
   -- the differences so far, and those of what is left, are all; and the pieces of those so far are written
-  pub record AreTold (all left : List (Side X)) (start text : List C) (found : Bool) : Type 0 where
+  pub record AreTold (all left : List (MergeCursor X)) (start text : List C) (found : Bool) : Type 0 where
     pub done : List (Difference K X)
     pub same : (differences : List (Difference K X)) → AreDifferences seen cmp compared now (map rest_of left) differences
         → AreDifferences seen cmp compared now (map rest_of all) (done ++ differences)
     pub text_is : AllByRecursion (λ d. IsKeyOf seen d.holdings d.key) done → text ≡ start ++ flat_map piece done
     pub found_is : found ≡ is_any done
 
-  pub none_told : (sides : List (Side X)) (start : List C) → AreTold sides sides start start false
+  pub none_told : (sides : List (MergeCursor X)) (start : List C) → AreTold sides sides start start false
   none_told sides start = record {
     done = [];
     same = λ differences are. are;
@@ -141,7 +141,7 @@ module _ {K X C : Type 0} (seen : X → Version K) (cmp : K → K → Ordering) 
   some_any [] d = refl
   some_any (first ∷ done) d = refl
 
-  pub told_more : (all left new : List (Side X)) (start text longer : List C) (found : Bool) → AreTold all left start text found
+  pub told_more : (all left new : List (MergeCursor X)) (start text longer : List C) (found : Bool) → AreTold all left start text found
       → ((key : K) × ((differences : List (Difference K X)) → AreDifferences seen cmp compared now (map rest_of new) differences
       → AreDifferences seen cmp compared now (map rest_of left) (record { key = key; holdings = map holding_of new } ∷ differences)))
       → ((key : K) → IsKeyOf seen (map holding_of new) key → longer ≡ text ++ piece (record { key = key; holdings = map holding_of new }))
@@ -160,13 +160,13 @@ module _ {K X C : Type 0} (seen : X → Version K) (cmp : K → K → Ordering) 
       }
 
   -- at the end of the walk
-  pub record AreAllTold (all : List (Side X)) (start text : List C) (found : Bool) : Type 0 where
+  pub record AreAllTold (all : List (MergeCursor X)) (start text : List C) (found : Bool) : Type 0 where
     pub differences : List (Difference K X)
     pub are : AreDifferences seen cmp compared now (map rest_of all) differences
     pub any : found ≡ is_any differences
     pub text_is : text ≡ start ++ flat_map piece differences
 
-  pub told_all : IsKeyOrder cmp → (all left : List (Side X)) (start text : List C) (found : Bool) → AreTold all left start text found
+  pub told_all : IsKeyOrder cmp → (all left : List (MergeCursor X)) (start text : List C) (found : Bool) → AreTold all left start text found
       → AreDifferences seen cmp compared now (map rest_of left) [] → AreAllTold all start text found
   told_all keys all left start text found before none =
       let are = subst (λ ds. AreDifferences seen cmp compared now (map rest_of all) ds) (append-nil before.done) (before.same [] none) in record {
@@ -179,7 +179,7 @@ module _ {K X C : Type 0} (seen : X → Version K) (cmp : K → K → Ordering) 
 -- ---- the lines
 
 module _ {K X : Type 0} (seen : X → Version K) (cmp : K → K → Ordering) (compared : Compared) (now : ℕ) (begins : K → List ℕ) (told : X → List ℕ) (more by : X → X → List ℕ) where
-  pub all_lines : (all : List (Side X)) (start text : List ℕ) (found : Bool) → AreAllTold seen cmp compared now (difference_lines seen begins told more by) all start text found
+  pub all_lines : (all : List (MergeCursor X)) (start text : List ℕ) (found : Bool) → AreAllTold seen cmp compared now (difference_lines seen begins told more by) all start text found
       → (lines : List ℕ) × AreLines seen cmp begins told more by compared now (map rest_of all) found lines × (text ≡ start ++ lines)
   all_lines all start text found are = (
     flat_map (difference_lines seen begins told more by) are.differences,

@@ -3,7 +3,7 @@ use Rattle.std.proofs.Common.{◌≡◌, ℕ, ◌+◌, ◌<◌, Bool, true, fals
 use Rattle.std.specs.Prelude.{filter}
 use Rattle.std.proofs.lemmas.List.{take_more, map-append}
 use Rattle.am_version_order.specs.Versions.{Version}
-use Rattle.am_report.specs.Sources.{Holding, Side, holding_of}
+use Rattle.am_report.specs.Sources.{Holding, MergeCursor, holding_of}
 use Rattle.am_report.specs.Differences.{is_same}
 use Rattle.am_report.specs.Words.{listed_word_of}
 use Rattle.am_report.specs.ReportLine.{holders, names_word, next_name}
@@ -58,16 +58,16 @@ module _ {K X : Type 0} (seen : X → Version K) (here : Option X) where
       ∙ sym (append_assoc (map (λ (h : Holding X). h.name) (cond b (first ∷ []) [])) (holders seen here holdings) last)
       ∙ ap (λ names. names ++ last) (sym (front_kept b first (filter (λ h. is_same seen h.here here) holdings)))
 
-  pub holders_more : (sides : List (Side X)) (i : ℕ) (d : Side X) → i < length sides
+  pub holders_more : (sides : List (MergeCursor X)) (i : ℕ) (d : MergeCursor X) → i < length sides
       → holders seen here (map holding_of (take (i + 1) sides))
       ≡ holders seen here (map holding_of (take i sides)) ++ cond (is_same seen (get_or sides i d).here here) ((get_or sides i d).name ∷ []) []
   holders_more sides i d less =
-      ap (λ (ss : List (Side X)). holders seen here (map holding_of ss)) (take_more sides i d less)
+      ap (λ (ss : List (MergeCursor X)). holders seen here (map holding_of ss)) (take_more sides i d less)
       ∙ ap (holders seen here) (map-append holding_of (take i sides) (get_or sides i d ∷ []))
       ∙ holders_push (map holding_of (take i sides)) (holding_of (get_or sides i d))
 
   -- what is written so far
-  pub record AreNamed (sides : List (Side X)) (start text : List ℕ) (is_first : Bool) : Type 0 where
+  pub record AreNamed (sides : List (MergeCursor X)) (start text : List ℕ) (is_first : Bool) : Type 0 where
     pub text_is : text ≡ start ++ names_word (holders seen here (map holding_of sides))
     pub first_is : is_first ≡ is_none_before (holders seen here (map holding_of sides))
 
@@ -83,14 +83,14 @@ module _ {K X : Type 0} (seen : X → Version K) (here : Option X) where
     rw is (sym (and_true is_first) ∙ first ∙ ap is_none_before (sym (append-nil names))),
   )
 
-  pub named_more : (sides : List (Side X)) (i : ℕ) (side : Side X) (start text new : List ℕ) (is_first still : Bool) → i < length sides → side ≡ get_or sides i side
-      → AreNamed (take i sides) start text is_first → new ≡ text ++ cond (is_same seen side.here here) (next_name is_first side.name) []
-      → still ≡ (is_first && not (is_same seen side.here here)) → AreNamed (take (i + 1) sides) start new still
-  named_more sides i side start text new is_first still less is before written answered =
-      let more : holders seen here (map holding_of (take (i + 1) sides)) ≡ holders seen here (map holding_of (take i sides)) ++ cond (is_same seen side.here here) (side.name ∷ []) [] =
-      holders_more sides i side less
-      ∙ ap (λ (s : Side X). holders seen here (map holding_of (take i sides)) ++ cond (is_same seen s.here here) (s.name ∷ []) []) (sym is) in
-      let both = named_by (holders seen here (map holding_of (take i sides))) (holders seen here (map holding_of (take (i + 1) sides))) start text is_first (is_same seen side.here here) side.name more before.text_is before.first_is in
+  pub named_more : (sides : List (MergeCursor X)) (i : ℕ) (cursor : MergeCursor X) (start text new : List ℕ) (is_first still : Bool) → i < length sides → cursor ≡ get_or sides i cursor
+      → AreNamed (take i sides) start text is_first → new ≡ text ++ cond (is_same seen cursor.here here) (next_name is_first cursor.name) []
+      → still ≡ (is_first && not (is_same seen cursor.here here)) → AreNamed (take (i + 1) sides) start new still
+  named_more sides i cursor start text new is_first still less is before written answered =
+      let more : holders seen here (map holding_of (take (i + 1) sides)) ≡ holders seen here (map holding_of (take i sides)) ++ cond (is_same seen cursor.here here) (cursor.name ∷ []) [] =
+      holders_more sides i cursor less
+      ∙ ap (λ (s : MergeCursor X). holders seen here (map holding_of (take i sides)) ++ cond (is_same seen s.here here) (s.name ∷ []) []) (sym is) in
+      let both = named_by (holders seen here (map holding_of (take i sides))) (holders seen here (map holding_of (take (i + 1) sides))) start text is_first (is_same seen cursor.here here) cursor.name more before.text_is before.first_is in
       record { text_is = written ∙ both.0; first_is = answered ∙ both.1 }
 
   pub none_named : (start : List ℕ) → AreNamed [] start start true

@@ -10,8 +10,8 @@ use Rattle.std.specs.Cmp.Lexicographic.{slice_cmp}
 use Rattle.std.proofs.lemmas.Cmp.{ranked}
 use Rattle.am_version_order.specs.Versions.{Version, rank_cmp, is_below}
 use Rattle.am_report.specs.Groups.{IsLessBy, part_between}
-use Rattle.am_report.specs.declared.part.Part.{Part}
-use Rattle.am_report.specs.declared.part.Part.TheVariants.{Update, Expiry, Bytes}
+use Rattle.am_report.specs.declared.diff_field.DiffField.{DiffField}
+use Rattle.am_report.specs.declared.diff_field.DiffField.TheVariants.{Update, Expiry, Bytes}
 
 less_is : (a b : ℕ) → a < b → nat_cmp a b ≡ Less
 less_is a b less = sym (nat_cmp_is a b Less less)
@@ -46,10 +46,10 @@ module _ {K : Type 0} where
   less_by_part v w below = less_by v w (nat_lt v.updated w.updated) (nat_lt v.expires w.expires) refl refl (lt_is (rank_cmp v w) below)
 
   -- the same of a part that is named
-  pub less_as : (part : Part) (v w : Version K) → is_below v w ≡ true → part ≡ part_between v w → IsLessBy part v w
+  pub less_as : (part : DiffField) (v w : Version K) → is_below v w ≡ true → part ≡ part_between v w → IsLessBy part v w
   less_as part v w below is = subst (λ p. IsLessBy p v w) (sym is) (less_by_part v w below)
 
-  pub part_below : (part : Part) (v w : Version K) → IsLessBy part v w → is_below v w ≡ true
+  pub part_below : (part : DiffField) (v w : Version K) → IsLessBy part v w → is_below v w ≡ true
   unfolding is_below
   part_below Update v w less = rw (less_is v.updated w.updated less) refl
   part_below Expiry v w less = rw (same_is v.updated w.updated less.0, less_is v.expires w.expires less.1) refl

@@ -14,7 +14,7 @@ use Rattle.std.specs.Ordering.{is_lt, is_eq, ordering_reverse}
 use Rattle.am_version_order.specs.Versions.{Version, rank_cmp, is_below}
 use Rattle.am_version_order.proofs.Ranks.{rank_total, below_itself, below_past, below_trans}
 use Rattle.am_merge.specs.Maps.{greater_of}
-use Rattle.am_report.specs.Sources.{Holding, Side, holding_of}
+use Rattle.am_report.specs.Sources.{Holding, MergeCursor, holding_of}
 use Rattle.am_report.specs.Differences.{is_same}
 use Rattle.am_report.specs.Groups.{within, greatest_within, AreRanked}
 
@@ -119,14 +119,14 @@ module _ {K X : Type 0} (seen : X → Version K) where
     none_greater holdings v e = All-from_recursion (λ holding. NotAbove (within seen bound holding.here) v) holdings (some_within None holdings v e).2
 
     -- one side more
-    pub greatest_more : (sides : List (Side X)) (i : ℕ) (d : Side X) → i < length sides
+    pub greatest_more : (sides : List (MergeCursor X)) (i : ℕ) (d : MergeCursor X) → i < length sides
         → greater_of seen (greatest_within seen bound (map holding_of (take i sides))) (within seen bound (get_or sides i d).here) ≡ greatest_within seen bound (map holding_of (take (i + 1) sides))
     greatest_more sides i d less =
-        let side = get_or sides i d in
+        let cursor = get_or sides i d in
         sym (
-        ap (λ (xs : List (Side X)). greatest_within seen bound (map holding_of xs)) (take_more sides i d less)
-        ∙ ap (greatest_within seen bound) (map-append holding_of (take i sides) (side ∷ []))
-        ∙ fold_push (λ most holding. greater_of seen most (within seen bound holding.here)) None (map holding_of (take i sides)) (holding_of side)
+        ap (λ (xs : List (MergeCursor X)). greatest_within seen bound (map holding_of xs)) (take_more sides i d less)
+        ∙ ap (greatest_within seen bound) (map-append holding_of (take i sides) (cursor ∷ []))
+        ∙ fold_push (λ most holding. greater_of seen most (within seen bound holding.here)) None (map holding_of (take i sides)) (holding_of cursor)
         )
 
   unbounded : (o : Option X) → within seen None o ≡ o

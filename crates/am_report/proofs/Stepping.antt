@@ -11,7 +11,7 @@ use Rattle.std.specs.Ordering.{is_eq, eq_by_cmp, ordering_reverse}
 use Rattle.am_version_order.specs.Versions.{Version}
 use Rattle.am_merge.specs.Maps.{IsMap, at}
 use Rattle.am_merge.proofs.Keys.{IsKeyOrder, AreAbove, at-above, below_further, same_key}
-use Rattle.am_report.specs.Sources.{Source, Holding, Side, left_of_all, come_to, rest_of, holding_of}
+use Rattle.am_report.specs.Sources.{Source, Holding, MergeCursor, left_of_all, come_to, rest_of, holding_of}
 use Rattle.am_report.specs.Differences.{Difference, compared_of, is_same, is_different, held_at, AreDifferences}
 use Rattle.am_report.specs.Walks.{StartsFrom, least_of}
 use Rattle.am_report.specs.declared.compared.Compared.{Compared}
@@ -36,30 +36,30 @@ module _ {K X : Type 0} (seen : X → Version K) where
       no_other compared now (compared_of seen compared now first.here) others (none_compared compared now first.here none.0) none.1
 
   module _ (cmp : K → K → Ordering) (keys : IsKeyOrder cmp) where
-    abbrev pub AreInOrder : List (Side X) → Type 0
-    AreInOrder sides = AllByRecursion (λ side. IsMap seen cmp side.left) sides
+    abbrev pub AreInOrder : List (MergeCursor X) → Type 0
+    AreInOrder sides = AllByRecursion (λ cursor. IsMap seen cmp cursor.left) sides
 
-    abbrev pub StartFrom : K → List (Side X) → Type 0
-    StartFrom key sides = AllByRecursion (λ side. StartsFrom seen cmp key side.left) sides
+    abbrev pub StartFrom : K → List (MergeCursor X) → Type 0
+    StartFrom key sides = AllByRecursion (λ cursor. StartsFrom seen cmp key cursor.left) sides
 
-    pub still_in_order : (key : K) (sides : List (Side X)) → AreInOrder sides → StartFrom key sides → AreInOrder (map (come_to seen cmp key) sides)
+    pub still_in_order : (key : K) (sides : List (MergeCursor X)) → AreInOrder sides → StartFrom key sides → AreInOrder (map (come_to seen cmp key) sides)
     still_in_order key [] order from = tt
-    still_in_order key (side ∷ sides) order from = ((behind_above seen cmp keys key side.left order.0 from.0).0, still_in_order key sides order.1 from.1)
+    still_in_order key (cursor ∷ sides) order from = ((behind_above seen cmp keys key cursor.left order.0 from.0).0, still_in_order key sides order.1 from.1)
 
     -- the sides then hold what their sources hold at the key
-    pub holdings_there : (key : K) (sides : List (Side X)) → AreInOrder sides → StartFrom key sides → map holding_of (map (come_to seen cmp key) sides) ≡ held_at seen cmp key (map rest_of sides)
+    pub holdings_there : (key : K) (sides : List (MergeCursor X)) → AreInOrder sides → StartFrom key sides → map holding_of (map (come_to seen cmp key) sides) ≡ held_at seen cmp key (map rest_of sides)
     holdings_there key [] order from = refl
-    holdings_there key (side ∷ sides) order from =
-        let here : holding_of (come_to seen cmp key side) ≡ record { name = side.name; here = at seen cmp side.left key } =
-        ap (λ (o : Option X). let holding : Holding X = record { name = side.name; here = o } in holding) (first_is_at seen cmp keys key side.left order.0 from.0) in
+    holdings_there key (cursor ∷ sides) order from =
+        let here : holding_of (come_to seen cmp key cursor) ≡ record { name = cursor.name; here = at seen cmp cursor.left key } =
+        ap (λ (o : Option X). let holding : Holding X = record { name = cursor.name; here = o } in holding) (first_is_at seen cmp keys key cursor.left order.0 from.0) in
         let rest = holdings_there key sides order.1 from.1 in
         cc
 
     -- at other keys the same is left
-    pub held_later : (key k : K) (sides : List (Side X)) → eq_by_cmp cmp key k ≡ false → held_at seen cmp k (map rest_of (map (come_to seen cmp key) sides)) ≡ held_at seen cmp k (map rest_of sides)
+    pub held_later : (key k : K) (sides : List (MergeCursor X)) → eq_by_cmp cmp key k ≡ false → held_at seen cmp k (map rest_of (map (come_to seen cmp key) sides)) ≡ held_at seen cmp k (map rest_of sides)
     held_later key k [] other = refl
-    held_later key k (side ∷ sides) other =
-        let here = ap (λ (o : Option X). let holding : Holding X = record { name = side.name; here = o } in holding) (at-behind seen cmp keys key k side.left other) in
+    held_later key k (cursor ∷ sides) other =
+        let here = ap (λ (o : Option X). let holding : Holding X = record { name = cursor.name; here = o } in holding) (at-behind seen cmp keys key k cursor.left other) in
         let rest = held_later key k sides other in
         cc
 
@@ -69,14 +69,14 @@ module _ {K X : Type 0} (seen : X → Version K) where
     lower key k left Equal e from above = subst (λ j. AreAbove seen cmp j left) (keys.exact key k e) above
     lower key k left Greater e from above = below_further seen cmp keys k key left (keys.total.antisymm k key ∙ ap ordering_reverse e) above
 
-    nothing_lower : (key k : K) (sides : List (Side X)) → AreInOrder sides → StartFrom key sides → (r : Ordering) → cmp key k ≡ r → r ≢ Less
+    nothing_lower : (key k : K) (sides : List (MergeCursor X)) → AreInOrder sides → StartFrom key sides → (r : Ordering) → cmp key k ≡ r → r ≢ Less
         → AllByRecursion (λ holding. holding.here ≡ None) (held_at seen cmp k (map rest_of (map (come_to seen cmp key) sides)))
     nothing_lower key k [] order from r e not_less = tt
-    nothing_lower key k (side ∷ sides) order from r e not_less =
-        let parts = behind_above seen cmp keys key side.left order.0 from.0 in
+    nothing_lower key k (cursor ∷ sides) order from r e not_less =
+        let parts = behind_above seen cmp keys key cursor.left order.0 from.0 in
         (at-above seen cmp keys _ k (lower key k _ r e not_less parts.1), nothing_lower key k sides order.1 from.1 r e not_less)
 
-    module _ (compared : Compared) (now : ℕ) (key : K) (sides : List (Side X)) (order : AreInOrder sides) (from : StartFrom key sides) where
+    module _ (compared : Compared) (now : ℕ) (key : K) (sides : List (MergeCursor X)) (order : AreInOrder sides) (from : StartFrom key sides) where
       abbrev old : List (Source X)
       old = map rest_of sides
 
@@ -133,11 +133,11 @@ module _ {K X : Type 0} (seen : X → Version K) where
           }
 
     -- where nothing is left, nothing is different
-    nothing_at : (k : K) (sides : List (Side X)) → AllByRecursion (λ side. side.left ≡ []) sides → AllByRecursion (λ holding. holding.here ≡ None) (held_at seen cmp k (map rest_of sides))
+    nothing_at : (k : K) (sides : List (MergeCursor X)) → AllByRecursion (λ cursor. cursor.left ≡ []) sides → AllByRecursion (λ holding. holding.here ≡ None) (held_at seen cmp k (map rest_of sides))
     nothing_at k [] none = tt
-    nothing_at k (side ∷ sides) none = (ap (λ (left : List X). at seen cmp left k) none.0, nothing_at k sides none.1)
+    nothing_at k (cursor ∷ sides) none = (ap (λ (left : List X). at seen cmp left k) none.0, nothing_at k sides none.1)
 
-    pub at_end : (compared : Compared) (now : ℕ) (sides : List (Side X)) → AllByRecursion (λ side. side.left ≡ []) sides → AreDifferences seen cmp compared now (map rest_of sides) []
+    pub at_end : (compared : Compared) (now : ℕ) (sides : List (MergeCursor X)) → AllByRecursion (λ cursor. cursor.left ≡ []) sides → AreDifferences seen cmp compared now (map rest_of sides) []
     at_end compared now sides none = record {
       order = λ i j d less within. absurd (omega (arith, within));
       held = All-nil _;
@@ -147,35 +147,35 @@ module _ {K X : Type 0} (seen : X → Version K) where
 
     -- ---- the same, as the code makes a step: to the least key that is left
 
-    module _ (compared : Compared) (now : ℕ) (sides : List (Side X)) where
-      abbrev pub IsStep : List (Side X) → (List (Difference K X) → List (Difference K X)) → Type 0
+    module _ (compared : Compared) (now : ℕ) (sides : List (MergeCursor X)) where
+      abbrev pub IsStep : List (MergeCursor X) → (List (Difference K X) → List (Difference K X)) → Type 0
       IsStep new more =
-          All (λ side. IsMap seen cmp side.left) new
+          All (λ cursor. IsMap seen cmp cursor.left) new
           × ((differences : List (Difference K X)) → AreDifferences seen cmp compared now (map rest_of new) differences → AreDifferences seen cmp compared now (map rest_of sides) (more differences))
           × (left_of_all new < left_of_all sides)
 
-      pub walk_over : (v : X) (next : List (Side X)) → Some v ≡ least_of seen cmp sides → next ≡ map (come_to seen cmp (seen v).key) sides → is_different seen compared now (map holding_of next) ≡ false
-          → All (λ side. IsMap seen cmp side.left) sides → IsStep next (λ differences. differences)
+      pub walk_over : (v : X) (next : List (MergeCursor X)) → Some v ≡ least_of seen cmp sides → next ≡ map (come_to seen cmp (seen v).key) sides → is_different seen compared now (map holding_of next) ≡ false
+          → All (λ cursor. IsMap seen cmp cursor.left) sides → IsStep next (λ differences. differences)
       walk_over v next least is same order =
           let key = (seen v).key in
-          let in_order = recursion_from_All (λ (side : Side X). IsMap seen cmp side.left) sides order in
+          let in_order = recursion_from_All (λ (cursor : MergeCursor X). IsMap seen cmp cursor.left) sides order in
           let from = least_left seen cmp keys sides v (sym least) in
-          let quiet = subst (λ (n : List (Side X)). is_different seen compared now (map holding_of n) ≡ false) is same in
-          subst (λ (n : List (Side X)). IsStep n (λ differences. differences)) (sym is) (
-            All-from_recursion (λ (side : Side X). IsMap seen cmp side.left) _ (still_in_order key sides in_order from),
+          let quiet = subst (λ (n : List (MergeCursor X)). is_different seen compared now (map holding_of n) ≡ false) is same in
+          subst (λ (n : List (MergeCursor X)). IsStep n (λ differences. differences)) (sym is) (
+            All-from_recursion (λ (cursor : MergeCursor X). IsMap seen cmp cursor.left) _ (still_in_order key sides in_order from),
             (λ differences are. step_over compared now key sides in_order from differences quiet are),
             fewer_left seen cmp keys key sides (first_left seen cmp keys sides v (sym least)),
           )
 
-      pub walk_on : (v : X) (next : List (Side X)) → Some v ≡ least_of seen cmp sides → next ≡ map (come_to seen cmp (seen v).key) sides → is_different seen compared now (map holding_of next) ≡ true
-          → All (λ side. IsMap seen cmp side.left) sides → IsStep next (λ differences. record { key = (seen v).key; holdings = map holding_of next } ∷ differences)
+      pub walk_on : (v : X) (next : List (MergeCursor X)) → Some v ≡ least_of seen cmp sides → next ≡ map (come_to seen cmp (seen v).key) sides → is_different seen compared now (map holding_of next) ≡ true
+          → All (λ cursor. IsMap seen cmp cursor.left) sides → IsStep next (λ differences. record { key = (seen v).key; holdings = map holding_of next } ∷ differences)
       walk_on v next least is differs order =
           let key = (seen v).key in
-          let in_order = recursion_from_All (λ (side : Side X). IsMap seen cmp side.left) sides order in
+          let in_order = recursion_from_All (λ (cursor : MergeCursor X). IsMap seen cmp cursor.left) sides order in
           let from = least_left seen cmp keys sides v (sym least) in
-          let there = subst (λ (n : List (Side X)). is_different seen compared now (map holding_of n) ≡ true) is differs in
-          subst (λ (n : List (Side X)). IsStep n (λ differences. record { key = (seen v).key; holdings = map holding_of n } ∷ differences)) (sym is) (
-            All-from_recursion (λ (side : Side X). IsMap seen cmp side.left) _ (still_in_order key sides in_order from),
+          let there = subst (λ (n : List (MergeCursor X)). is_different seen compared now (map holding_of n) ≡ true) is differs in
+          subst (λ (n : List (MergeCursor X)). IsStep n (λ differences. record { key = (seen v).key; holdings = map holding_of n } ∷ differences)) (sym is) (
+            All-from_recursion (λ (cursor : MergeCursor X). IsMap seen cmp cursor.left) _ (still_in_order key sides in_order from),
             (λ differences are. step_on compared now key sides in_order from differences there are),
             fewer_left seen cmp keys key sides (first_left seen cmp keys sides v (sym least)),
           )

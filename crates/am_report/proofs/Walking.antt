@@ -9,7 +9,7 @@ use Rattle.std.proofs.lemmas.Cmp.{tied_itself}
 use Rattle.am_version_order.specs.Versions.{Version}
 use Rattle.am_merge.specs.Maps.{IsMap, at}
 use Rattle.am_merge.proofs.Keys.{IsKeyOrder, AreAbove, at-above, below_further, same_key, eq_itself}
-use Rattle.am_report.specs.Sources.{Side, left_of_all, begins_at, first_at, behind, come_to}
+use Rattle.am_report.specs.Sources.{MergeCursor, left_of_all, begins_at, first_at, behind, come_to}
 use Rattle.am_report.specs.Walks.{head_of, lesser_of, least_of, StartsFrom}
 
 module _ {K X : Type 0} (seen : X → Version K) (cmp : K → K → Ordering) (keys : IsKeyOrder cmp) where
@@ -43,8 +43,8 @@ module _ {K X : Type 0} (seen : X → Version K) (cmp : K → K → Ordering) (k
 
   -- ---- the least of the keys that come first
 
-  step : Option X → Side X → Option X
-  step least side = lesser_of seen cmp least (head_of side.left)
+  step : Option X → MergeCursor X → Option X
+  step least cursor = lesser_of seen cmp least (head_of cursor.left)
 
   none_of : (b : Bool) (v w : X) → cond b (Some w) (Some v) ≡ None → ⊥
   none_of true v w e = cc
@@ -56,15 +56,15 @@ module _ {K X : Type 0} (seen : X → Version K) (cmp : K → K → Ordering) (k
   lesser_none (Some v) [] e = absurd cc
   lesser_none (Some v) (w ∷ rest) e = absurd (none_of (is_lt (cmp (seen w).key (seen v).key)) v w e)
 
-  none_left : (best : Option X) (sides : List (Side X)) → fold (λ least side. lesser_of seen cmp least (head_of side.left)) best sides ≡ None
-      → (best ≡ None) × AllByRecursion (λ side. side.left ≡ []) sides
+  none_left : (best : Option X) (sides : List (MergeCursor X)) → fold (λ least cursor. lesser_of seen cmp least (head_of cursor.left)) best sides ≡ None
+      → (best ≡ None) × AllByRecursion (λ cursor. cursor.left ≡ []) sides
   none_left best [] e = (e, tt)
-  none_left best (side ∷ sides) e =
-      let rest = none_left (lesser_of seen cmp best (head_of side.left)) sides e in
-      let here = lesser_none best side.left rest.0 in
+  none_left best (cursor ∷ sides) e =
+      let rest = none_left (lesser_of seen cmp best (head_of cursor.left)) sides e in
+      let here = lesser_none best cursor.left rest.0 in
       (here.0, (here.1, rest.1))
 
-  pub nothing_left : (sides : List (Side X)) → least_of seen cmp sides ≡ None → AllByRecursion (λ side. side.left ≡ []) sides
+  pub nothing_left : (sides : List (MergeCursor X)) → least_of seen cmp sides ≡ None → AllByRecursion (λ cursor. cursor.left ≡ []) sides
   nothing_left sides e = (none_left None sides e).1
 
   -- the best so far isn't before v
@@ -108,31 +108,31 @@ module _ {K X : Type 0} (seen : X → Version K) (cmp : K → K → Ordering) (k
   or_right true b e = refl
   or_right false b e = e
 
-  some_left : (best : Option X) (sides : List (Side X)) (v : X) → fold (λ least side. lesser_of seen cmp least (head_of side.left)) best sides ≡ Some v
-      → IsFrom best v × ((best ≡ Some v) ⊎ (list_any (λ side. begins_at seen cmp (seen v).key side.left) sides ≡ true))
-      × AllByRecursion (λ side. StartsFrom seen cmp (seen v).key side.left) sides
+  some_left : (best : Option X) (sides : List (MergeCursor X)) (v : X) → fold (λ least cursor. lesser_of seen cmp least (head_of cursor.left)) best sides ≡ Some v
+      → IsFrom best v × ((best ≡ Some v) ⊎ (list_any (λ cursor. begins_at seen cmp (seen v).key cursor.left) sides ≡ true))
+      × AllByRecursion (λ cursor. StartsFrom seen cmp (seen v).key cursor.left) sides
   some_left best [] v e =
       let tied : cmp (seen v).key (seen v).key ≢ Less = let t = tied_itself keys.total (seen v).key in λ less. cc in
       (subst (λ o. IsFrom o v) (sym e) tied, inl e, tt)
-  some_left best (side ∷ sides) v e =
-      let rest = some_left (lesser_of seen cmp best (head_of side.left)) sides v e in
-      let here = from_parts best side.left v rest.0 in
+  some_left best (cursor ∷ sides) v e =
+      let rest = some_left (lesser_of seen cmp best (head_of cursor.left)) sides v e in
+      let here = from_parts best cursor.left v rest.0 in
       let any = list_any (λ s. begins_at seen cmp (seen v).key s.left) sides in (
         here.0,
         elim rest.1 [
-          | inl is ↦ elim (is_first best side.left v is) [
+          | inl is ↦ elim (is_first best cursor.left v is) [
             | inl best_is ↦ inl best_is
-            | inr first ↦ inr (or_left (begins_at seen cmp (seen v).key side.left) any first)
+            | inr first ↦ inr (or_left (begins_at seen cmp (seen v).key cursor.left) any first)
           ]
-          | inr later ↦ inr (or_right (begins_at seen cmp (seen v).key side.left) any later)
+          | inr later ↦ inr (or_right (begins_at seen cmp (seen v).key cursor.left) any later)
         ],
         (here.1, rest.2),
       )
 
-  pub least_left : (sides : List (Side X)) (v : X) → least_of seen cmp sides ≡ Some v → AllByRecursion (λ side. StartsFrom seen cmp (seen v).key side.left) sides
+  pub least_left : (sides : List (MergeCursor X)) (v : X) → least_of seen cmp sides ≡ Some v → AllByRecursion (λ cursor. StartsFrom seen cmp (seen v).key cursor.left) sides
   least_left sides v e = (some_left None sides v e).2
 
-  pub first_left : (sides : List (Side X)) (v : X) → least_of seen cmp sides ≡ Some v → list_any (λ side. begins_at seen cmp (seen v).key side.left) sides ≡ true
+  pub first_left : (sides : List (MergeCursor X)) (v : X) → least_of seen cmp sides ≡ Some v → list_any (λ cursor. begins_at seen cmp (seen v).key cursor.left) sides ≡ true
   first_left sides v e =
       elim (some_left None sides v e).1 [
         | inl never ↦ absurd cc
@@ -184,18 +184,18 @@ module _ {K X : Type 0} (seen : X → Version K) (cmp : K → K → Ordering) (k
   shorter key [] = (omega arith, λ e. absurd cc)
   shorter key (v ∷ rest) = shorter_by (eq_by_cmp cmp (seen v).key key) v rest
 
-  no_more : (key : K) (sides : List (Side X)) → left_of_all (map (come_to seen cmp key) sides) ≤ left_of_all sides
+  no_more : (key : K) (sides : List (MergeCursor X)) → left_of_all (map (come_to seen cmp key) sides) ≤ left_of_all sides
   no_more key [] = omega arith
-  no_more key (side ∷ sides) = let here = (shorter key side.left).0 in let rest = no_more key sides in omega arith
+  no_more key (cursor ∷ sides) = let here = (shorter key cursor.left).0 in let rest = no_more key sides in omega arith
 
   or_cases : (a b : Bool) → (a || b) ≡ true → (a ≡ true) ⊎ (b ≡ true)
   or_cases true b e = inl refl
   or_cases false b e = inr e
 
-  pub fewer_left : (key : K) (sides : List (Side X)) → list_any (λ side. begins_at seen cmp key side.left) sides ≡ true → left_of_all (map (come_to seen cmp key) sides) < left_of_all sides
+  pub fewer_left : (key : K) (sides : List (MergeCursor X)) → list_any (λ cursor. begins_at seen cmp key cursor.left) sides ≡ true → left_of_all (map (come_to seen cmp key) sides) < left_of_all sides
   fewer_left key [] e = absurd cc
-  fewer_left key (side ∷ sides) e =
-      elim (or_cases (begins_at seen cmp key side.left) (list_any (λ s. begins_at seen cmp key s.left) sides) e) [
-        | inl here ↦ let less = (shorter key side.left).1 here in let rest = no_more key sides in omega arith
-        | inr later ↦ let less = (shorter key side.left).0 in let rest = fewer_left key sides later in omega arith
+  fewer_left key (cursor ∷ sides) e =
+      elim (or_cases (begins_at seen cmp key cursor.left) (list_any (λ s. begins_at seen cmp key s.left) sides) e) [
+        | inl here ↦ let less = (shorter key cursor.left).1 here in let rest = no_more key sides in omega arith
+        | inr later ↦ let less = (shorter key cursor.left).0 in let rest = fewer_left key sides later in omega arith
       ]

@@ -7,17 +7,17 @@ use Rattle.am_version_order.specs.Versions.{Version, is_below}
 use Rattle.am_merge.specs.Maps.{greater_of}
 use Rattle.am_report.specs.Sources.{Holding}
 use Rattle.am_report.specs.Differences.{is_same}
-use Rattle.am_report.specs.declared.part.Part.{Part}
-use Rattle.am_report.specs.declared.part.Part.TheVariants.{Update, Expiry, Bytes}
+use Rattle.am_report.specs.declared.diff_field.DiffField.{DiffField}
+use Rattle.am_report.specs.declared.diff_field.DiffField.TheVariants.{Update, Expiry, Bytes}
 
 -- v is less than w by this part of the order, and equal in the parts before it
-abbrev pub IsLessBy : {K : Type 0} → Part → Version K → Version K → Type 0
+abbrev pub IsLessBy : {K : Type 0} → DiffField → Version K → Version K → Type 0
 IsLessBy Update v w = v.updated < w.updated
 IsLessBy Expiry v w = (v.updated ≡ w.updated) × (v.expires < w.expires)
 IsLessBy Bytes v w = (v.updated ≡ w.updated) × (v.expires ≡ w.expires) × (slice_cmp nat_cmp v.content w.content ≡ Less)
 
 -- the first part in which two versions differ, or the last part if they differ in none before it
-abbrev pub part_between : {K : Type 0} → Version K → Version K → Part
+abbrev pub part_between : {K : Type 0} → Version K → Version K → DiffField
 part_between v w = if nat_lt v.updated w.updated then Update else (if nat_lt v.expires w.expires then Expiry else Bytes)
 
 module _ {K X : Type 0} (seen : X → Version K) where

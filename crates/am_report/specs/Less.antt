@@ -5,12 +5,12 @@ use Rattle.std.specs.Str.{bytes_eq}
 use Rattle.am_version_order.specs.Versions.{Version}
 use Rattle.am_wire.specs.declared.unknown.UnknownFields.{UnknownFields}
 use Rattle.am_report.specs.Groups.{part_between}
-use Rattle.am_report.specs.declared.part.Part.{Part}
-use Rattle.am_report.specs.declared.part.Part.TheVariants.{Update, Expiry, Bytes}
+use Rattle.am_report.specs.declared.diff_field.DiffField.{DiffField}
+use Rattle.am_report.specs.declared.diff_field.DiffField.TheVariants.{Update, Expiry, Bytes}
 use Rattle.am_report.specs.UnknownFields.{differing}
 
 -- the name of a part of the order
-abbrev pub part_word : Part → List ℕ
+abbrev pub part_word : DiffField → List ℕ
 part_word Update = codes "update"
 part_word Expiry = codes "expiry"
 part_word Bytes = codes "bytes"
@@ -29,7 +29,7 @@ abbrev pub is_same_known : {K X : Type 0} → (X → Version K) → (X → X) �
 is_same_known seen known v w = bytes_eq (seen (known v)).content (seen (known w)).content
 
 -- the numbers if only the last part tells versions apart that are the same apart from unknown fields, or else the name of the part
-abbrev pub word_by : Part → Bool → List ℕ → List ℕ
+abbrev pub word_by : DiffField → Bool → List ℕ → List ℕ
 word_by Bytes true numbers = numbers
 word_by part same numbers = part_word part
 

@@ -15,26 +15,26 @@ pub record Holding (X : Type 0) : Type 0 where
   pub here : Option X
 
 -- a source on a walk: what it holds at the key that the walk has reached, and what comes behind
-pub record Side (X : Type 0) : Type 0 where
+pub record MergeCursor (X : Type 0) : Type 0 where
   pub name : List ℕ
   pub here : Option X
   pub left : List X
 
 -- the two halves of a side
-abbrev pub holding_of : {X : Type 0} → Side X → Holding X
-holding_of side = record { name = side.name; here = side.here }
+abbrev pub holding_of : {X : Type 0} → MergeCursor X → Holding X
+holding_of cursor = record { name = cursor.name; here = cursor.here }
 
-abbrev pub rest_of : {X : Type 0} → Side X → Source X
-rest_of side = record { name = side.name; held = side.left }
+abbrev pub rest_of : {X : Type 0} → MergeCursor X → Source X
+rest_of cursor = record { name = cursor.name; held = cursor.left }
 
 -- a side before its first key
-abbrev pub side_of : {X : Type 0} → Source X → Side X
+abbrev pub side_of : {X : Type 0} → Source X → MergeCursor X
 side_of source = record { name = source.name; here = None; left = source.held }
 
 -- the number of versions that are left of all
-abbrev pub left_of_all : {X : Type 0} → List (Side X) → ℕ
+abbrev pub left_of_all : {X : Type 0} → List (MergeCursor X) → ℕ
 left_of_all [] = 0
-left_of_all (side ∷ sides) = length side.left + left_of_all sides
+left_of_all (cursor ∷ sides) = length cursor.left + left_of_all sides
 
 -- a version with those behind it, or nothing if there is none
 abbrev pub front_of : {X : Type 0} → Option X → List X → List X
@@ -58,5 +58,5 @@ module _ {K X : Type 0} (seen : X → Version K) (cmp : K → K → Ordering) wh
   behind key (v ∷ rest) = if eq_by_cmp cmp (seen v).key key then rest else v ∷ rest
 
   -- a side that has come to the key
-  abbrev pub come_to : K → Side X → Side X
-  come_to key side = record { name = side.name; here = first_at key side.left; left = behind key side.left }
+  abbrev pub come_to : K → MergeCursor X → MergeCursor X
+  come_to key cursor = record { name = cursor.name; here = first_at key cursor.left; left = behind key cursor.left }

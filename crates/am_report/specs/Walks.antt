@@ -5,7 +5,7 @@ use Rattle.std.specs.declared.cmp.Ordering.{Ordering}
 use Rattle.std.specs.declared.cmp.Ordering.TheVariants.{Less}
 use Rattle.std.specs.Ordering.{is_lt}
 use Rattle.am_version_order.specs.Versions.{Version}
-use Rattle.am_report.specs.Sources.{Side, begins_at}
+use Rattle.am_report.specs.Sources.{MergeCursor, begins_at}
 
 -- the first version of a list
 abbrev pub head_of : {X : Type 0} → List X → Option X
@@ -13,8 +13,8 @@ head_of [] = None
 head_of (v ∷ rest) = Some v
 
 -- nothing is left of any side
-abbrev pub IsNothingLeft : {X : Type 0} → List (Side X) → Type 0
-IsNothingLeft sides = All (λ side. side.left ≡ []) sides
+abbrev pub IsNothingLeft : {X : Type 0} → List (MergeCursor X) → Type 0
+IsNothingLeft sides = All (λ cursor. cursor.left ≡ []) sides
 
 module _ {K X : Type 0} (seen : X → Version K) (cmp : K → K → Ordering) where
   -- the version with the lesser key, or the only one; the first if they have one key
@@ -24,8 +24,8 @@ module _ {K X : Type 0} (seen : X → Version K) (cmp : K → K → Ordering) wh
   lesser_of (Some v) (Some w) = if is_lt (cmp (seen w).key (seen v).key) then Some w else Some v
 
   -- the first of the versions with the least key
-  abbrev pub least_of : List (Side X) → Option X
-  least_of sides = fold (λ least side. lesser_of least (head_of side.left)) None sides
+  abbrev pub least_of : List (MergeCursor X) → Option X
+  least_of sides = fold (λ least cursor. lesser_of least (head_of cursor.left)) None sides
 
   -- no key of the list is less
   abbrev pub StartsFrom : K → List X → Type 0
@@ -33,6 +33,6 @@ module _ {K X : Type 0} (seen : X → Version K) (cmp : K → K → Ordering) wh
   StartsFrom key (v ∷ rest) = cmp (seen v).key key ≢ Less
 
   -- a side comes to the key next, and none to one before it
-  pub record IsLeast (key : K) (sides : List (Side X)) : Type 0 where
-    pub first : list_any (λ side. begins_at seen cmp key side.left) sides ≡ true
-    pub least : All (λ side. StartsFrom key side.left) sides
+  pub record IsLeast (key : K) (sides : List (MergeCursor X)) : Type 0 where
+    pub first : list_any (λ cursor. begins_at seen cmp key cursor.left) sides ≡ true
+    pub least : All (λ cursor. StartsFrom key cursor.left) sides

@@ -9,7 +9,7 @@ ghost use Rattle.am_report.specs.Differences.{AreDifferences, held_at};
 ghost use Rattle.am_report.specs.Groups.{AreRanked, IsLessBy};
 ghost use Rattle.am_report.specs.Sources.{Source};
 ghost use Rattle.am_report.specs.declared.compared.Compared.TheVariants as what;
-ghost use Rattle.am_report.specs.declared.part.Part.{Part};
+ghost use Rattle.am_report.specs.declared.diff_field.DiffField.{DiffField};
 
 use am_version_order::Version;
 
@@ -37,5 +37,5 @@ pub fn the_greatest_is_best<V: Version>()
 
 /// States that a version that is less by a part of the order is less.
 pub fn a_part_is_less<V: Version>()
-    ensures { (part : Part) (v w : V) → IsLessBy part (V.seen v) (V.seen w) → is_below (V.seen v) (V.seen w) ≡ true }
+    ensures { (part : DiffField) (v w : V) → IsLessBy part (V.seen v) (V.seen w) → is_below (V.seen v) (V.seen w) ≡ true }
 {}

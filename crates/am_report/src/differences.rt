@@ -8,7 +8,7 @@ ghost use Rattle.am_report.specs.Sources.{come_to, holding_of, left_of_all, rest
 ghost use Rattle.am_report.specs.Walks.{least_of, lesser_of};
 
 use crate::compared::Compared;
-use crate::side::Side;
+use crate::merge_cursor::MergeCursor;
 use am_version_order::{Moment, Version};
 
 /// Returns the version with the lesser key, or the only one.
@@ -27,23 +27,23 @@ fn lesser<'a, V: Version>(one: Option<&'a V>, other: Option<&'a V>) -> Option<&'
 
 /// Returns a version whose key is the least that is left.
 #[tactic(auto, using(crate::proofs::Loops::least_more))]
-fn least<'a, V: Version>(sides: &[Side<'a, V>]) -> Option<&'a V>
+fn least<'a, V: Version>(sides: &[MergeCursor<'a, V>]) -> Option<&'a V>
     ensures { option_copied result ≡ least_of V.seen V.Key.cmp sides.now }
 {
     let mut least = None;
-    for side in sides {
-        least = lesser(least, side.next_version());
+    for cursor in sides {
+        least = lesser(least, cursor.next_version());
     }
     least
 }
 
 /// Advances each source to a key.
 #[tactic(auto, using(crate::proofs::Loops::come_more))]
-fn come_to<V: Version>(sides: &mut [Side<'_, V>], key: &V::Key)
+fn come_to<V: Version>(sides: &mut [MergeCursor<'_, V>], key: &V::Key)
     ensures { sides.new ≡ map (come_to V.seen V.Key.cmp key.now) sides.old }
 {
-    for side in sides.iter_mut() {
-        side.come_to(key);
+    for cursor in sides.iter_mut() {
+        cursor.come_to(key);
     }
 }
 
@@ -59,7 +59,7 @@ pub fn is_same<V: Version>(one: Option<&V>, other: Option<&V>) -> bool
 }
 
 /// Returns whether the sources differ at the key that the walk has reached.
-fn is_different<V: Version>(sides: &[Side<'_, V>], compared: Compared, now: Moment) -> bool
+fn is_different<V: Version>(sides: &[MergeCursor<'_, V>], compared: Compared, now: Moment) -> bool
     ensures { result ≡ is_different V.seen compared now (map holding_of sides.now) }
 {
     let Some((first, others)) = sides.split_first() else {
@@ -76,12 +76,12 @@ fn is_different<V: Version>(sides: &[Side<'_, V>], compared: Compared, now: Mome
 
 /// Advances to the next key at which sources differ, and returns whether there is one. It takes no memory.
 pub fn next_difference<V: Version>(
-    sides: &mut [Side<'_, V>],
+    sides: &mut [MergeCursor<'_, V>],
     compared: Compared,
     now: Moment,
 ) -> bool
-    requires order { All (λ side. IsMap V.seen V.Key.cmp side.left) sides.old }
-    ensures order { All (λ side. IsMap V.seen V.Key.cmp side.left) sides.new }
+    requires order { All (λ cursor. IsMap V.seen V.Key.cmp cursor.left) sides.old }
+    ensures order { All (λ cursor. IsMap V.seen V.Key.cmp cursor.left) sides.new }
     // PROMISE: No difference is skipped, and none is invented.
     ensures next { IsTrue result → (key : V.Key) × ((differences : List (Difference V.Key V)) →
         AreDifferences V.seen V.Key.cmp compared now (map rest_of sides.new) differences →

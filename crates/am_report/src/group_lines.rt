@@ -6,69 +6,69 @@ ghost use Rattle.am_report.specs.Sources.{holding_of};
 ghost use Rattle.am_report.specs.ReportLine.{behind_line, greatest_line, group_words, missing_line};
 ghost use Rattle.am_report.specs.Less.{less_word};
 
+use crate::format::Format;
 use crate::less::less_by;
-use crate::manner::Manner;
+use crate::merge_cursor::MergeCursor;
 use crate::names::{append_names, is_held, nothing};
 use crate::report_line::ReportLine;
-use crate::side::Side;
 use std::alloc::AllocError;
 
 /// Appends the words of a line about the sources that have this version, in their relation to the others.
 fn append_group<V: ReportLine>(
     out: &mut String,
-    sides: &[Side<'_, V>],
+    sides: &[MergeCursor<'_, V>],
     key: &V::Key,
     relation: &str,
     version: &V,
-    manner: &Manner,
+    format: &Format,
 ) -> Result<(), AllocError>
     ensures { OnOk result (string_bytes out.new ≡ string_bytes out.old
-        ++ group_words V.seen V.begins (V.told manner.now) relation.now key.now (map holding_of sides.now) version.now) }
+        ++ group_words V.seen V.begins (V.told format.now) relation.now key.now (map holding_of sides.now) version.now) }
 {
     V::append_key(out, key)?;
     write!(out, " {relation} ")?;
     append_names(out, sides, Some(version))?;
     write!(out, " ")?;
-    version.append_told(out, manner)
+    version.append_told(out, format)
 }
 
 /// Appends the line of the sources that have the greatest version.
 pub fn append_greatest<V: ReportLine>(
     out: &mut String,
-    sides: &[Side<'_, V>],
+    sides: &[MergeCursor<'_, V>],
     greatest: &V,
-    manner: &Manner,
+    format: &Format,
 ) -> Result<(), AllocError>
     ensures { OnOk result (string_bytes out.new ≡ string_bytes out.old
-        ++ greatest_line V.seen V.begins (V.told manner.now) (V.more manner.now) (V.seen greatest.now).key (map holding_of sides.now) greatest.now) }
+        ++ greatest_line V.seen V.begins (V.told format.now) (V.more format.now) (V.seen greatest.now).key (map holding_of sides.now) greatest.now) }
 {
-    append_group(out, sides, greatest.key(), "greatest", greatest, manner)?;
+    append_group(out, sides, greatest.key(), "greatest", greatest, format)?;
     writeln!(out)?;
-    greatest.append_more(out, greatest, manner)
+    greatest.append_more(out, greatest, format)
 }
 
 /// Appends the line of the sources that have a lesser version.
 pub fn append_behind<V: ReportLine>(
     out: &mut String,
-    sides: &[Side<'_, V>],
+    sides: &[MergeCursor<'_, V>],
     version: &V,
     greatest: &V,
-    manner: &Manner,
+    format: &Format,
 ) -> Result<(), AllocError>
     requires { is_below (V.seen version.now) (V.seen greatest.now) ≡ true }
     ensures { OnOk result (string_bytes out.new ≡ string_bytes out.old
-        ++ behind_line V.seen V.begins (V.told manner.now) (V.more manner.now) (less_word V.seen V.unknown_of V.known_of) (V.seen greatest.now).key (map holding_of sides.now) greatest.now version.now) }
+        ++ behind_line V.seen V.begins (V.told format.now) (V.more format.now) (less_word V.seen V.unknown_of V.known_of) (V.seen greatest.now).key (map holding_of sides.now) greatest.now version.now) }
 {
     let part = less_by(*out.allocator(), version, greatest)?;
-    append_group(out, sides, greatest.key(), "behind", version, manner)?;
+    append_group(out, sides, greatest.key(), "behind", version, format)?;
     writeln!(out, " by {part}")?;
-    version.append_more(out, greatest, manner)
+    version.append_more(out, greatest, format)
 }
 
 /// Appends the line of the sources that hold nothing, if there are any.
 pub fn append_missing<V: ReportLine>(
     out: &mut String,
-    sides: &[Side<'_, V>],
+    sides: &[MergeCursor<'_, V>],
     key: &V::Key,
 ) -> Result<(), AllocError>
     ensures { OnOk result (string_bytes out.new ≡ string_bytes out.old

@@ -7,8 +7,8 @@ ghost use Rattle.am_version_order.specs.Versions.{is_below};
 ghost use Rattle.am_report.specs.Groups.{IsLessBy, greatest_within, part_between, within};
 ghost use Rattle.am_report.specs.Sources.{holding_of};
 
-use crate::part::Part;
-use crate::side::Side;
+use crate::diff_field::DiffField;
+use crate::merge_cursor::MergeCursor;
 use am_version_order::Version;
 
 /// Returns the greater of two versions, or the only one; the first if they tie.
@@ -40,39 +40,39 @@ fn below<'a, V: Version>(version: Option<&'a V>, bound: &V) -> Option<&'a V>
 }
 
 /// Returns the greatest version that a source holds at the key that the walk has reached.
-pub fn greatest_of<'a, V: Version>(sides: &[Side<'a, V>]) -> Option<&'a V>
+pub fn greatest_of<'a, V: Version>(sides: &[MergeCursor<'a, V>]) -> Option<&'a V>
     ensures { option_copied result ≡ greatest_within V.seen None (map holding_of sides.now) }
 {
     let mut best = None;
-    for side in sides {
-        best = greater(best, side.here());
+    for cursor in sides {
+        best = greater(best, cursor.here());
     }
     best
 }
 
 /// Returns the greatest version that a source holds there and that is less than this one.
-pub fn next_below<'a, V: Version>(sides: &[Side<'a, V>], above: &V) -> Option<&'a V>
+pub fn next_below<'a, V: Version>(sides: &[MergeCursor<'a, V>], above: &V) -> Option<&'a V>
     ensures { option_copied result ≡ greatest_within V.seen (Some above.now) (map holding_of sides.now) }
 {
     let mut best = None;
-    for side in sides {
-        best = greater(best, below(side.here(), above));
+    for cursor in sides {
+        best = greater(best, below(cursor.here(), above));
     }
     best
 }
 
 /// Returns the part of the order by which a version is less than a greater one of its key. It takes no memory.
 #[tactic(auto, using(crate::proofs::Parts::less_by_part))]
-pub fn is_behind_by<V: Version>(version: &V, greatest: &V) -> Part
+pub fn is_behind_by<V: Version>(version: &V, greatest: &V) -> DiffField
     requires { is_below (V.seen version.now) (V.seen greatest.now) ≡ true }
     ensures part { result ≡ part_between (V.seen version.now) (V.seen greatest.now) }
     ensures less { IsLessBy result (V.seen version.now) (V.seen greatest.now) }
 {
     if version.updated() < greatest.updated() {
-        Part::Update
+        DiffField::Update
     } else if version.expires() < greatest.expires() {
-        Part::Expiry
+        DiffField::Expiry
     } else {
-        Part::Bytes
+        DiffField::Bytes
     }
 }

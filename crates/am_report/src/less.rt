@@ -5,21 +5,21 @@ ghost use Rattle.am_version_order.specs.Versions.{is_below};
 ghost use Rattle.am_report.specs.Less.{fields_word, is_same_known, less_word, part_word, word_of_numbers};
 ghost use Rattle.am_report.specs.UnknownFields.{differing};
 
+use crate::diff_field::DiffField;
 use crate::field_numbers::append_differing;
 use crate::groups::is_behind_by;
-use crate::part::Part;
 use crate::with_unknown::WithUnknown;
 use am_version_order::Version;
 use std::alloc::{AllocError, Global};
 
 /// Returns the name of a part of the order.
-fn part_name(part: Part) -> &'static str
+fn part_name(part: DiffField) -> &'static str
     ensures { result.now ≡ part_word part }
 {
     match part {
-        Part::Update => "update",
-        Part::Expiry => "expiry",
-        Part::Bytes => "bytes",
+        DiffField::Update => "update",
+        DiffField::Expiry => "expiry",
+        DiffField::Bytes => "bytes",
     }
 }
 
@@ -85,7 +85,7 @@ pub fn less_by<V: WithUnknown>(
     ensures { IfOk result (λ text. string_bytes text ≡ less_word V.seen V.unknown_of V.known_of version.now greatest.now) }
 {
     let part = is_behind_by(version, greatest);
-    if let Part::Bytes = part
+    if let DiffField::Bytes = part
         && is_same_known(alloc, version, greatest)?
     {
         return fields_text(alloc, version, greatest);

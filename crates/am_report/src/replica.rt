@@ -4,7 +4,7 @@ ghost use Rattle.std.specs.Prelude.{◌≡◌, map, All, IfOk};
 ghost use Rattle.am_merge.specs.Maps.{IsMap};
 ghost use Rattle.am_report.specs.Sources.{side_of};
 
-use crate::side::Side;
+use crate::merge_cursor::MergeCursor;
 use am_merge::Held;
 use am_version_order::Version;
 use std::alloc::{AllocError, Global};
@@ -56,13 +56,13 @@ impl<'a, V: Version> Replica<'a, V> {
 pub fn sides_of<'a, 'n, V: Version>(
     alloc: Global,
     replicas: &'a [Replica<'n, V>],
-) -> Result<Vec<Side<'a, V>>, AllocError>
+) -> Result<Vec<MergeCursor<'a, V>>, AllocError>
     ensures start { IfOk result (λ sides. sides.items ≡ map side_of replicas.now) }
-    ensures order { IfOk result (λ sides. All (λ side. IsMap V.seen V.Key.cmp side.left) sides.items) }
+    ensures order { IfOk result (λ sides. All (λ cursor. IsMap V.seen V.Key.cmp cursor.left) sides.items) }
 {
     let mut sides = Vec::with_capacity(alloc, replicas.len())?;
     for replica in replicas {
-        sides.push(Side::new(replica.name(), replica.held()))?;
+        sides.push(MergeCursor::new(replica.name(), replica.held()))?;
     }
     Ok(sides)
 }

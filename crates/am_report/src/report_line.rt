@@ -2,11 +2,11 @@
 
 ghost use Rattle.std.specs.Prelude.{◌≡◌, ℕ, List, ◌++◌, OnOk, string_bytes};
 ghost use Rattle.am_report.specs.Versions.{shown_state};
-ghost use Rattle.am_report.specs.declared.manner.Manner.{Manner};
+ghost use Rattle.am_report.specs.declared.format.Format.{Format};
 
+use crate::format::Format;
 use crate::lists::Numbers;
 use crate::long::{append_fields_change, append_long_key, append_long_silence};
-use crate::manner::Manner;
 use crate::moments::shown_moment;
 use crate::view_lines::{Key, state_name};
 use crate::with_unknown::WithUnknown;
@@ -23,10 +23,10 @@ pub trait ReportLine: WithUnknown {
     ghost begins: { Self.Key → List ℕ };
 
     /// The words of a version.
-    ghost told: { Manner → Self → List ℕ };
+    ghost told: { Format → Self → List ℕ };
 
     /// The text below the line of a version that is compared with the greatest of its key.
-    ghost more: { Manner → Self → Self → List ℕ };
+    ghost more: { Format → Self → Self → List ℕ };
 
     /// Appends the words with which each line of a key begins.
     ///
@@ -41,8 +41,8 @@ pub trait ReportLine: WithUnknown {
     /// # Errors
     ///
     /// [`AllocError`] if memory runs out. A part of the words may be left.
-    fn append_told(&self, out: &mut String, manner: &Manner) -> Result<(), AllocError>
-        ensures { OnOk result (string_bytes out.new ≡ string_bytes out.old ++ told manner.now self.now) };
+    fn append_told(&self, out: &mut String, format: &Format) -> Result<(), AllocError>
+        ensures { OnOk result (string_bytes out.new ≡ string_bytes out.old ++ told format.now self.now) };
 
     /// Appends the text below the line of a version, with what changed from it to the greatest of its key.
     ///
@@ -53,19 +53,19 @@ pub trait ReportLine: WithUnknown {
         &self,
         out: &mut String,
         greatest: &Self,
-        manner: &Manner,
+        format: &Format,
     ) -> Result<(), AllocError>
-        ensures { OnOk result (string_bytes out.new ≡ string_bytes out.old ++ more manner.now self.now greatest.now) };
+        ensures { OnOk result (string_bytes out.new ≡ string_bytes out.old ++ more format.now self.now greatest.now) };
 }
 
 /// Returns the state of a silence, or `gone` if its version isn't live.
-fn shown_state(silence: &MeshSilence, manner: &Manner) -> &'static str
-    ensures { result.now ≡ shown_state manner.now silence.now }
+fn shown_state(silence: &MeshSilence, format: &Format) -> &'static str
+    ensures { result.now ≡ shown_state format.now silence.now }
 {
-    if manner.has_expiries && manner.moment >= silence.expires() {
+    if format.has_expiries && format.moment >= silence.expires() {
         return "gone";
     }
-    state_name(silence.state_at(manner.moment))
+    state_name(silence.state_at(format.moment))
 }
 
 impl ReportLine for MeshSilence {
@@ -83,8 +83,8 @@ impl ReportLine for MeshSilence {
     }
 
     #[tactic(auto, unfolding(crate::specs::Versions::told_silence))]
-    fn append_told(&self, out: &mut String, manner: &Manner) -> Result<(), AllocError> {
-        let state = shown_state(self, manner);
+    fn append_told(&self, out: &mut String, format: &Format) -> Result<(), AllocError> {
+        let state = shown_state(self, format);
         let updated = shown_moment(self.updated_at());
         let ends = shown_moment(self.ends_at());
         let (updated, ends) = (updated.as_str(), ends.as_str());
@@ -95,12 +95,12 @@ impl ReportLine for MeshSilence {
         &self,
         out: &mut String,
         greatest: &Self,
-        manner: &Manner,
+        format: &Format,
     ) -> Result<(), AllocError> {
-        if !manner.is_long {
+        if !format.is_long {
             return Ok(());
         }
-        append_long_silence(out, self, greatest, manner.has_expiries)
+        append_long_silence(out, self, greatest, format.has_expiries)
     }
 }
 
@@ -119,7 +119,7 @@ impl ReportLine for MeshEntry {
     }
 
     #[tactic(auto, unfolding(crate::specs::Versions::told_entry))]
-    fn append_told(&self, out: &mut String, _manner: &Manner) -> Result<(), AllocError> {
+    fn append_told(&self, out: &mut String, _manner: &Format) -> Result<(), AllocError> {
         let updated = shown_moment(self.timestamp());
         let expires = shown_moment(self.expires_at());
         let (updated, expires) = (updated.as_str(), expires.as_str());
@@ -132,9 +132,9 @@ impl ReportLine for MeshEntry {
         &self,
         out: &mut String,
         greatest: &Self,
-        manner: &Manner,
+        format: &Format,
     ) -> Result<(), AllocError> {
-        if !manner.is_long {
+        if !format.is_long {
             return Ok(());
         }
         append_long_key(out, self.key())?;

@@ -11,8 +11,8 @@ use am_merge::Held;
 use am_nflog::MeshEntry;
 use am_silence::MeshSilence;
 use am_snapshot::SnapshotError;
-use am_streams::send;
 use am_version_order::{Moment, Version};
+use am_wire::send;
 use std::alloc::{AllocError, Global};
 use std::io::Write;
 

@@ -10,30 +10,30 @@ ghost use Rattle.am_report.specs.Less.{less_word};
 use crate::compared::Compared;
 use crate::difference::append_difference;
 use crate::differences::next_difference;
-use crate::manner::Manner;
+use crate::format::Format;
+use crate::merge_cursor::MergeCursor;
 use crate::replica::{Replica, sides_of};
 use crate::report_line::ReportLine;
-use crate::side::Side;
 use am_snapshot::SnapshotError;
-use am_streams::send;
+use am_wire::send;
 use std::alloc::{AllocError, Global};
 use std::io::Write;
 
 /// Appends the lines of all differences that are left on a walk.
 fn append_left<V: ReportLine>(
     out: &mut String,
-    sides: &mut [Side<'_, V>],
+    sides: &mut [MergeCursor<'_, V>],
     compared: Compared,
-    manner: &Manner,
+    format: &Format,
 ) -> Result<bool, AllocError>
-    requires order { All (λ side. IsMap V.seen V.Key.cmp side.left) sides.old }
+    requires order { All (λ cursor. IsMap V.seen V.Key.cmp cursor.left) sides.old }
     ensures { IfOk result (λ found. (lines : List ℕ) ×
-        AreLines V.seen V.Key.cmp V.begins (V.told manner.now) (V.more manner.now) (less_word V.seen V.unknown_of V.known_of) compared manner.now.moment (map rest_of sides.old) found lines ×
+        AreLines V.seen V.Key.cmp V.begins (V.told format.now) (V.more format.now) (less_word V.seen V.unknown_of V.known_of) compared format.now.moment (map rest_of sides.old) found lines ×
         (string_bytes out.new ≡ string_bytes out.old ++ lines)) }
 {
     let mut found = false;
-    while next_difference(sides, compared, manner.moment) {
-        append_difference(out, sides, manner)?;
+    while next_difference(sides, compared, format.moment) {
+        append_difference(out, sides, format)?;
         found = true;
     }
     Ok(found)
@@ -51,14 +51,14 @@ pub fn append_differences<V: ReportLine>(
     out: &mut String,
     replicas: &[Replica<'_, V>],
     compared: Compared,
-    manner: &Manner,
+    format: &Format,
 ) -> Result<bool, AllocError>
     ensures { IfOk result (λ found. (lines : List ℕ) ×
-        AreLines V.seen V.Key.cmp V.begins (V.told manner.now) (V.more manner.now) (less_word V.seen V.unknown_of V.known_of) compared manner.now.moment replicas.now found lines ×
+        AreLines V.seen V.Key.cmp V.begins (V.told format.now) (V.more format.now) (less_word V.seen V.unknown_of V.known_of) compared format.now.moment replicas.now found lines ×
         (string_bytes out.new ≡ string_bytes out.old ++ lines)) }
 {
     let mut sides = sides_of(alloc, replicas)?;
-    append_left(out, &mut sides, compared, manner)
+    append_left(out, &mut sides, compared, format)
 }
 
 /// Writes the lines of all differences of these sources, as [`append_differences`] appends them. Returns whether there is a
@@ -72,18 +72,18 @@ pub fn write_differences<V: ReportLine, W: Write>(
     alloc: Global,
     replicas: &[Replica<'_, V>],
     compared: Compared,
-    manner: &Manner,
+    format: &Format,
     writer: &mut W,
 ) -> Result<bool, SnapshotError>
     ensures lines { IfOk result (λ found. (lines : List ℕ) ×
-        AreLines V.seen V.Key.cmp V.begins (V.told manner.now) (V.more manner.now) (less_word V.seen V.unknown_of V.known_of) compared manner.now.moment replicas.now found lines ×
+        AreLines V.seen V.Key.cmp V.begins (V.told format.now) (V.more format.now) (less_word V.seen V.unknown_of V.known_of) compared format.now.moment replicas.now found lines ×
         Appends (W.contents writer.old) (W.contents writer.new) lines) }
 
-    ensures stopped { IfErr result (StopsLines V.seen V.Key.cmp V.begins (V.told manner.now) (V.more manner.now) (less_word V.seen V.unknown_of V.known_of) compared manner.now.moment replicas.now
+    ensures stopped { IfErr result (StopsLines V.seen V.Key.cmp V.begins (V.told format.now) (V.more format.now) (less_word V.seen V.unknown_of V.known_of) compared format.now.moment replicas.now
         W.contents writer.old writer.new) }
 {
     let mut text = String::new(alloc);
-    let found = append_differences(alloc, &mut text, replicas, compared, manner)?;
+    let found = append_differences(alloc, &mut text, replicas, compared, format)?;
     send(writer, text.as_bytes())?;
     Ok(found)
 }

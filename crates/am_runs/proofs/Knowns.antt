@@ -10,7 +10,7 @@ use Rattle.am_collect.specs.Events.{taken, collections}
 use Rattle.am_runs.specs.Steps.{RunStep, is_at}
 use Rattle.am_runs.specs.Steps.RunStep.{Took, Ticked, Back, Refused, Saved, Stopped, Started}
 use Rattle.am_runs.specs.Members.{Member, stepped, member_after, member_from, member_of}
-use Rattle.am_runs.specs.Tests.{Tops, Lasts, later, lasted, lasts_after, lasts_from, last_in, topped, tops_after, tops_from, top_in, top_among}
+use Rattle.am_runs.specs.Tests.{MaxTaken, LastCollection, later, lasted, lasts_after, lasts_from, last_in, topped, tops_after, tops_from, top_in, top_among}
 use Rattle.am_runs.proofs.Pasts.{taken-passes, taken-tick, taken-pass, collections-passes, collections-tick, collections-pass}
 use Rattle.am_runs.proofs.Calmed.{IsTop, IsLast, top_all}
 
@@ -39,13 +39,13 @@ last_push (Some last) moments now ends = λ m. (
 )
 
 module _ {K X : Type 0} (seen : X → Version K) (cmp : K → K → Ordering) (keys : IsKeyOrder cmp) (key : K) where
-  pub record IsKnown (m : Member X) (tops : Tops X) (lasts : Lasts) : Type 0 where
+  pub record IsKnown (m : Member X) (tops : MaxTaken X) (lasts : LastCollection) : Type 0 where
     pub top : IsTop seen (taken [] m.past) key tops.top
     pub saved_top : IsTop seen (taken [] m.saved) key tops.saved
     pub last : IsLast lasts.last (collections m.past)
     pub saved_last : IsLast lasts.saved (collections m.saved)
 
-  known_stepped : (m : Member X) (tops : Tops X) (lasts : Lasts) (step : RunStep X) → IsKnown m tops lasts → IsKnown (stepped m step) (topped seen cmp key tops step) (lasted lasts step)
+  known_stepped : (m : Member X) (tops : MaxTaken X) (lasts : LastCollection) (step : RunStep X) → IsKnown m tops lasts → IsKnown (stepped m step) (topped seen cmp key tops step) (lasted lasts step)
   known_stepped m tops lasts (Took place now source versions frames) k = record {
     top = subst (λ set. IsTop seen set key (top_among seen cmp key tops.top versions)) (sym (taken-passes m.past now versions)) (top_all seen cmp keys (taken [] m.past) key tops.top versions k.top);
     saved_top = k.saved_top;
@@ -69,11 +69,11 @@ module _ {K X : Type 0} (seen : X → Version K) (cmp : K → K → Ordering) (k
     saved_last = k.saved_last;
   }
 
-  known_where : (b : Bool) (m n : Member X) (tops others : Tops X) (lasts ends : Lasts) → IsKnown m tops lasts → IsKnown n others ends → IsKnown (cond b n m) (cond b others tops) (cond b ends lasts)
+  known_where : (b : Bool) (m n : Member X) (tops others : MaxTaken X) (lasts ends : LastCollection) → IsKnown m tops lasts → IsKnown n others ends → IsKnown (cond b n m) (cond b others tops) (cond b ends lasts)
   known_where true m n tops others lasts ends k j = j
   known_where false m n tops others lasts ends k j = k
 
-  known_from : (q : ℕ) (m : Member X) (tops : Tops X) (lasts : Lasts) (steps : List (RunStep X)) → IsKnown m tops lasts → IsKnown (member_from q m steps) (tops_from seen cmp q key tops steps) (lasts_from q lasts steps)
+  known_from : (q : ℕ) (m : Member X) (tops : MaxTaken X) (lasts : LastCollection) (steps : List (RunStep X)) → IsKnown m tops lasts → IsKnown (member_from q m steps) (tops_from seen cmp q key tops steps) (lasts_from q lasts steps)
   known_from q m tops lasts [] k = k
   known_from q m tops lasts (step ∷ steps) k =
       known_from q (member_after q m step) (tops_after seen cmp q key tops step) (lasts_after q lasts step) steps

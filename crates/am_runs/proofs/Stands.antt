@@ -7,16 +7,16 @@ use Rattle.std.proofs.lemmas.Option.{slice_get_within}
 use Rattle.am_version_order.specs.Versions.{Version}
 use Rattle.am_merge.specs.Maps.{at}
 use Rattle.am_merge.proofs.Indexes.{some_is}
-use Rattle.am_runs.specs.declared.standing.Standing.{Standing}
+use Rattle.am_runs.specs.declared.member_index.MemberIndex.{MemberIndex}
 use Rattle.am_runs.specs.Records.{lasts_seen}
 use Rattle.am_runs.specs.Standings.{IsStanding, IsJudged, AreStandings, Stays, fault_after}
 use Rattle.am_runs.specs.Steps.{RunStep, EachStep, IsFirstWithout, is_at}
 use Rattle.am_runs.specs.Steps.RunStep.{Took, Ticked, Back, Refused, Saved, Stopped, Started}
-use Rattle.am_runs.specs.Tests.{Lasts, Tops, acted, last_after, last_from, runs_after, runs_from, lasted, lasts_after, lasts_from, topped, tops_after, tops_from, top_among, top_in, in_time, comes_in_time, StaysCalm}
+use Rattle.am_runs.specs.Tests.{LastCollection, MaxTaken, acted, last_after, last_from, runs_after, runs_from, lasted, lasts_after, lasts_from, topped, tops_after, tops_from, top_among, top_in, in_time, comes_in_time, StaysCalm}
 use Rattle.am_runs.proofs.Cuts.{each_nil, each_push, each_weaker}
 use Rattle.am_runs.proofs.Spreads.{get_left, get_right}
 
-lasts_from-push : {X : Type 0} (q : ℕ) (l : Lasts) (before : List (RunStep X)) (s : RunStep X) → lasts_from q l (before ++ s ∷ []) ≡ lasts_after q (lasts_from q l before) s
+lasts_from-push : {X : Type 0} (q : ℕ) (l : LastCollection) (before : List (RunStep X)) (s : RunStep X) → lasts_from q l (before ++ s ∷ []) ≡ lasts_after q (lasts_from q l before) s
 lasts_from-push q l [] s = refl
 lasts_from-push q l (t ∷ before) s = lasts_from-push q (lasts_after q l t) before s
 
@@ -95,11 +95,11 @@ module _ {K X : Type 0} (seen : X → Version K) (cmp : K → K → Ordering) wh
   pub stands_none : AreStandings seen cmp [] []
   stands_none q standing there = absurd cc
 
-  tops_from-push : (q : ℕ) (key : K) (t : Tops X) (before : List (RunStep X)) (s : RunStep X) → tops_from seen cmp q key t (before ++ s ∷ []) ≡ tops_after seen cmp q key (tops_from seen cmp q key t before) s
+  tops_from-push : (q : ℕ) (key : K) (t : MaxTaken X) (before : List (RunStep X)) (s : RunStep X) → tops_from seen cmp q key t (before ++ s ∷ []) ≡ tops_after seen cmp q key (tops_from seen cmp q key t before) s
   tops_from-push q key t [] s = refl
   tops_from-push q key t (u ∷ before) s = tops_from-push q key (tops_after seen cmp q key t u) before s
 
-  stands_apart : (q : ℕ) (standing : Standing X K) (before : List (RunStep X)) (s : RunStep X) → is_at q s ≡ false → IsStanding seen cmp q standing before → IsStanding seen cmp q standing (before ++ s ∷ [])
+  stands_apart : (q : ℕ) (standing : MemberIndex X K) (before : List (RunStep X)) (s : RunStep X) → is_at q s ≡ false → IsStanding seen cmp q standing before → IsStanding seen cmp q standing (before ++ s ∷ [])
   stands_apart q standing before s apart is =
       let P = StaysCalm seen cmp q in
       record {
@@ -111,9 +111,9 @@ module _ {K X : Type 0} (seen : X → Version K) (cmp : K → K → Ordering) wh
       }
 
   -- whether it stays calm is told by what stands of it
-  stays_told : (q : ℕ) (standing : Standing X K) (before : List (RunStep X)) (s : RunStep X) → is_at q s ≡ true → IsStanding seen cmp q standing before → Stays seen cmp standing s ↔ StaysCalm seen cmp q before s
+  stays_told : (q : ℕ) (standing : MemberIndex X K) (before : List (RunStep X)) (s : RunStep X) → is_at q s ≡ true → IsStanding seen cmp q standing before → Stays seen cmp standing s ↔ StaysCalm seen cmp q before s
   stays_told q standing before (Took place now source versions frames) here is =
-      let same = λ (done : List X) (v : X). ap (λ (t : Tops X). in_time seen (top_among seen cmp (seen v).key t.top done) standing.lasts.last now v) (is.tops (seen v).key) ∙ ap (λ (l : Lasts). in_time seen (top_among seen cmp (seen v).key (top_in seen cmp q (seen v).key before) done) l.last now v) is.lasts in (
+      let same = λ (done : List X) (v : X). ap (λ (t : MaxTaken X). in_time seen (top_among seen cmp (seen v).key t.top done) standing.lasts.last now v) (is.tops (seen v).key) ∙ ap (λ (l : LastCollection). in_time seen (top_among seen cmp (seen v).key (top_in seen cmp q (seen v).key before) done) l.last now v) is.lasts in (
         λ stays own. each_weaker _ (λ done v. comes_in_time seen cmp q before now done v ≡ true) versions (λ done v calm. sym (same done v) ∙ calm) stays,
         λ stays. each_weaker _ (λ done v. in_time seen (top_among seen cmp (seen v).key (at seen cmp standing.taken (seen v).key) done) standing.lasts.last now v ≡ true) versions (λ done v calm. same done v ∙ calm) (stays here),
       )
@@ -125,7 +125,7 @@ module _ {K X : Type 0} (seen : X → Version K) (cmp : K → K → Ordering) wh
   stays_told q standing before (Started place now) here is = (λ t. tt, λ t. tt)
 
   -- a step of the member itself
-  pub stands_own : (q : ℕ) (standing judged new : Standing X K) (before : List (RunStep X)) (s : RunStep X) (stays : Bool) → is_at q s ≡ true → IsJudged seen cmp standing judged s stays → new.runs ≡ runs_after q judged.runs s → new.acted ≡ last_after q judged.acted s → lasts_seen new.lasts ≡ lasts_after q (lasts_seen judged.lasts) s → new.fault ≡ fault_after judged.fault stays (length before) → new.taken ≡ judged.taken → new.saved ≡ judged.saved → IsStanding seen cmp q standing before → IsStanding seen cmp q new (before ++ s ∷ [])
+  pub stands_own : (q : ℕ) (standing judged new : MemberIndex X K) (before : List (RunStep X)) (s : RunStep X) (stays : Bool) → is_at q s ≡ true → IsJudged seen cmp standing judged s stays → new.runs ≡ runs_after q judged.runs s → new.acted ≡ last_after q judged.acted s → lasts_seen new.lasts ≡ lasts_after q (lasts_seen judged.lasts) s → new.fault ≡ fault_after judged.fault stays (length before) → new.taken ≡ judged.taken → new.saved ≡ judged.saved → IsStanding seen cmp q standing before → IsStanding seen cmp q new (before ++ s ∷ [])
   stands_own q standing judged new before s stays here is_judged runs moment lasts fault taken saved is =
       let told = stays_told q standing before s here is in
       record {
@@ -140,11 +140,11 @@ module _ {K X : Type 0} (seen : X → Version K) (cmp : K → K → Ordering) wh
       }
 
   -- no step of one of these members
-  pub stands_kept : (standings : List (Standing X K)) (before : List (RunStep X)) (s : RunStep X) → ((q : ℕ) → q < length standings → is_at q s ≡ false) → AreStandings seen cmp standings before → AreStandings seen cmp standings (before ++ s ∷ [])
+  pub stands_kept : (standings : List (MemberIndex X K)) (before : List (RunStep X)) (s : RunStep X) → ((q : ℕ) → q < length standings → is_at q s ≡ false) → AreStandings seen cmp standings before → AreStandings seen cmp standings (before ++ s ∷ [])
   stands_kept standings before s apart are q standing there = stands_apart q standing before s (apart q (slice_get_within standings q standing there)) (are q standing there)
 
   -- a step of this member
-  pub stands_noted : (standings : List (Standing X K)) (member : ℕ) (standing new : Standing X K) (before : List (RunStep X)) (s : RunStep X) → slice_get standings member ≡ Some standing → ((q : ℕ) → is_at q s ≡ eqb member q) → (IsStanding seen cmp member standing before → IsStanding seen cmp member new (before ++ s ∷ [])) → AreStandings seen cmp standings before → AreStandings seen cmp (slice_set standings member new) (before ++ s ∷ [])
+  pub stands_noted : (standings : List (MemberIndex X K)) (member : ℕ) (standing new : MemberIndex X K) (before : List (RunStep X)) (s : RunStep X) → slice_get standings member ≡ Some standing → ((q : ℕ) → is_at q s ≡ eqb member q) → (IsStanding seen cmp member standing before → IsStanding seen cmp member new (before ++ s ∷ [])) → AreStandings seen cmp standings before → AreStandings seen cmp (slice_set standings member new) (before ++ s ∷ [])
   stands_noted standings member standing new before s there own_only own are q one is = elim (cases_eq q member) [
     | inl same ↦
         let put : new ≡ one = some_is (sym (got_same standings member new (slice_get_within standings member standing there)) ∙ ap (slice_get (slice_set standings member new)) (sym same) ∙ is) in
@@ -154,7 +154,7 @@ module _ {K X : Type 0} (seen : X → Version K) (cmp : K → K → Ordering) wh
   ]
 
   -- one more of whom nothing is known yet
-  abbrev pub unknown : List X → List X → Standing X K
+  abbrev pub unknown : List X → List X → MemberIndex X K
   unknown taken saved = record { runs = true; acted = 0; lasts = record { last = None; saved = None }; fault = None; taken = taken; saved = saved }
 
   stands_new : (q : ℕ) (taken saved : List X) → taken ≡ [] → saved ≡ [] → IsStanding seen cmp q (unknown taken saved) []
@@ -162,7 +162,7 @@ module _ {K X : Type 0} (seen : X → Version K) (cmp : K → K → Ordering) wh
       subst (λ map. IsStanding seen cmp q (unknown map saved) []) (sym none)
       (subst (λ map. IsStanding seen cmp q (unknown [] map) []) (sym nothing) (record { runs = refl; acted = refl; lasts = refl; tops = λ key. refl; fault = each_nil (StaysCalm seen cmp q) }))
 
-  pub stands_more : (standings : List (Standing X K)) (taken saved : List X) → taken ≡ [] → saved ≡ [] → AreStandings seen cmp standings [] → AreStandings seen cmp (standings ++ unknown taken saved ∷ []) []
+  pub stands_more : (standings : List (MemberIndex X K)) (taken saved : List X) → taken ≡ [] → saved ≡ [] → AreStandings seen cmp standings [] → AreStandings seen cmp (standings ++ unknown taken saved ∷ []) []
   stands_more standings taken saved none nothing are q standing there = elim (cases_lt q (length standings)) [
     | inl within ↦ are q standing (sym (get_left standings (unknown taken saved ∷ []) q within) ∙ there)
     | inr past ↦

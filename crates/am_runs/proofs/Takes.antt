@@ -6,7 +6,7 @@ use Rattle.std.proofs.lemmas.Bool.{and_parts, and_from}
 use Rattle.std.proofs.lemmas.List.{take_more}
 use Rattle.am_version_order.specs.Versions.{Version}
 use Rattle.am_merge.specs.Maps.{IsJoin, at, greater_of}
-use Rattle.am_runs.specs.declared.standing.Standing.{Standing}
+use Rattle.am_runs.specs.declared.member_index.MemberIndex.{MemberIndex}
 use Rattle.am_runs.specs.declared.step.Source.{Source}
 use Rattle.am_runs.specs.Standings.{IsJudged}
 use Rattle.am_runs.specs.Steps.{EachStep}
@@ -44,7 +44,7 @@ module _ {K X : Type 0} (seen : X → Version K) (cmp : K → K → Ordering) wh
       )
 
   -- an event of a member
-  pub judged_took : (standing : Standing X K) (taken : List X) (place now : ℕ) (source : Source) (versions : List X) (frames : List (List X)) (lent : List X) → lent ≡ versions → {E : Type 0} → (result : Result Bool E)
+  pub judged_took : (standing : MemberIndex X K) (taken : List X) (place now : ℕ) (source : Source) (versions : List X) (frames : List (List X)) (lent : List X) → lent ≡ versions → {E : Type 0} → (result : Result Bool E)
       → IfOk result (λ calm. IsTrue calm ↔ EachStep lent (λ done v. in_time seen (top_among seen cmp (seen v).key (at seen cmp standing.taken (seen v).key) done) standing.lasts.last now v ≡ true))
       → OnOk result ((key : K) → at seen cmp taken key ≡ top_among seen cmp key (at seen cmp standing.taken key) lent)
       → IfOk result (IsJudged seen cmp standing (record { runs = standing.runs; acted = standing.acted; lasts = standing.lasts; fault = standing.fault; taken = taken; saved = standing.saved }) (Took place now source versions frames))

@@ -5,10 +5,10 @@ use Rattle.am_runs.specs.declared.step.RunStep.TheVariants.{Took as KeptTook, Ti
 use Rattle.am_runs.specs.declared.step.RunStep.TheVariants.{Refused as KeptRefused, Saved as KeptSaved}
 use Rattle.am_runs.specs.declared.step.RunStep.TheVariants.{Stopped as KeptStopped, Started as KeptStarted}
 use Rattle.std.specs.Option.{option_copied}
-use Rattle.am_runs.specs.declared.calm.Lasts.{Lasts as KeptLasts}
-use Rattle.am_runs.specs.declared.calm.Tops.{Tops as KeptTops}
+use Rattle.am_runs.specs.declared.calm.LastCollection.{LastCollection as KeptLasts}
+use Rattle.am_runs.specs.declared.calm.MaxTaken.{MaxTaken as KeptTops}
 use Rattle.am_runs.specs.declared.timely.Watch.{Watch}
-use Rattle.am_runs.specs.Tests.{Lasts, Tops, Watched}
+use Rattle.am_runs.specs.Tests.{LastCollection, MaxTaken, Watched}
 use Rattle.am_runs.specs.Steps.{RunStep}
 use Rattle.am_runs.specs.Steps.RunStep.{Took, Ticked, Back, Refused, Saved, Stopped, Started}
 
@@ -29,11 +29,11 @@ pub record Record (X : Type 0) : Type 0 where
   pub room : ℕ
 
 -- the last collections, for the tests of calm
-abbrev pub lasts_seen : KeptLasts → Lasts
+abbrev pub lasts_seen : KeptLasts → LastCollection
 lasts_seen l = record { last = l.last; saved = l.saved }
 
 -- the greatest versions of one key, for the tests of calm
-abbrev pub tops_seen : {X : Type 0} → KeptTops X → Tops X
+abbrev pub tops_seen : {X : Type 0} → KeptTops X → MaxTaken X
 tops_seen t = record { top = option_copied t.top; saved = option_copied t.saved }
 
 -- the state of the test of a version's spread

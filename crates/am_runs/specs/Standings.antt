@@ -4,11 +4,11 @@ use Rattle.std.specs.Prelude.{◌≡◌, ℕ, List, Bool, true, Option, Some, No
 use Rattle.std.specs.declared.cmp.Ordering.{Ordering}
 use Rattle.am_version_order.specs.Versions.{Version}
 use Rattle.am_merge.specs.Maps.{at}
-use Rattle.am_runs.specs.declared.standing.Standing.{Standing}
+use Rattle.am_runs.specs.declared.member_index.MemberIndex.{MemberIndex}
 use Rattle.am_runs.specs.Records.{lasts_seen}
 use Rattle.am_runs.specs.Steps.{RunStep, EachStep, IsFirstWithout}
 use Rattle.am_runs.specs.Steps.RunStep.{Took, Back}
-use Rattle.am_runs.specs.Tests.{Tops, last_from, lasts_from, runs_from, topped, tops_from, top_among, in_time, StaysCalm}
+use Rattle.am_runs.specs.Tests.{MaxTaken, last_from, lasts_from, runs_from, topped, tops_from, top_among, in_time, StaysCalm}
 
 -- the first fault after the step with this number, which the member stays calm with or not
 abbrev pub fault_after : Option ℕ → Bool → ℕ → Option ℕ
@@ -17,18 +17,18 @@ fault_after None stays number = if stays then None else Some number
 
 module _ {K X : Type 0} (seen : X → Version K) (cmp : K → K → Ordering) where
   -- the greatest versions of a key in a member's standing
-  abbrev pub tops_at : Standing X K → K → Tops X
+  abbrev pub tops_at : MemberIndex X K → K → MaxTaken X
   tops_at standing key = record { top = at seen cmp standing.taken key; saved = at seen cmp standing.saved key }
 
   -- the member stays calm with this step of its own
-  abbrev pub Stays : Standing X K → RunStep X → Type 0
+  abbrev pub Stays : MemberIndex X K → RunStep X → Type 0
   Stays standing (Took place now source versions frames) =
       EachStep versions (λ done v. in_time seen (top_among seen cmp (seen v).key (at seen cmp standing.taken (seen v).key) done) standing.lasts.last now v ≡ true)
   Stays standing (Back place now) = ⊥
   Stays standing _ = Unit {0}
 
   -- the standing after a step of the member, and whether the member stays calm
-  pub record IsJudged (old new : Standing X K) (step : RunStep X) (stays : Bool) : Type 0 where
+  pub record IsJudged (old new : MemberIndex X K) (step : RunStep X) (stays : Bool) : Type 0 where
     pub calm : IsTrue stays ↔ Stays old step
     pub tops : (key : K) → tops_at new key ≡ topped seen cmp key (tops_at old key) step
     pub runs : new.runs ≡ old.runs
@@ -37,7 +37,7 @@ module _ {K X : Type 0} (seen : X → Version K) (cmp : K → K → Ordering) wh
     pub fault : new.fault ≡ old.fault
 
   -- the standing of a member after steps, if it runs at first
-  pub record IsStanding (q : ℕ) (standing : Standing X K) (steps : List (RunStep X)) : Type 0 where
+  pub record IsStanding (q : ℕ) (standing : MemberIndex X K) (steps : List (RunStep X)) : Type 0 where
     pub runs : standing.runs ≡ runs_from q true steps
     pub acted : standing.acted ≡ last_from q 0 steps
     pub lasts : lasts_seen standing.lasts ≡ lasts_from q (record { last = None; saved = None }) steps
@@ -45,5 +45,5 @@ module _ {K X : Type 0} (seen : X → Version K) (cmp : K → K → Ordering) wh
     pub fault : MatchOption standing.fault (EachStep steps (StaysCalm seen cmp q)) (IsFirstWithout steps (StaysCalm seen cmp q))
 
   -- the standings of the first members after steps
-  abbrev pub AreStandings : List (Standing X K) → List (RunStep X) → Type 0
-  AreStandings standings steps = (q : ℕ) (standing : Standing X K) → slice_get standings q ≡ Some standing → IsStanding q standing steps
+  abbrev pub AreStandings : List (MemberIndex X K) → List (RunStep X) → Type 0
+  AreStandings standings steps = (q : ℕ) (standing : MemberIndex X K) → slice_get standings q ≡ Some standing → IsStanding q standing steps

@@ -53,12 +53,12 @@ last_from q last (step ∷ steps) = last_from q (last_after q last step) steps
 -- ---- whether a member is calm
 
 -- the greatest version of a key taken by a member, and that of its saved copy
-pub record Tops (X : Type 0) : Type 0 where
+pub record MaxTaken (X : Type 0) : Type 0 where
   pub top : Option X
   pub saved : Option X
 
 -- the last collection of a member, and that of its saved copy
-pub record Lasts : Type 0 where
+pub record LastCollection : Type 0 where
   pub last : Option ℕ
   pub saved : Option ℕ
 
@@ -68,7 +68,7 @@ later None now = Some now
 later (Some last) now = Some (max last now)
 
 -- the last collections after a step of the member itself
-abbrev pub lasted : {X : Type 0} → Lasts → RunStep X → Lasts
+abbrev pub lasted : {X : Type 0} → LastCollection → RunStep X → LastCollection
 lasted l (Took place now source versions frames) = l
 lasted l (Ticked place now) = record { last = later l.last now; saved = l.saved }
 lasted l (Back place now) = l
@@ -78,11 +78,11 @@ lasted l (Stopped place) = l
 lasted l (Started place now) = record { last = l.saved; saved = l.saved }
 
 -- the last collections after any step
-abbrev pub lasts_after : {X : Type 0} → ℕ → Lasts → RunStep X → Lasts
+abbrev pub lasts_after : {X : Type 0} → ℕ → LastCollection → RunStep X → LastCollection
 lasts_after q l step = if is_at q step then lasted l step else l
 
 -- the last collections after steps
-abbrev pub lasts_from : {X : Type 0} → ℕ → Lasts → List (RunStep X) → Lasts
+abbrev pub lasts_from : {X : Type 0} → ℕ → LastCollection → List (RunStep X) → LastCollection
 lasts_from q l [] = l
 lasts_from q l (step ∷ steps) = lasts_from q (lasts_after q l step) steps
 
@@ -108,7 +108,7 @@ module _ {K X : Type 0} (seen : X → Version K) (cmp : K → K → Ordering) wh
   top_among key top (v ∷ vs) = top_among key (greater_of seen top (at seen cmp (v ∷ []) key)) vs
 
   -- the greatest versions after a step of the member itself
-  abbrev pub topped : K → Tops X → RunStep X → Tops X
+  abbrev pub topped : K → MaxTaken X → RunStep X → MaxTaken X
   topped key t (Took place now source versions frames) = record { top = top_among key t.top versions; saved = t.saved }
   topped key t (Ticked place now) = t
   topped key t (Back place now) = t
@@ -118,11 +118,11 @@ module _ {K X : Type 0} (seen : X → Version K) (cmp : K → K → Ordering) wh
   topped key t (Started place now) = record { top = t.saved; saved = t.saved }
 
   -- the greatest versions after any step
-  abbrev pub tops_after : ℕ → K → Tops X → RunStep X → Tops X
+  abbrev pub tops_after : ℕ → K → MaxTaken X → RunStep X → MaxTaken X
   tops_after q key t step = if is_at q step then topped key t step else t
 
   -- the greatest versions after steps
-  abbrev pub tops_from : ℕ → K → Tops X → List (RunStep X) → Tops X
+  abbrev pub tops_from : ℕ → K → MaxTaken X → List (RunStep X) → MaxTaken X
   tops_from q key t [] = t
   tops_from q key t (step ∷ steps) = tops_from q key (tops_after q key t step) steps
 

@@ -16,7 +16,7 @@ use am_version_order::{Moment, Version};
 
 /// The last collection of a member, and that of its saved copy.
 #[derive(Clone, Copy)]
-pub struct Lasts {
+pub struct LastCollection {
     pub last: Option<Moment>,
     pub saved: Option<Moment>,
 }
@@ -32,22 +32,22 @@ pub fn later(last: Option<Moment>, now: Moment) -> Option<Moment>
 }
 
 /// Returns the last collections of a member after a step, given those before it.
-pub fn lasts_after<V>(member: usize, lasts: Lasts, step: &RunStep<V>) -> Lasts
+pub fn lasts_after<V>(member: usize, lasts: LastCollection, step: &RunStep<V>) -> LastCollection
     ensures { lasts_seen result ≡ lasts_after member (lasts_seen lasts) (step_of step.now) }
 {
     if !step.is_at(member) {
         return lasts;
     }
     match step {
-        RunStep::Ticked { now, .. } => Lasts {
+        RunStep::Ticked { now, .. } => LastCollection {
             last: later(lasts.last, *now),
             saved: lasts.saved,
         },
-        RunStep::Saved { .. } => Lasts {
+        RunStep::Saved { .. } => LastCollection {
             last: lasts.last,
             saved: lasts.last,
         },
-        RunStep::Started { .. } => Lasts {
+        RunStep::Started { .. } => LastCollection {
             last: lasts.saved,
             saved: lasts.saved,
         },
@@ -55,7 +55,7 @@ pub fn lasts_after<V>(member: usize, lasts: Lasts, step: &RunStep<V>) -> Lasts
     }
 }
 
-fn lasts_from<V>(member: usize, lasts: Lasts, steps: &[RunStep<V>]) -> Lasts
+fn lasts_from<V>(member: usize, lasts: LastCollection, steps: &[RunStep<V>]) -> LastCollection
     ensures { lasts_seen result ≡ lasts_from member (lasts_seen lasts) (map step_of steps.now) }
 {
     let mut lasts = lasts;
@@ -77,7 +77,7 @@ fn has_reached(last: Option<Moment>, moment: Moment) -> bool
 
 /// The greatest version of a key taken by a member, and that of its saved copy.
 #[derive(Drop)]
-struct Tops<'a, V> {
+struct MaxTaken<'a, V> {
     top: Option<&'a V>,
     saved: Option<&'a V>,
 }
@@ -125,24 +125,24 @@ fn top_among<'a, V: Version>(key: &V::Key, top: Option<&'a V>, versions: &'a [V]
 fn tops_after<'a, V: Version>(
     member: usize,
     key: &V::Key,
-    tops: Tops<'a, V>,
+    tops: MaxTaken<'a, V>,
     step: &'a RunStep<V>,
-) -> Tops<'a, V>
+) -> MaxTaken<'a, V>
     ensures { tops_seen result ≡ tops_after V.seen V.Key.cmp member key.now (tops_seen tops.entry) (step_of step.now) }
 {
     if !step.is_at(member) {
         return tops;
     }
     match step {
-        RunStep::Took { versions, .. } => Tops {
+        RunStep::Took { versions, .. } => MaxTaken {
             top: top_among(key, tops.top, versions),
             saved: tops.saved,
         },
-        RunStep::Saved { .. } => Tops {
+        RunStep::Saved { .. } => MaxTaken {
             top: tops.top,
             saved: tops.top,
         },
-        RunStep::Started { .. } => Tops {
+        RunStep::Started { .. } => MaxTaken {
             top: tops.saved,
             saved: tops.saved,
         },
@@ -154,7 +154,7 @@ fn tops_after<'a, V: Version>(
 fn top_in<'a, V: Version>(member: usize, key: &V::Key, steps: &'a [RunStep<V>]) -> Option<&'a V>
     ensures { option_copied result ≡ top_in V.seen V.Key.cmp member key.now (map step_of steps.now) }
 {
-    let mut tops = Tops {
+    let mut tops = MaxTaken {
         top: None,
         saved: None,
     };
@@ -168,7 +168,7 @@ fn top_in<'a, V: Version>(member: usize, key: &V::Key, steps: &'a [RunStep<V>]) 
 pub fn last_in<V>(member: usize, steps: &[RunStep<V>]) -> Option<Moment>
     ensures { result ≡ last_in member (map step_of steps.now) }
 {
-    let start = Lasts {
+    let start = LastCollection {
         last: None,
         saved: None,
     };

@@ -4,11 +4,11 @@
 
 mod calm;
 pub mod laws;
+mod member_index;
 pub mod plain;
 mod run;
 mod running;
 mod spans;
-mod standing;
 mod step;
 mod timely;
 

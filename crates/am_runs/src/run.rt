@@ -9,9 +9,9 @@ ghost use Rattle.am_runs.specs.Timely.{IsTimely};
 
 use crate::calm::first_fault;
 use crate::laws::{one_step_more, timely_runs_are_calm};
+use crate::member_index::{MemberIndex, fill_first, note};
 use crate::running::{last_from, runs_from};
 use crate::spans::is_some_time;
-use crate::standing::{Standing, fill_first, note};
 use crate::step::RunStep;
 use crate::timely::is_timely;
 use am_version_order::{Interval, Moment, Version, versions_are_values};
@@ -25,7 +25,7 @@ pub struct Run<V: Version> {
     members: usize,
     steps: Vec<RunStep<V>>,
     // Empty if memory ran out in noting a step; the plain loops answer then.
-    standings: Vec<Standing<V>>,
+    standings: Vec<MemberIndex<V>>,
     alloc: Global,
 }
 

@@ -80,7 +80,7 @@ impl Listing {
     /// # Errors
     ///
     /// Returns [`AllocError`] if memory runs out.
-    pub fn go_on(self, count: usize) -> Result<Listing, AllocError>
+    pub fn resume(self, count: usize) -> Result<Listing, AllocError>
         ensures { IfOk result (λ list. list ≡ record self { left = self.left - count }) }
     {
         let Listing {

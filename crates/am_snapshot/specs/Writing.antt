@@ -1,7 +1,7 @@
 -- The part of the bytes that a writer took.
 use Rattle.std.specs.Prelude.{◌≡◌, ℕ, ◌+◌, List, ◌++◌, length, Option}
 use Rattle.std.specs.Io.KnownBytes.{Appends}
-use Rattle.am_streams.specs.Writing.{WritesPart}
+use Rattle.am_wire.specs.OutputWriting.{WritesPart}
 
 -- of the bytes that waited and those added to them, the writer took the front, and the rest waits
 pub record Passes (old new : Option (List ℕ)) (waiting added left : List ℕ) (before after : ℕ) : Type 0 where

@@ -4,7 +4,7 @@ ghost use Rattle.std.specs.Prelude.{◌≡◌, [], ◌++◌, ◌+◌, ◌<◌, �
 ghost use Rattle.std.specs.Io.KnownBytes.{Appends};
 ghost use Rattle.am_snapshot.specs.Writing.{Passes, TakesPart};
 
-use am_streams::{WriteFault, send};
+use am_wire::{WriteFault, send};
 use std::alloc::{AllocError, Global};
 use std::io::Write;
 

@@ -2,8 +2,7 @@
 
 ghost use Rattle.std.specs.Prelude.{◌≡◌};
 
-use am_streams::WriteFault;
-use am_wire::{RowFault, WireError};
+use am_wire::{RowFault, WireError, WriteFault};
 use std::alloc::AllocError;
 use thiserror::Error;
 

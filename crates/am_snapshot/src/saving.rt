@@ -13,9 +13,8 @@ use crate::counting_writer::CountingWriter;
 use crate::error::SnapshotError;
 use crate::in_memory::row_length_within;
 use am_merge::Held;
-use am_streams::WriteFault;
 use am_version_order::Version;
-use am_wire::{MOST_MESSAGE_BYTES, write_varint};
+use am_wire::{MOST_MESSAGE_BYTES, WriteFault, write_varint};
 use std::alloc::Global;
 use std::io::Write;
 

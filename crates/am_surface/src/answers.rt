@@ -2,7 +2,7 @@
 
 use crate::api_silences::request;
 use crate::samples::{at, holds, instance};
-use am_api_silences::{Answered, ReplyBytes, Request, ServeFault, Served, answer, serve};
+use am_api_silences::{Answered, Request, ResponseBytes, ServeFault, Served, answer, serve};
 use am_gossip::Frame;
 use am_instance::{Place, Unsent};
 use std::alloc::Global;
@@ -29,10 +29,10 @@ fn answers(alloc: Global) -> Option<()> {
     holds(is_own(&reply))
 }
 
-fn is_own(reply: &ReplyBytes) -> bool {
+fn is_own(reply: &ResponseBytes) -> bool {
     match reply {
-        ReplyBytes::Own(bytes) => bytes.starts_with(b"HTTP/1.1 200 OK"),
-        ReplyBytes::Fixed(_) => false,
+        ResponseBytes::Own(bytes) => bytes.starts_with(b"HTTP/1.1 200 OK"),
+        ResponseBytes::Fixed(_) => false,
     }
 }
 

@@ -4,7 +4,7 @@ use crate::samples::{at, holds, instance};
 use am_connection::{Ended, SendError, connection, send, turn};
 use am_gossip::Frame;
 use am_instance::{Instance, Place, Unsent};
-use am_peers::Fault;
+use am_peers::ConnectionFault;
 use am_version_order::Moment;
 use std::alloc::Global;
 use std::io;
@@ -37,7 +37,7 @@ fn connects(alloc: Global) -> Option<()> {
     let frames: Vec<(Place, Frame)> = frames;
     let unsent: Unsent = unsent;
     let ticked: bool = ticked;
-    let fault: Option<Fault> = fault;
+    let fault: Option<ConnectionFault> = fault;
     holds(frames.is_empty() && unsent.memory == 0 && ticked && fault.is_none())
 }
 

@@ -1,23 +1,44 @@
 //! Calls each public function of the crates once, with the types of its arguments and its result written out: if a name is
-//! removed or a type changes, this no longer compiles. Says for each crate whether its calls answered as they should.
+//! removed or a type changes, this no longer compiles. Says for each crate whether its calls answered as they should. Its tests
+//! look at what only several crates together show: maps, runs, members, limits.
 #![tactic(auto)]
 
 mod answers;
 mod api_silences;
+#[cfg(test)]
+mod blocks;
 mod collect;
 mod connection;
 mod dedup;
 mod gossip;
 mod instance;
+#[cfg(test)]
+mod journal;
 mod laws;
+#[cfg(test)]
+mod limits;
+#[cfg(test)]
+mod lists;
+#[cfg(test)]
+mod maps;
 mod matcher;
+#[cfg(test)]
+mod members;
 mod merge;
 mod nflog;
+#[cfg(test)]
+mod notes;
 mod replay;
+#[cfg(test)]
+mod runs;
 mod samples;
 mod schedule;
 mod silence;
+#[cfg(test)]
+mod sizes;
 mod snapshot;
+#[cfg(test)]
+mod turns;
 mod version_order;
 mod wire;
 

@@ -3,9 +3,8 @@
 
 mod refusal;
 
-use am_command_line::{job_of, words_of};
 use am_commands::{Streams, run_diff, run_fold, run_mend, run_pull, run_push, run_show};
-use am_jobs::Job;
+use am_options::{Job, job_of, words_of};
 use am_player::run_replay;
 use std::process::ExitCode;
 

@@ -1,9 +1,9 @@
 //! The texts that are printed if the words of the command line give no job.
 
-use am_command_line::WordsError;
-use am_faults::{Fault, report, status};
+use am_diagnostics::{Fault, report, status};
+use am_options::WordsError;
 use am_snapshot::SnapshotError;
-use am_streams::send;
+use am_wire::send;
 use clap::error::ErrorKind;
 use std::alloc::AllocError;
 

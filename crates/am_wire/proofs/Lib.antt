@@ -1,3 +1,5 @@
+pub mod Growing
+mod Writes
 pub mod Groups
 pub mod Items
 pub mod Judging

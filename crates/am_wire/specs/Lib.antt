@@ -1,3 +1,5 @@
+pub mod InputReading
+pub mod OutputWriting
 pub mod Limits
 pub mod Varint
 pub mod Length

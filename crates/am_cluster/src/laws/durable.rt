@@ -13,7 +13,7 @@ ghost use Rattle.am_cluster.specs.DurableRuns.{AreTimelyByWhatCame, ComeInTime, 
 ghost use Rattle.am_cluster.specs.Reports.{AreTimely};
 ghost use Rattle.am_cluster.specs.Worlds.{World};
 
-use crate::Cluster;
+use crate::cluster::Cluster;
 use crate::laws::shown::members_show_the_bare_sets;
 
 /// States that everything that came live to a durable member by some moment of a run is in its bare set at every later

@@ -17,7 +17,7 @@ ghost use Rattle.am_cluster.specs.Lives.{OfMember};
 ghost use Rattle.am_cluster.specs.Replicas.{IsCalmBy, entries_taken, silences_taken};
 ghost use Rattle.am_cluster.specs.Shown.{ShowTheBareSet};
 
-use crate::Cluster;
+use crate::cluster::Cluster;
 use am_instance::laws::{equal_views_mute_alike, equal_views_reply_alike, what_is_shown_replies};
 use am_instance::{Instance, Place};
 use am_nflog::MeshEntry;

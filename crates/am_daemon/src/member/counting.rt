@@ -1,14 +1,16 @@
 //! The figures about those who connect to a member.
 
 ghost use Rattle.std.specs.Prelude.{◌≡◌};
-ghost use Rattle.am_dialogue.specs.Talks.{talk_of};
+ghost use Rattle.am_server.specs.Talks.{talk_of};
 
-use am_dialogue::{Account, Conversation, request_of};
-use am_figures::{Failing, Figures, MUTED, Request, SKIPPED, Step, decision_word};
+use am_api_decisions::Why;
+use am_backend::{Backend, count_frames, place_of};
+use am_dedup::Reason;
 use am_http::session::SessionOutput;
 use am_instance::Config;
+use am_metrics::{DecisionLabel, Failing, Metrics, RequestLabel, StepLabel};
 use am_reactor::Failure;
-use am_upkeep::{Keeper, count_frames, place_of};
+use am_server::{ConnectionState, RequestRecord, request_of};
 use std::time::Instant;
 
 /// Returns the kind that a connection's failure is counted as.
@@ -23,43 +25,49 @@ fn failing_of(why: Failure) -> Failing {
 }
 
 /// Returns the step that answers a request, if there is one.
-fn step_of(request: Request) -> Option<Step> {
+fn step_of(request: RequestLabel) -> Option<StepLabel> {
     match request {
-        Request::List => Some(Step::List),
-        Request::Get => Some(Step::Get),
-        Request::Post => Some(Step::Post),
-        Request::Delete => Some(Step::Delete),
-        Request::Notified => Some(Step::Notified),
+        RequestLabel::List => Some(StepLabel::List),
+        RequestLabel::Get => Some(StepLabel::Get),
+        RequestLabel::Post => Some(StepLabel::Post),
+        RequestLabel::Delete => Some(StepLabel::Delete),
+        RequestLabel::Notified => Some(StepLabel::Notified),
         _ => None,
     }
 }
 
-/// Returns the place of the decision that a reply tells. The decision follows the last `"reason"` key: everything else that a
-/// reply quotes has its quotes escaped, except for the names of labels, which come before.
-fn decision_in(reply: &[u8]) -> Option<usize> {
-    let text = str::from_utf8(reply).ok()?;
-    let (_, word) = text.rsplit_once("\"reason\":\"")?;
-    decision_word(word)
+/// Returns the decision that is counted for a reason.
+fn label_of(why: Why) -> DecisionLabel {
+    match why {
+        Why::Notify(Reason::First) => DecisionLabel::First,
+        Why::Notify(Reason::NewFiring) => DecisionLabel::NewFiring,
+        Why::Notify(Reason::AllResolved) => DecisionLabel::AllResolved,
+        Why::Notify(Reason::NewResolved) => DecisionLabel::NewResolved,
+        Why::Notify(Reason::Repeat) => DecisionLabel::Repeat,
+        Why::Unjudged => DecisionLabel::Unjudged,
+        Why::Skip => DecisionLabel::Skip,
+        Why::Muted => DecisionLabel::Muted,
+    }
 }
 
 /// Counts what was said by a peer that greeted with this name.
-pub fn count_said<U: Keeper>(
-    upkeep: &mut U,
+pub fn count_said<U: Backend>(
+    backend: &mut U,
     config: &Config,
-    account: &mut Account,
+    account: &mut RequestRecord,
     name: Option<&str>,
     said: &SessionOutput,
 ) {
     if let Some(request) = request_of(said) {
-        account.ask(request, upkeep.now());
+        account.ask(request, backend.now());
     }
     if let Some(place) = place_of(config, name) {
-        count_frames(upkeep.figures(), place, &said.frames);
+        count_frames(backend.figures(), place, &said.frames);
     }
 }
 
 /// Counts a connection that failed.
-pub fn count_broken(figures: &mut Figures, account: &mut Account, why: Failure) {
+pub fn count_broken(figures: &mut Metrics, account: &mut RequestRecord, why: Failure) {
     figures.fail(failing_of(why));
     if account.close() {
         figures.end();
@@ -67,17 +75,22 @@ pub fn count_broken(figures: &mut Figures, account: &mut Account, why: Failure) 
 }
 
 /// Counts a connection if it is done, and what it was answered.
-pub fn count_where_done<U: Keeper>(upkeep: &mut U, dialogue: &mut Conversation)
-    ensures { talk_of dialogue.new ≡ talk_of dialogue.old }
+pub fn count_where_done<U: Backend>(backend: &mut U, connection: &mut ConnectionState)
+    ensures { talk_of connection.new ≡ talk_of connection.old }
 {
-    if dialogue.is_done() && dialogue.account.close() {
-        let now = upkeep.now();
-        count_end(upkeep.figures(), &dialogue.account, dialogue.status(), now);
+    if connection.is_done() && connection.account.close() {
+        let now = backend.now();
+        count_end(
+            backend.figures(),
+            &connection.account,
+            connection.status(),
+            now,
+        );
     }
 }
 
 /// Counts the end of a connection now, and what it was answered.
-fn count_end(figures: &mut Figures, account: &Account, status: &[u8], now: Option<Instant>) {
+fn count_end(figures: &mut Metrics, account: &RequestRecord, status: &[u8], now: Option<Instant>) {
     figures.end();
     let Some((request, time)) = account.answered(now) else {
         return;
@@ -90,24 +103,21 @@ fn count_end(figures: &mut Figures, account: &Account, status: &[u8], now: Optio
     }
 }
 
-/// Returns whether a reply says that a group is to be notified.
-pub fn is_to_notify(reply: &[u8]) -> bool {
-    match decision_in(reply) {
-        Some(place) => place < SKIPPED,
-        None => false,
+/// Returns whether a group is to be notified, for the reason that is given.
+pub fn is_to_notify(why: Option<Why>) -> bool {
+    matches!(why, Some(Why::Notify(_) | Why::Unjudged))
+}
+
+/// Counts the step by which something was decided. Where all alerts are muted, there is none.
+pub fn count_decided(figures: &mut Metrics, why: Option<Why>) {
+    if matches!(why, Some(Why::Notify(_) | Why::Unjudged | Why::Skip)) {
+        figures.step(StepLabel::Decide, 1);
     }
 }
 
-/// Counts the step that made the decision in a reply.
-pub fn count_decided(figures: &mut Figures, reply: &[u8]) {
-    if let Some(place) = decision_in(reply) {
-        figures.step(Step::Decide, u64::from(place != MUTED));
-    }
-}
-
-/// Counts the decision in a reply.
-pub fn count_decision(figures: &mut Figures, reply: &[u8]) {
-    if let Some(place) = decision_in(reply) {
-        figures.decisions.add(place, 1);
+/// Counts the decision that is answered, if something is decided.
+pub fn count_decision(figures: &mut Metrics, why: Option<Why>) {
+    if let Some(why) = why {
+        figures.decide(label_of(why));
     }
 }

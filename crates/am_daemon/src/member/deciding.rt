@@ -3,38 +3,39 @@
 //! over.
 
 ghost use Rattle.std.specs.Prelude.{◌≡◌, ◌==◌, IfErr, IfOk, ℕ, not, true};
-ghost use Rattle.am_api_silences.specs.declared.pending_reply.PendingReply.{PendingReply as Making};
+ghost use Rattle.am_api_silences.specs.declared.reply_builder.ReplyBuilder.{ReplyBuilder as Making};
 ghost use Rattle.am_http.specs.Lines.{line_seen};
 ghost use Rattle.am_http.specs.Sessions.{spoken};
 ghost use Rattle.am_instance.specs.InstanceStates.{InstanceState};
 ghost use Rattle.am_api_decisions.specs.Asked.{IsAsked};
 ghost use Rattle.am_api_decisions.specs.Asking.{HoldsSame};
-ghost use Rattle.am_dialogue.specs.Answered.{ForPages};
-ghost use Rattle.am_dialogue.specs.Calls.{AnswersQuestion, IsOnly, IsProgressOf, IsUnderway, WhenTold};
-ghost use Rattle.am_dialogue.specs.Calls.CallCause.{Stops};
-ghost use Rattle.am_dialogue.specs.Talks.{Closes, IsGiven, KeepsGone, Rests, WaitsAs, talk_of};
-ghost use Rattle.am_dialogue.specs.Talks.Saying.{Silent};
-ghost use Rattle.am_dialogue.specs.Waiting.{request_of};
+ghost use Rattle.am_server.specs.Answered.{ForPages};
+ghost use Rattle.am_server.specs.Calls.{AnswersQuestion, IsOnly, IsProgressOf, IsUnderway, WhenTold};
+ghost use Rattle.am_server.specs.Calls.CallCause.{Stops};
+ghost use Rattle.am_server.specs.Talks.{Closes, IsGiven, KeepsGone, Rests, WaitsAs, talk_of};
+ghost use Rattle.am_server.specs.Talks.Saying.{Silent};
+ghost use Rattle.am_server.specs.Waiting.{request_of};
 ghost use Rattle.am_daemon.specs.Calling.{Follows, GivesOrWaits, IsCalled, IsPutOff, IsTurnedAwayFor};
-ghost use Rattle.am_upkeep.specs.Keepings.{came, uncommitted};
-ghost use Rattle.am_upkeep.specs.Stores.{IsFollowed};
+ghost use Rattle.am_backend.specs.CommitStates.{came, uncommitted};
+ghost use Rattle.am_backend.specs.Stores.{IsFollowed};
 
 use super::counting::{count_decided, count_decision, is_to_notify};
-use super::desk::Desk;
+use super::server_state::ServerState;
 use super::telling::time_between;
 use am_api_decisions::{
-    Asked, Deciding, Notice, Question, Timing, asked_of, begin_log, log_notice,
+    Asked, Deciding, Notice, Question, Timing, Verdict, asked_of, begin_log, log_notice,
 };
-use am_api_silences::{PendingAnswer, PendingReply, Read, Refusal, ReplyBytes, Request};
-use am_dialogue::{
-    CallProgress, Conversation, Deliberation, Due, Stage, Turn, Turns, is_long, request_bytes,
-};
-use am_figures::Step;
+use am_api_silences::{PendingAnswer, Read, Refusal, ReplyBuilder, Request};
+use am_backend::{Backend, Incoming};
 use am_http::session::SessionOutput;
 use am_instance::{FrameSender, Instance};
 use am_member::PatternsAhead;
-use am_self::seconds_in;
-use am_upkeep::Keeper;
+use am_metrics::StepLabel;
+use am_options::seconds_in;
+use am_server::{
+    CallProgress, ConnectionState, Due, PendingDecision, Turn, TurnStage, Turns, is_long,
+    request_bytes,
+};
 use am_version_order::Moment;
 use std::alloc::Global;
 use std::time::{Duration, Instant};
@@ -78,8 +79,8 @@ pub enum Called {
     Later(CallProgress),
     /// The call is refused.
     Refused(Refusal),
-    /// The reply is made; the number counts the news before its step sent anything.
-    Made(PendingReply, u64),
+    /// The reply is made; the number counts the changes before its step sent anything.
+    Made(ReplyBuilder, u64),
 }
 
 /// Returns the number of alerts that are held against this many silences between two looks at the clock.
@@ -107,20 +108,20 @@ fn searches_for(instance: &Instance, deciding: &Deciding) -> Searches {
 }
 
 /// Compiles patterns of silences for as long as a turn of the loop may take, and returns whether none is left.
-fn compile_on<U: Keeper>(
-    upkeep: &U,
+fn compile_on<U: Backend>(
+    backend: &U,
     ahead: &mut PatternsAhead,
     instance: &mut Instance,
     begun: Option<Instant>,
 ) -> bool
     ensures { instance.new ≡ instance.old }
 {
-    let now = upkeep.next_moment(instance.last());
+    let now = backend.next_moment(instance.last());
     for _ in 0..u64::MAX {
-        if ahead.go_on(instance, now) {
+        if ahead.resume(instance, now) {
             return true;
         }
-        if is_enough(begun, upkeep.now()) {
+        if is_enough(begun, backend.now()) {
             break;
         }
     }
@@ -129,8 +130,8 @@ fn compile_on<U: Keeper>(
 
 /// Holds more of the alerts against the silences, for as long as a turn of the loop may take, or all that are left. None is held
 /// against them before their patterns are compiled, or if that might take too long.
-fn ask_on<U: Keeper>(
-    upkeep: &U,
+fn ask_on<U: Backend>(
+    backend: &U,
     ahead: &mut PatternsAhead,
     alloc: Global,
     instance: &mut Instance,
@@ -142,9 +143,9 @@ fn ask_on<U: Keeper>(
     ensures stopped { IfErr result (λ refusal. (question : Question) → IsUnderway question deciding →
         WhenTold (λ reply. AnswersQuestion question instance.old reply instance.new) (line_seen refusal)) }
 {
-    let begun = upkeep.now();
+    let begun = backend.now();
     let mut now = instance.last();
-    if !compile_on(upkeep, ahead, instance, begun) {
+    if !compile_on(backend, ahead, instance, begun) {
         return Ok(Reached { deciding, now });
     }
     let most = match searches_for(instance, &deciding) {
@@ -154,9 +155,9 @@ fn ask_on<U: Keeper>(
     };
     let mut left = deciding;
     for _ in 0..u64::MAX {
-        now = upkeep.next_moment(instance.last());
-        left = left.go_on(alloc, instance, most, now)?;
-        if left.is_asked() || is_enough(begun, upkeep.now()) {
+        now = backend.next_moment(instance.last());
+        left = left.resume(alloc, instance, most, now)?;
+        if left.is_asked() || is_enough(begun, backend.now()) {
             break;
         }
     }
@@ -167,16 +168,16 @@ fn ask_on<U: Keeper>(
 }
 
 /// Returns when it is this member's turn to answer a question that came now, or `None` if it answers at once.
-fn turn_of<U: Keeper>(upkeep: &U, instance: &Instance, question: &Question) -> Option<Instant> {
+fn turn_of<U: Backend>(backend: &U, instance: &Instance, question: &Question) -> Option<Instant> {
     if !question.waits() {
         return None;
     }
-    let now = upkeep.next_moment(instance.last());
+    let now = backend.next_moment(instance.last());
     let wait = time_between(now, instance.due_from(now)?);
     if wait == Duration::ZERO {
         return None;
     }
-    upkeep.now()?.checked_add(wait)
+    backend.now()?.checked_add(wait)
 }
 
 /// Returns whether a limit has come by now.
@@ -212,44 +213,44 @@ fn wait_for_turn(turns: &mut Turns, turn: Turn) -> Called
     }
 }
 
-impl<U: Keeper> Desk<'_, U> {
+impl<U: Backend> ServerState<'_, U> {
     /// Answers a call of a program that sends pages, or keeps it until its turn.
     pub(super) fn answer_call(
         &mut self,
         instance: &mut Instance,
-        dialogue: &mut Conversation,
+        connection: &mut ConnectionState,
         said: SessionOutput,
     )
         ensures steps { ForPages instance.old instance.new }
-        ensures closes { Closes (talk_of dialogue.old) (talk_of dialogue.new) }
-        ensures gone { KeepsGone (talk_of dialogue.old).saying (talk_of dialogue.new).saying }
+        ensures closes { Closes (talk_of connection.old) (talk_of connection.new) }
+        ensures gone { KeepsGone (talk_of connection.old).saying (talk_of connection.new).saying }
         // PROMISE: A program that sends pages is replied what it asks for: the decision of its question, what came of its notice, or the log's list.
-        ensures given { (request : Request) → (spoken said).request ≡ Some (Read.Whole request) → (talk_of dialogue.old).saying ≡ Silent →
-            IsGiven request instance.old instance.new (talk_of dialogue.new).saying }
+        ensures given { (request : Request) → (spoken said).request ≡ Some (Read.Whole request) → (talk_of connection.old).saying ≡ Silent →
+            IsGiven request instance.old instance.new (talk_of connection.new).saying }
     {
-        dialogue.session.stop();
+        connection.session.stop();
         let SessionOutput { request, .. } = said;
         let Some(Read::Whole(request)) = request else {
             return;
         };
         let called = self.take_up(instance, request);
-        self.follow_call(dialogue, called);
+        self.follow_call(connection, called);
     }
 
     /// Continues a connection with the outcome of its call: a reply waits for the next commit if anything came since the last
     /// one.
-    pub(super) fn follow_call(&self, dialogue: &mut Conversation, called: Called)
-        ensures rests { Rests (talk_of dialogue.old) (talk_of dialogue.new) }
-        ensures gone { KeepsGone (talk_of dialogue.old).saying (talk_of dialogue.new).saying }
-        ensures follows { Follows called (talk_of dialogue.old).saying (talk_of dialogue.new).saying }
-        ensures waits { (making : Making) (news : ℕ) → called ≡ Called.Made making news → uncommitted (U.store_of self.now.upkeep).keeping ≡ true
-            → WaitsAs (not (came (U.store_of self.now.upkeep).keeping == news)) dialogue.new.work }
+    pub(super) fn follow_call(&self, connection: &mut ConnectionState, called: Called)
+        ensures rests { Rests (talk_of connection.old) (talk_of connection.new) }
+        ensures gone { KeepsGone (talk_of connection.old).saying (talk_of connection.new).saying }
+        ensures follows { Follows called (talk_of connection.old).saying (talk_of connection.new).saying }
+        ensures waits { (making : Making) (changes : ℕ) → called ≡ Called.Made making changes → uncommitted (U.store_of self.now.backend).commit_state ≡ true
+            → WaitsAs (not (came (U.store_of self.now.backend).commit_state == changes)) connection.new.work }
     {
         match called {
             Called::Nothing => {}
-            Called::Later(call) => dialogue.put_off(call),
-            Called::Refused(refusal) => dialogue.refuse(self.alloc, &refusal),
-            Called::Made(making, news) => self.reply_by(dialogue, making, news),
+            Called::Later(call) => connection.put_off(call),
+            Called::Refused(refusal) => connection.refuse(self.alloc, &refusal),
+            Called::Made(making, changes) => self.reply_by(connection, making, changes),
         }
     }
 
@@ -260,7 +261,7 @@ impl<U: Keeper> Desk<'_, U> {
     {
         let due = Due {
             request,
-            stage: Stage::Unread,
+            stage: TurnStage::Unread,
             limit: self.decide_limit(),
         };
         self.answer_in_line(instance, due)
@@ -268,8 +269,8 @@ impl<U: Keeper> Desk<'_, U> {
 
     /// Returns when a decision that begins now is broken off.
     fn decide_limit(&self) -> Option<Instant> {
-        let now = self.upkeep.now()?;
-        now.checked_add(self.upkeep.options().decide_limit)
+        let now = self.backend.now()?;
+        now.checked_add(self.backend.options().decide_limit)
     }
 
     /// Answers a request, or keeps it waiting for its place in the line if it is long.
@@ -289,7 +290,7 @@ impl<U: Keeper> Desk<'_, U> {
         ensures steps { ForPages instance.old instance.new }
         ensures called { IsCalled due.request instance.old result instance.new }
     {
-        if due.stage == Stage::Unread {
+        if due.stage == TurnStage::Unread {
             self.answer_unread(instance, due.request, due.limit)
         } else {
             self.answer_in_turn(instance, due)
@@ -307,7 +308,7 @@ impl<U: Keeper> Desk<'_, U> {
         ensures called { IsCalled request instance.old result instance.new }
     {
         match asked_of(self.alloc, &request) {
-            Ok(Asked::Decide(question)) => match turn_of(&self.upkeep, instance, &question) {
+            Ok(Asked::Decide(question)) => match turn_of(&self.backend, instance, &question) {
                 Some(due) => wait_for_turn(&mut self.turns, Turn::new(request, due)),
                 None => {
                     let unheard = self.unheard(request);
@@ -358,7 +359,7 @@ impl<U: Keeper> Desk<'_, U> {
             CallProgress::Turn(turn) => self.take_turn(instance, turn),
             CallProgress::Due(_) | CallProgress::Deciding(_) if self.stops => refused_by_stop(),
             CallProgress::Due(due) => self.answer_due(instance, due),
-            CallProgress::Deciding(deliberation) => self.go_on_deciding(instance, deliberation),
+            CallProgress::Deciding(deliberation) => self.resume_decision(instance, deliberation),
             other => Called::Later(other),
         }
     }
@@ -375,7 +376,7 @@ impl<U: Keeper> Desk<'_, U> {
         } = due;
         match asked_of(self.alloc, &request) {
             Ok(Asked::Decide(question)) => {
-                let unheard = if stage == Stage::Heard {
+                let unheard = if stage == TurnStage::Heard {
                     None
                 } else {
                     self.unheard(request)
@@ -400,40 +401,40 @@ impl<U: Keeper> Desk<'_, U> {
         ensures called { (request : Request) → IsAsked request (Ok (Asked.Decide question)) → IsOnly request unheard → IsCalled request instance.old result instance.new }
     {
         let alerts = question.message.alerts.len() as u64;
-        self.upkeep.figures().step(Step::Mutes, alerts);
+        self.backend.figures().step(StepLabel::Mutes, alerts);
         // (if there is no memory for it, its alerts aren't among the recent ones that are listed)
         let _ = self.recent.note(self.alloc, &question.message);
         let deciding = Deciding::new(self.alloc, question);
-        let deliberation = Deliberation {
+        let deliberation = PendingDecision {
             deciding,
             unheard,
             limit,
         };
-        self.go_on_deciding(instance, deliberation)
+        self.resume_decision(instance, deliberation)
     }
 
     /// Holds more of the alerts against the silences, for as long as a turn of the loop may take. If none is left, the time is
     /// over, or one might take too long, the decision is made.
-    pub(super) fn go_on_deciding(
+    pub(super) fn resume_decision(
         &mut self,
         instance: &mut Instance,
-        deliberation: Deliberation,
+        deliberation: PendingDecision,
     ) -> Called
         ensures steps { ForPages instance.old instance.new }
         ensures called { (request : Request) → IsProgressOf request (CallProgress.Deciding deliberation) → IsCalled request instance.old result instance.new }
     {
-        let Deliberation {
+        let PendingDecision {
             deciding,
             unheard,
             limit,
         } = deliberation;
-        if is_over(limit, self.upkeep.now())
+        if is_over(limit, self.backend.now())
             || matches!(searches_for(instance, &deciding), Searches::TooLong)
         {
             return self.break_off(instance, deciding, unheard);
         }
         let Reached { deciding, now } = match ask_on(
-            &self.upkeep,
+            &self.backend,
             &mut self.ahead,
             self.alloc,
             instance,
@@ -445,7 +446,7 @@ impl<U: Keeper> Desk<'_, U> {
         if deciding.is_asked() {
             self.decide(instance, deciding, unheard, now)
         } else {
-            Called::Later(CallProgress::Deciding(Deliberation {
+            Called::Later(CallProgress::Deciding(PendingDecision {
                 deciding,
                 unheard,
                 limit,
@@ -465,11 +466,11 @@ impl<U: Keeper> Desk<'_, U> {
             IsAsked request (Ok (Asked.Decide question)) → IsUnderway question deciding → IsOnly request unheard →
             IsCalled request start result instance.new }
     {
-        let now = self.upkeep.next_moment(instance.last());
-        let turn_seconds = seconds_in(self.upkeep.options().peer_timeout);
-        let reply = deciding.break_off(self.alloc, instance, Timing { now, turn_seconds });
-        count_decided(self.upkeep.figures(), reply.as_slice());
-        self.answer_or_hear(instance, reply, unheard)
+        let now = self.backend.next_moment(instance.last());
+        let turn_seconds = seconds_in(self.backend.options().peer_timeout);
+        let verdict = deciding.break_off(self.alloc, instance, Timing { now, turn_seconds });
+        count_decided(self.backend.figures(), verdict.why);
+        self.answer_or_hear(instance, verdict, unheard)
     }
 
     /// Decides after all alerts have been held against the silences. If Alertmanagers are still to be heard, the answer that
@@ -486,37 +487,38 @@ impl<U: Keeper> Desk<'_, U> {
             IsAsked request (Ok (Asked.Decide question)) → IsUnderway question deciding → IsOnly request unheard →
             IsCalled request start result instance.new }
     {
-        let turn_seconds = seconds_in(self.upkeep.options().peer_timeout);
-        let reply = deciding.decide(self.alloc, instance, Timing { now, turn_seconds });
-        count_decided(self.upkeep.figures(), reply.as_slice());
-        self.answer_or_hear(instance, reply, unheard)
+        let turn_seconds = seconds_in(self.backend.options().peer_timeout);
+        let verdict = deciding.decide(self.alloc, instance, Timing { now, turn_seconds });
+        count_decided(self.backend.figures(), verdict.why);
+        self.answer_or_hear(instance, verdict, unheard)
     }
 
     /// Answers with a decision, or keeps its request waiting for exchanges with the Alertmanagers, which begin now.
     fn answer_or_hear(
         &mut self,
         instance: &Instance,
-        reply: ReplyBytes,
+        verdict: Verdict,
         unheard: Option<Request>,
     ) -> Called
-        ensures { GivesOrWaits reply unheard result }
+        ensures { GivesOrWaits verdict.reply unheard result }
     {
+        let Verdict { reply, why } = verdict;
         match (unheard, self.span()) {
-            (Some(request), Some(span)) if is_to_notify(reply.as_slice()) => {
+            (Some(request), Some(span)) if is_to_notify(why) => {
                 self.wait_for_exchanges(request, span)
             }
             _ => {
-                count_decision(self.upkeep.figures(), reply.as_slice());
+                count_decision(self.backend.figures(), why);
                 let outbox = FrameSender::new(self.alloc);
-                self.made(instance, PendingReply::Whole(reply), outbox)
+                self.made(instance, ReplyBuilder::Whole(reply), outbox)
             }
         }
     }
 
     /// Returns the time for which a request waits for exchanges if it begins to wait now.
     fn span(&self) -> Option<Span> {
-        let since = self.upkeep.now()?;
-        let limit = since.checked_add(self.upkeep.options().time_limit)?;
+        let since = self.backend.now()?;
+        let limit = since.checked_add(self.backend.options().time_limit)?;
         Some(Span { since, limit })
     }
 
@@ -535,10 +537,14 @@ impl<U: Keeper> Desk<'_, U> {
         ensures steps { ForPages instance.old instance.new }
         ensures called { (request : Request) → IsAsked request (Ok (Asked.Notified notice)) → IsCalled request instance.old result instance.new }
     {
-        if !self.upkeep.has_room_for_notice(instance, bytes) {
+        if !self.backend.has_room_for_notice(instance, bytes) {
             return Called::Refused(Refusal::new(500, "state too large"));
         }
-        self.upkeep.take(0, bytes, true);
+        self.backend.take(Incoming {
+            silences: 0,
+            log: bytes,
+            may_change: true,
+        });
         self.log(instance, notice)
     }
 
@@ -547,7 +553,7 @@ impl<U: Keeper> Desk<'_, U> {
         ensures steps { ForPages instance.old instance.new }
         ensures called { (request : Request) → IsAsked request (Ok (Asked.Notified notice)) → IsCalled request instance.old result instance.new }
     {
-        let now = self.upkeep.next_moment(instance.last());
+        let now = self.backend.next_moment(instance.last());
         let PendingAnswer { making, outbox } = log_notice(self.alloc, instance, notice, now);
         self.made(instance, making, outbox)
     }
@@ -556,7 +562,7 @@ impl<U: Keeper> Desk<'_, U> {
     fn list_log(&self, instance: &Instance) -> Called
         ensures { (request : Request) → IsAsked request (Ok Asked.Log) → IsCalled request instance.now result instance.now }
     {
-        let now = self.upkeep.next_moment(instance.last());
+        let now = self.backend.next_moment(instance.last());
         match begin_log(self.alloc, instance, now) {
             Ok(writing) => Called::Later(CallProgress::Log(writing)),
             Err(refusal) => Called::Refused(refusal),
@@ -569,16 +575,16 @@ impl<U: Keeper> Desk<'_, U> {
     {
         let reply = self.recent.told(self.alloc);
         let outbox = FrameSender::new(self.alloc);
-        self.made(instance, PendingReply::Whole(reply), outbox)
+        self.made(instance, ReplyBuilder::Whole(reply), outbox)
     }
 
     /// Returns the reply that a step has made, and sends the frames of its outbox.
-    fn made(&mut self, instance: &Instance, making: PendingReply, outbox: FrameSender) -> Called
-        ensures made { result ≡ Called.Made making (came (U.store_of self.old.upkeep).keeping) }
-        ensures follows { IsFollowed outbox (U.store_of self.old.upkeep) (U.store_of self.new.upkeep) }
+    fn made(&mut self, instance: &Instance, making: ReplyBuilder, outbox: FrameSender) -> Called
+        ensures made { result ≡ Called.Made making (came (U.store_of self.old.backend).commit_state) }
+        ensures follows { IsFollowed outbox (U.store_of self.old.backend) (U.store_of self.new.backend) }
     {
-        let news = self.upkeep.keeping().news();
-        self.upkeep.follow(instance.config(), None, outbox, None);
-        Called::Made(making, news)
+        let changes = self.backend.commit_state().changes();
+        self.backend.follow(instance.config(), None, outbox, None);
+        Called::Made(making, changes)
     }
 }

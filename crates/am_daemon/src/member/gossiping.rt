@@ -2,28 +2,28 @@
 //! sends them what they lack.
 
 ghost use Rattle.std.specs.Prelude.{Some, option_map};
-ghost use Rattle.am_beside.specs.Comings.{frame_in};
-ghost use Rattle.am_dialogue.specs.Answered.{ByItself, IsStepOfFrame};
+ghost use Rattle.am_alertmanager.specs.Comings.{frame_in};
+ghost use Rattle.am_server.specs.Answered.{ByItself, IsStepOfFrame};
 
-use super::clerk::Clerk;
-use super::desk::Desk;
 use super::links::link_to;
-use am_beside::{Came, Report};
-use am_dialogue::{Conversation, Turn, frame_bytes};
-use am_faults::{Fault, ShortId};
-use am_figures::WithheldBy;
+use super::server::Server;
+use super::server_state::ServerState;
+use am_alertmanager::{Came, Report};
+use am_backend::{Backend, Incoming};
+use am_diagnostics::{Fault, ShortId};
 use am_gossip::{Frame, StateKey};
 use am_instance::{Config, Event, Instance, Place};
 use am_matcher::Hazard;
 use am_member::PatternsAhead;
-use am_peers::Fault as ConnectionFault;
+use am_metrics::WithheldBy;
+use am_peers::ConnectionFault;
 use am_reactor::PeerBytes;
-use am_upkeep::Keeper;
+use am_server::{ConnectionState, Turn, frame_bytes};
 use std::time::{Duration, Instant};
 
 /// Makes the step of a frame that came from the replica at a place.
-fn take_from<U: Keeper>(
-    upkeep: &mut U,
+fn take_from<U: Backend>(
+    backend: &mut U,
     ahead: &mut PatternsAhead,
     instance: &mut Instance,
     place: usize,
@@ -32,26 +32,30 @@ fn take_from<U: Keeper>(
     ensures { IsStepOfFrame (Some (place, frame)) instance.old instance.new }
 {
     let sender = place as Place;
-    let now = upkeep.next_moment(instance.last());
+    let now = backend.next_moment(instance.last());
     let (silences, log) = (
         frame_bytes(&frame, StateKey::Sil),
         frame_bytes(&frame, StateKey::Nfl),
     );
-    upkeep.take(silences, log, true);
+    backend.take(Incoming {
+        silences,
+        log,
+        may_change: true,
+    });
     ahead.note(silences);
     match instance.step(Event::Frame { sender, frame }, now) {
         Ok(outcome) => {
             let (_, outbox) = outcome.into_parts();
-            upkeep.follow(instance.config(), None, outbox, None);
+            backend.follow(instance.config(), None, outbox, None);
         }
         Err(error) => {
             let fault = Fault::Connection(ConnectionFault::Step(error));
-            upkeep.tell_of(instance.config(), Some(sender), fault);
+            backend.tell_of(instance.config(), Some(sender), fault);
         }
     }
 }
 
-impl<U: Keeper> Desk<'_, U> {
+impl<U: Backend> ServerState<'_, U> {
     /// Takes what came from a replica: the step of its frame is made, if one came, and no other.
     fn take_came(&mut self, instance: &mut Instance, came: Came)
         ensures { IsStepOfFrame (frame_in came) instance.old instance.new }
@@ -59,7 +63,7 @@ impl<U: Keeper> Desk<'_, U> {
         match came {
             Came::Nothing | Came::Stretch => {}
             Came::Frame(place, frame) => {
-                take_from(&mut self.upkeep, &mut self.ahead, instance, place, frame)
+                take_from(&mut self.backend, &mut self.ahead, instance, place, frame)
             }
             Came::Whole(place, frame, lacked) => {
                 self.note_exchange(place, lacked);
@@ -67,7 +71,7 @@ impl<U: Keeper> Desk<'_, U> {
             }
             Came::Fault(place, error) => {
                 let fault = Fault::Gossip(error);
-                self.upkeep
+                self.backend
                     .tell_of(instance.config(), Some(place as Place), fault);
             }
         }
@@ -75,8 +79,8 @@ impl<U: Keeper> Desk<'_, U> {
 
     /// Counts an exchange with the replica at a place, which told everything, and lacked this many versions.
     fn note_exchange(&mut self, place: usize, lacked: u64) {
-        let since_1970 = self.upkeep.since_1970();
-        let figures = self.upkeep.figures();
+        let since_1970 = self.backend.since_1970();
+        let figures = self.backend.figures();
         figures.heard.hear(place, since_1970);
         figures.beside.lack(place, lacked);
     }
@@ -88,9 +92,9 @@ impl<U: Keeper> Desk<'_, U> {
             Hazard::Pattern => (WithheldBy::Pattern, Fault::WithheldPattern(id)),
             Hazard::Matcher => (WithheldBy::Matcher, Fault::WithheldMatcher(id)),
         };
-        self.upkeep.figures().beside.withhold(report.place, cause);
+        self.backend.figures().beside.withhold(report.place, cause);
         if report.is_first {
-            self.upkeep
+            self.backend
                 .tell_of(config, Some(report.place as Place), fault);
         }
     }
@@ -101,23 +105,23 @@ impl<U: Keeper> Desk<'_, U> {
     {
         self.end_first_pull();
         if let Some(frame) = frame {
-            take_from(&mut self.upkeep, &mut self.ahead, instance, place, frame);
+            take_from(&mut self.backend, &mut self.ahead, instance, place, frame);
         }
     }
 }
 
-impl<U: Keeper> Clerk<'_, U> {
+impl<U: Backend> Server<'_, U> {
     /// Asks the replicas if that is due, and looks at a stretch of what they answered. Returns the time until there is more to
     /// be done.
     pub(super) fn gossip(&mut self, instance: &mut Instance, now: Instant) -> Option<Duration>
         ensures { ByItself instance.old instance.new }
     {
         self.replicas.want_due(now);
-        let moment = self.desk.upkeep.next_moment(instance.last());
+        let moment = self.state.backend.next_moment(instance.last());
         let came = self
             .replicas
-            .go_on(instance.silences(), instance.log(), moment);
-        self.desk.take_came(instance, came);
+            .resume(instance.silences(), instance.log(), moment);
+        self.state.take_came(instance, came);
         self.report_withheld(instance.config());
         self.report_dropped(instance.config());
         self.replicas.left(now)
@@ -127,7 +131,7 @@ impl<U: Keeper> Clerk<'_, U> {
     fn report_withheld(&mut self, config: &Config) {
         for _ in 0..u64::MAX {
             match self.replicas.next_report() {
-                Some(report) => self.desk.report(config, &report),
+                Some(report) => self.state.report(config, &report),
                 None => return,
             }
         }
@@ -140,8 +144,8 @@ impl<U: Keeper> Clerk<'_, U> {
                 return;
             };
             let fault = Fault::FieldsDropped(count);
-            self.desk
-                .upkeep
+            self.state
+                .backend
                 .tell_of(config, Some(place as Place), fault);
         }
     }
@@ -155,20 +159,20 @@ impl<U: Keeper> Clerk<'_, U> {
     }
 
     /// Reports which replicas weren't heard after a request that no longer waits began to wait for them, each once a minute.
-    pub(super) fn tell_missed(&mut self, config: &Config, dialogue: &Conversation) {
-        let Some(turn) = dialogue.turn() else {
+    pub(super) fn tell_missed(&mut self, config: &Config, connection: &ConnectionState) {
+        let Some(turn) = connection.turn() else {
             return;
         };
-        let (Some(round), Some(now)) = (turn.round(), self.desk.upkeep.now()) else {
+        let (Some(round), Some(now)) = (turn.round(), self.state.backend.now()) else {
             return;
         };
-        if self.desk.stops {
+        if self.state.stops {
             return;
         }
-        for place in 0..self.desk.asked.len() {
+        for place in 0..self.state.asked.len() {
             if self.replicas.is_missed(place, round, now) {
-                self.desk
-                    .upkeep
+                self.state
+                    .backend
                     .tell_of(config, Some(place as Place), Fault::Unheard);
             }
         }
@@ -177,16 +181,16 @@ impl<U: Keeper> Clerk<'_, U> {
     /// Returns the next of the waiting frames that go to a peer. Frames for replicas wait on until the replicas are told, and
     /// frames to be sealed wait on until their links are answered.
     pub(super) fn next_outgoing(&mut self, config: &Config) -> Option<PeerBytes> {
-        for _ in 0..self.desk.asked.len() {
-            let (place, frames) = self.desk.upkeep.next_frames(config)?;
+        for _ in 0..self.state.asked.len() {
+            let (place, frames) = self.state.backend.next_frames(config)?;
             if self.replicas.is_at(place as usize) {
                 self.replicas.bring(place as usize, &frames);
-            } else if self.desk.upkeep.is_sealed() {
-                if self.desk.put_by(config, place as usize, frames) {
-                    return Some(link_to(self.desk.alloc, place as usize));
+            } else if self.state.backend.is_sealed() {
+                if self.state.put_by(config, place as usize, frames) {
+                    return Some(link_to(self.state.alloc, place as usize));
                 }
             } else {
-                let bytes = self.desk.upkeep.text_of(config, place, None, &frames)?;
+                let bytes = self.state.backend.text_of(config, place, None, &frames)?;
                 let peer = place as usize;
                 return Some(PeerBytes { peer, bytes });
             }
@@ -196,17 +200,17 @@ impl<U: Keeper> Clerk<'_, U> {
 
     /// Returns the next question or message for a replica. A message goes out only after what it tells is committed.
     pub(super) fn next_question(&mut self, instance: &Instance) -> Option<PeerBytes> {
-        if self.desk.upkeep.keeping().has_news() {
+        if self.state.backend.commit_state().has_changes() {
             return None;
         }
-        let moment = self.desk.upkeep.next_moment(instance.last());
-        match self.replicas.question(moment, self.desk.round) {
+        let moment = self.state.backend.next_moment(instance.last());
+        match self.replicas.question(moment, self.state.round) {
             Ok(Some((peer, bytes))) => Some(PeerBytes { peer, bytes }),
             Ok(None) => None,
             Err(_) => {
                 let config = instance.config();
-                self.desk
-                    .upkeep
+                self.state
+                    .backend
                     .tell_of(config, None, Fault::UnsentMemory(1));
                 None
             }

@@ -1,35 +1,34 @@
 //! The choice of whose frames are heard, by the entrance that a connection comes in at.
 
 ghost use Rattle.am_http.specs.Sessions.{spoken};
-ghost use Rattle.am_dialogue.specs.Answered.{IsAnswered};
-ghost use Rattle.am_dialogue.specs.Talks.{talk_of};
+ghost use Rattle.am_server.specs.Answered.{IsAnswered};
+ghost use Rattle.am_server.specs.Talks.{talk_of};
 
 use super::counting::count_where_done;
-use super::desk::Desk;
-use am_dialogue::Conversation;
-use am_faults::Fault;
-use am_gate::{Heard, Hears};
+use super::server_state::ServerState;
+use am_backend::{Backend, place_of};
+use am_diagnostics::Fault;
 use am_gossip::FrameError;
 use am_instance::Instance;
-use am_jobs::Options;
+use am_options::Options;
+use am_peer_auth::{AcceptedProtocols, Heard, SEALED};
 use am_peers::{greeting, is_loopback};
 use am_reactor::Entrance;
-use am_seal::SEALED;
-use am_upkeep::{Keeper, place_of};
+use am_server::ConnectionState;
 use std::alloc::{AllocError, Global};
 
 /// Returns what is heard at an entrance: frames without a secret are heard only if nobody but this machine reaches the
 /// entrance, or if that is wanted.
-pub fn hears_at(options: &Options<'_>, entrance: Entrance) -> Hears {
+pub fn accepted_at(options: &Options<'_>, entrance: Entrance) -> AcceptedProtocols {
     match (options.peers_address, entrance) {
-        (Some(_), Entrance::Main) => Hears::Requests,
-        (_, Entrance::Peers) => Hears::Frames,
+        (Some(_), Entrance::Main) => AcceptedProtocols::Requests,
+        (_, Entrance::Peers) => AcceptedProtocols::Frames,
         (None, Entrance::Main) => {
             let is_guarded = options.secret.is_some() || is_loopback(options.address);
             if is_guarded || options.opens_peers {
-                Hears::Both
+                AcceptedProtocols::Both
             } else {
-                Hears::Requests
+                AcceptedProtocols::Requests
             }
         }
     }
@@ -63,24 +62,24 @@ pub fn opening(alloc: Global, name: &str, is_sealed: bool) -> Result<Vec<u8>, Fr
     Ok(sealed)
 }
 
-impl<U: Keeper> Desk<'_, U> {
-    /// Answers what was heard at the gate of a connection, reports why no more is heard, and counts the connection if it is
+impl<U: Backend> ServerState<'_, U> {
+    /// Answers what the authenticator of a connection found, reports why no more is heard, and counts the connection if it is
     /// done.
-    pub(super) fn hear_at_gate(
+    pub(super) fn hear_authenticated(
         &mut self,
         instance: &mut Instance,
-        dialogue: &mut Conversation,
+        connection: &mut ConnectionState,
         heard: Heard,
     )
-        ensures { IsAnswered (spoken heard.said) instance.old (talk_of dialogue.old) instance.new (talk_of dialogue.new) }
+        ensures { IsAnswered (spoken heard.said) instance.old (talk_of connection.old) instance.new (talk_of connection.new) }
     {
         let Heard { said, fault } = heard;
-        self.hear(instance, dialogue, said);
+        self.hear(instance, connection, said);
         if let Some(fault) = fault {
             let config = instance.config();
-            let peer = place_of(config, dialogue.session.name());
-            self.upkeep.tell_of(config, peer, Fault::Gate(fault));
+            let peer = place_of(config, connection.session.name());
+            self.backend.tell_of(config, peer, Fault::Gate(fault));
         }
-        count_where_done(&mut self.upkeep, dialogue);
+        count_where_done(&mut self.backend, connection);
     }
 }

@@ -3,27 +3,28 @@
 ghost use Rattle.std.specs.Prelude.{◌≡◌, ◌==◌, ℕ, true, not, IsSome, IsTrue};
 ghost use Rattle.am_http.specs.Lines.{line_seen};
 ghost use Rattle.am_http.specs.Sessions.{name_of, spoken};
-ghost use Rattle.am_dialogue.specs.Answered.{IsAnswered, IsTaken, SaysBy};
-ghost use Rattle.am_dialogue.specs.Talks.{Closes, IsClosed, IsOwnLine, KeepsBy, Stays, WaitsAs, talk_of};
+ghost use Rattle.am_server.specs.Answered.{IsAnswered, IsTaken, SaysBy};
+ghost use Rattle.am_server.specs.Talks.{Closes, IsClosed, IsOwnLine, KeepsBy, Stays, WaitsAs, talk_of};
 ghost use Rattle.am_member.specs.Exchanging.{IsSessionAnswer, left_at};
-ghost use Rattle.am_upkeep.specs.Keepings.{came, uncommitted};
-ghost use Rattle.am_upkeep.specs.Stores.{SendsNews};
+ghost use Rattle.am_backend.specs.CommitStates.{came, uncommitted};
+ghost use Rattle.am_backend.specs.Stores.{SendsNews};
 
 use super::counting::count_said;
-use super::desk::{Desk, random_bits};
-use super::links::hand_all;
-use am_api_silences::PendingReply;
-use am_dialogue::{
-    Conversation, asked_of_itself, ends_pull, is_nothing, log_said, may_change, silences_said,
-};
-use am_faults::Fault;
-use am_figures::Request;
+use super::links::plan_transfer;
+use super::server_state::{ServerState, random_bits};
+use am_api_silences::ReplyBuilder;
+use am_backend::{Backend, Incoming, place_of};
+use am_diagnostics::Fault;
 use am_http::Refusal;
 use am_http::session::{Session, SessionOutput};
 use am_instance::{Config, Instance};
-use am_member::{SessionAnswer, Spared, apply_session_output, spare};
-use am_peers::Fault as ConnectionFault;
-use am_upkeep::{Keeper, place_of};
+use am_member::{Deferred, SessionAnswer, apply_session_output, defer_requests};
+use am_metrics::RequestLabel;
+use am_peers::ConnectionFault;
+use am_server::{
+    ConnectionState, TransferKind, asked_of_itself, ends_pull, is_nothing, log_said, may_change,
+    silences_said,
+};
 
 /// The requests in a peer's frames, beside the versions that they bring.
 #[derive(Clone, Copy)]
@@ -38,83 +39,99 @@ struct Asked {
     has_frames: bool,
 }
 
-impl<U: Keeper> Desk<'_, U> {
+impl<U: Backend> ServerState<'_, U> {
     /// Answers what was said, or keeps it until it may be answered.
     pub(super) fn hear(
         &mut self,
         instance: &mut Instance,
-        dialogue: &mut Conversation,
+        connection: &mut ConnectionState,
         said: SessionOutput,
     )
-        ensures { IsAnswered (spoken said) instance.old (talk_of dialogue.old) instance.new (talk_of dialogue.new) }
+        ensures { IsAnswered (spoken said) instance.old (talk_of connection.old) instance.new (talk_of connection.new) }
     {
-        let name = dialogue.session.name();
+        let name = connection.session.name();
         let config = instance.config();
-        count_said(&mut self.upkeep, config, &mut dialogue.account, name, &said);
+        count_said(
+            &mut self.backend,
+            config,
+            &mut connection.account,
+            name,
+            &said,
+        );
         if let Some(resource) = asked_of_itself(&said) {
-            return self.tell_itself(instance, dialogue, said, resource);
+            return self.reply_about_member(instance, connection, said, resource);
         }
-        if let Some(said) = dialogue.hold(said, self.duties.waits_for_pull()) {
-            self.judge(instance, dialogue, said);
+        if let Some(said) = connection.hold(said, self.duties.waits_for_pull()) {
+            self.judge(instance, connection, said);
         }
     }
 
     /// Refuses to hear a request that names a host or a site other than this member's.
-    pub(super) fn refuse(&self, dialogue: &mut Conversation, refusal: &Refusal)
-        ensures { IsOwnLine (line_seen refusal.now) → IsClosed (talk_of dialogue.old) (talk_of dialogue.new) }
+    pub(super) fn refuse(&self, connection: &mut ConnectionState, refusal: &Refusal)
+        ensures { IsOwnLine (line_seen refusal.now) → IsClosed (talk_of connection.old) (talk_of connection.new) }
     {
-        dialogue.account.ask(Request::Other, self.upkeep.now());
-        dialogue.refuse(self.alloc, refusal);
+        connection
+            .account
+            .ask(RequestLabel::Other, self.backend.now());
+        connection.refuse(self.alloc, refusal);
     }
 
     /// Answers what was said.
     pub(super) fn answer(
         &mut self,
         instance: &mut Instance,
-        dialogue: &mut Conversation,
+        connection: &mut ConnectionState,
         said: SessionOutput,
     )
-        ensures { IsAnswered (spoken said) instance.old (talk_of dialogue.old) instance.new (talk_of dialogue.new) }
+        ensures { IsAnswered (spoken said) instance.old (talk_of connection.old) instance.new (talk_of connection.new) }
     {
-        if is_nothing(&said) && dialogue.session.name().is_none() {
+        if is_nothing(&said) && connection.session.name().is_none() {
             return;
         }
-        if self.refuses_inner(instance.config(), dialogue) {
+        if self.refuses_inner(instance.config(), connection) {
             return;
         }
-        self.take_in(instance, dialogue, said);
+        self.take_in(instance, connection, said);
     }
 
     /// Refuses a connection that greets by a name that nobody may use, such as that of the disk, and returns whether it did.
-    fn refuses_inner(&mut self, config: &Config, dialogue: &mut Conversation) -> bool
-        ensures refused { IsTrue result → Closes (talk_of dialogue.old) (talk_of dialogue.new) }
-        ensures saying { (talk_of dialogue.new).saying ≡ (talk_of dialogue.old).saying }
-        ensures heard { ¬ IsTrue result → talk_of dialogue.new ≡ talk_of dialogue.old }
+    fn refuses_inner(&mut self, config: &Config, connection: &mut ConnectionState) -> bool
+        ensures refused { IsTrue result → Closes (talk_of connection.old) (talk_of connection.new) }
+        ensures saying { (talk_of connection.new).saying ≡ (talk_of connection.old).saying }
+        ensures heard { ¬ IsTrue result → talk_of connection.new ≡ talk_of connection.old }
     {
-        let is_inner = match dialogue.session.name() {
+        let is_inner = match connection.session.name() {
             Some(name) => self.is_inner(config, name),
             None => false,
         };
         if is_inner {
-            dialogue.session.stop();
+            connection.session.stop();
             let fault = Fault::Connection(ConnectionFault::UnknownName);
-            self.upkeep.tell_of(config, None, fault);
+            self.backend.tell_of(config, None, fault);
         }
         is_inner
     }
 
     /// Makes the steps of what was said, and what follows them.
-    fn take_in(&mut self, instance: &mut Instance, dialogue: &mut Conversation, said: SessionOutput)
-        ensures { IsTaken (spoken said) instance.old (talk_of dialogue.old) instance.new (talk_of dialogue.new) }
+    fn take_in(
+        &mut self,
+        instance: &mut Instance,
+        connection: &mut ConnectionState,
+        said: SessionOutput,
+    )
+        ensures { IsTaken (spoken said) instance.old (talk_of connection.old) instance.new (talk_of connection.new) }
     {
         let silences = silences_said(&said);
-        self.upkeep
-            .take(silences, log_said(&said), may_change(&said));
+        self.backend.take(Incoming {
+            silences,
+            log: log_said(&said),
+            may_change: may_change(&said),
+        });
         self.ahead.note(silences);
         let pulled = ends_pull(&said);
         let has_frames = !said.frames.is_empty();
-        let Spared { said, asks, ticks } = spare(said);
-        let exchanged = self.make_steps(instance, &mut dialogue.session, said);
+        let Deferred { said, asks, ticks } = defer_requests(said);
+        let exchanged = self.make_steps(instance, &mut connection.session, said);
         let asked = Asked {
             pulled,
             asks,
@@ -122,8 +139,8 @@ impl<U: Keeper> Desk<'_, U> {
             has_frames,
         };
         let config = instance.config();
-        self.heed(config, dialogue.session.name(), asked, exchanged.fault);
-        self.reply(config, dialogue, exchanged);
+        self.handle_frames(config, connection.session.name(), asked, exchanged.fault);
+        self.reply(config, connection, exchanged);
     }
 
     /// Makes the steps of what was said.
@@ -137,107 +154,102 @@ impl<U: Keeper> Desk<'_, U> {
         ensures session { session.new ≡ left_at result.fault session.old }
     {
         let bits = random_bits(&mut self.random);
-        let now = self.upkeep.next_moment(instance.last());
+        let now = self.backend.next_moment(instance.last());
         apply_session_output(self.alloc, instance, session, said, bits, now)
     }
 
     /// Sends what comes of steps.
-    fn reply(&mut self, config: &Config, dialogue: &mut Conversation, exchanged: SessionAnswer)
-        ensures stays { Stays (talk_of dialogue.old) (talk_of dialogue.new) }
-        ensures says { SaysBy exchanged.reply (talk_of dialogue.old).saying (talk_of dialogue.new).saying }
+    fn reply(&mut self, config: &Config, connection: &mut ConnectionState, exchanged: SessionAnswer)
+        ensures stays { Stays (talk_of connection.old) (talk_of connection.new) }
+        ensures says { SaysBy exchanged.reply (talk_of connection.old).saying (talk_of connection.new).saying }
         // PROMISE: With logs, the reply of a step that sends a version to the place of the disk waits for the next commit, as one that has changed something.
-        ensures waits { IsSome exchanged.reply → SendsNews exchanged.effects.outbox (U.store_of self.old.upkeep) → WaitsAs true dialogue.new.work }
+        ensures waits { IsSome exchanged.reply → SendsNews exchanged.effects.outbox (U.store_of self.old.backend) → WaitsAs true connection.new.work }
     {
         let SessionAnswer {
             reply,
             effects,
             fault,
         } = exchanged;
-        let news = self.upkeep.keeping().news();
-        let peer = place_of(config, dialogue.session.name());
-        self.upkeep.follow(config, peer, effects.outbox, fault);
+        let changes = self.backend.commit_state().changes();
+        let peer = place_of(config, connection.session.name());
+        self.backend.follow(config, peer, effects.outbox, fault);
         if let Some(making) = reply {
-            self.reply_by(dialogue, making, news);
+            self.reply_by(connection, making, changes);
         }
     }
 
-    /// Sends a reply, which waits for the next commit if anything came since the last one. `news` counts what had come before
+    /// Sends a reply, which waits for the next commit if anything came since the last one. `changes` counts what had come before
     /// the reply's step sent anything.
-    pub(super) fn reply_by(&self, dialogue: &mut Conversation, making: PendingReply, news: u64)
-        ensures stays { Stays (talk_of dialogue.old) (talk_of dialogue.new) }
-        ensures says { KeepsBy making (talk_of dialogue.old).saying (talk_of dialogue.new).saying }
-        ensures waits { uncommitted (U.store_of self.now.upkeep).keeping ≡ true → WaitsAs (not (came (U.store_of self.now.upkeep).keeping == news)) dialogue.new.work }
+    pub(super) fn reply_by(
+        &self,
+        connection: &mut ConnectionState,
+        making: ReplyBuilder,
+        changes: u64,
+    )
+        ensures stays { Stays (talk_of connection.old) (talk_of connection.new) }
+        ensures says { KeepsBy making (talk_of connection.old).saying (talk_of connection.new).saying }
+        ensures waits { uncommitted (U.store_of self.now.backend).commit_state ≡ true → WaitsAs (not (came (U.store_of self.now.backend).commit_state == changes)) connection.new.work }
     {
-        dialogue.reply_with(self.alloc, Some(making));
-        let keeping = self.upkeep.keeping();
-        if keeping.has_news() {
-            dialogue.hold_back(keeping.news() != news);
+        connection.reply_with(self.alloc, Some(making));
+        let commit_state = self.backend.commit_state();
+        if commit_state.has_changes() {
+            connection.hold_back(commit_state.changes() != changes);
         }
     }
 
     /// Does what the frames of a peer asked for, as far as their steps were made.
-    fn heed(
+    fn handle_frames(
         &mut self,
         config: &Config,
         name: Option<&str>,
         asked: Asked,
         fault: Option<ConnectionFault>,
     ) {
-        let Asked {
-            pulled,
-            asks,
-            ticks,
-            has_frames,
-        } = asked;
         if fault.is_none() {
-            self.end_first_pull_after(config, name, pulled, asks);
-            self.note_frames(config, name, has_frames);
+            self.end_first_pull_after(config, name, asked);
+        }
+        if fault.is_none() && asked.has_frames {
+            self.note_frames(config, name);
         }
         if fault != Some(ConnectionFault::UnknownName) {
-            self.owe(config, name, asks, ticks);
+            self.schedule_transfer(config, name, asked);
         }
     }
 
-    /// Remembers that frames of a peer were taken now, if there were any.
-    fn note_frames(&mut self, config: &Config, name: Option<&str>, has_frames: bool) {
-        if !has_frames {
-            return;
-        }
+    /// Remembers that frames of a peer were taken now.
+    fn note_frames(&mut self, config: &Config, name: Option<&str>) {
         if let Some(place) = place_of(config, name) {
-            let since_1970 = self.upkeep.since_1970();
-            self.upkeep.figures().heard.hear(place as usize, since_1970);
+            let since_1970 = self.backend.since_1970();
+            self.backend
+                .figures()
+                .heard
+                .hear(place as usize, since_1970);
         }
     }
 
     /// Ends the first pull, if it is going on, when a peer has sent all it has, or now that each peer has.
-    fn end_first_pull_after(
-        &mut self,
-        config: &Config,
-        name: Option<&str>,
-        pulled: bool,
-        pushed: bool,
-    ) {
+    fn end_first_pull_after(&mut self, config: &Config, name: Option<&str>, asked: Asked) {
         if !self.duties.waits_for_pull() {
             return;
         }
-        let all = pushed && self.has_all_with(config, name);
-        if pulled || all {
+        let all = asked.asks && self.has_all_with(config, name);
+        if asked.pulled || all {
             self.end_first_pull();
         }
     }
 
     /// Remembers what the frames of a peer asked for: a Tick, and, except during the first pull, all that is held here.
-    fn owe(&mut self, config: &Config, name: Option<&str>, asks: bool, ticks: bool) {
-        if ticks {
+    fn schedule_transfer(&mut self, config: &Config, name: Option<&str>, asked: Asked) {
+        if asked.ticks {
             self.duties.owe_tick();
         }
-        if !asks || self.duties.waits_for_pull() {
+        if !asked.asks || self.duties.waits_for_pull() {
             return;
         }
         let Some(place) = place_of(config, name) else {
             return;
         };
-        hand_all(&mut self.shares, place as usize, false);
+        plan_transfer(&mut self.transfers, place as usize, TransferKind::Send);
     }
 
     /// Returns whether each peer has pushed all that it has, now that the one of this name did.

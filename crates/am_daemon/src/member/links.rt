@@ -1,14 +1,14 @@
 //! The addresses at which peers listen, and the state that a member hands to them: part by part, each made after the one before
 //! it went out.
 
-use super::bursts::Dropped;
-use super::desk::Desk;
-use am_dialogue::Share;
-use am_faults::Fault;
+use super::pending_frames::Dropped;
+use super::server_state::ServerState;
+use am_backend::{Backend, cause_of};
+use am_diagnostics::Fault;
 use am_gossip::Frame;
 use am_instance::{Config, HandedPart, Instance, Place};
 use am_reactor::{LinkFault, PeerBytes};
-use am_upkeep::{Keeper, cause_of};
+use am_server::{StateTransfer, TransferKind};
 use std::alloc::Global;
 use std::net::SocketAddr;
 
@@ -20,17 +20,17 @@ pub fn address_of(addresses: &[Option<SocketAddr>], place: usize) -> Option<Sock
     addresses.get(place).copied()?
 }
 
-/// Plans to hand a peer all that is held, and with `asks` to ask it for all that it has.
-pub fn hand_all(shares: &mut [Share], peer: usize, asks: bool) {
-    if let Some(share) = shares.get_mut(peer) {
-        share.want(asks);
+/// Plans a transfer of all that is held to a peer.
+pub fn plan_transfer(transfers: &mut [StateTransfer], peer: usize, kind: TransferKind) {
+    if let Some(transfer) = transfers.get_mut(peer) {
+        transfer.want(kind);
     }
 }
 
 /// Plans to hand a peer nothing more.
-pub fn hand_nothing(shares: &mut [Share], peer: usize) {
-    if let Some(share) = shares.get_mut(peer) {
-        *share = Share::none();
+pub fn hand_nothing(transfers: &mut [StateTransfer], peer: usize) {
+    if let Some(transfer) = transfers.get_mut(peer) {
+        *transfer = StateTransfer::none();
     }
 }
 
@@ -41,46 +41,46 @@ pub fn link_to(alloc: Global, peer: usize) -> PeerBytes {
 }
 
 /// Returns the next part for a peer, as a frame.
-fn next_part<U: Keeper>(
-    upkeep: &mut U,
-    shares: &mut [Share],
+fn next_part<U: Backend>(
+    backend: &mut U,
+    transfers: &mut [StateTransfer],
     instance: &Instance,
     peer: usize,
 ) -> Option<Frame> {
-    let share = shares.get_mut(peer)?;
-    let left = share.take_left()?;
+    let transfer = transfers.get_mut(peer)?;
+    let left = transfer.take_left()?;
     match instance.hand_out(left, MOST_OF_PART) {
         Ok(part) => {
             let HandedPart { state, next } = part;
-            Some(share.frame_of(state, next))
+            Some(transfer.frame_of(state, next))
         }
         Err(_) => {
             let place = Some(peer as Place);
-            upkeep.tell_of(instance.config(), place, Fault::UnsentMemory(1));
+            backend.tell_of(instance.config(), place, Fault::UnsentMemory(1));
             None
         }
     }
 }
 
-impl<U: Keeper> Desk<'_, U> {
+impl<U: Backend> ServerState<'_, U> {
     /// Opens a link to the first peer that is to be handed all that is held.
     pub(super) fn open_link(&mut self) -> Option<PeerBytes> {
-        let peer = self.shares.iter().position(|share| share.waits())?;
-        self.shares.get_mut(peer)?.open();
-        if let Some(burst) = self.bursts.get_mut(peer) {
-            burst.open();
+        let peer = self.transfers.iter().position(|transfer| transfer.waits())?;
+        self.transfers.get_mut(peer)?.open();
+        if let Some(pending) = self.pending_frames.get_mut(peer) {
+            pending.open();
         }
         Some(link_to(self.alloc, peer))
     }
 
     /// Keeps frames for a peer until they are sealed, or reports why they are dropped. Returns whether a link is to be opened.
     pub(super) fn put_by(&mut self, config: &Config, peer: usize, frames: Vec<Frame>) -> bool {
-        let Some(burst) = self.bursts.get_mut(peer) else {
+        let Some(pending) = self.pending_frames.get_mut(peer) else {
             return false;
         };
         let count = frames.len();
-        match burst.add(frames) {
-            Ok(()) => return burst.open(),
+        match pending.add(frames) {
+            Ok(()) => return pending.open(),
             Err(Dropped::Again) => self.drop_frames(peer, count, LinkFault::Full),
             Err(Dropped::Full) => {
                 self.drop_frames(peer, count, LinkFault::Full);
@@ -96,7 +96,7 @@ impl<U: Keeper> Desk<'_, U> {
 
     /// Counts frames for a peer that are dropped, as those of a lost link.
     fn drop_frames(&mut self, peer: usize, count: usize, fault: LinkFault) {
-        let heard = &mut self.upkeep.figures().heard;
+        let heard = &mut self.backend.figures().heard;
         heard.hand_on(peer, count as u64);
         heard.lose(peer, cause_of(fault));
     }
@@ -104,20 +104,20 @@ impl<U: Keeper> Desk<'_, U> {
     /// Reports that what waited for a peer is lost.
     fn tell_lost(&mut self, config: &Config, peer: usize, fault: LinkFault) {
         let fault = Fault::Lost(fault, address_of(&self.addresses, peer));
-        self.upkeep.tell_of(config, Some(peer as Place), fault);
+        self.backend.tell_of(config, Some(peer as Place), fault);
     }
 
     /// Returns the frames that go to a peer next: those that wait, or the next part of all that is held.
     fn next_frames(&mut self, instance: &Instance, peer: usize) -> Option<Vec<Frame>> {
-        let waiting = self.bursts.get_mut(peer)?.take();
+        let waiting = self.pending_frames.get_mut(peer)?.take();
         if !waiting.is_empty() {
             return Some(waiting);
         }
-        let part = next_part(&mut self.upkeep, &mut self.shares, instance, peer)?;
+        let part = next_part(&mut self.backend, &mut self.transfers, instance, peer)?;
         let mut frames = Vec::new(self.alloc);
         if frames.push(part).is_err() {
             let place = Some(peer as Place);
-            self.upkeep
+            self.backend
                 .tell_of(instance.config(), place, Fault::UnsentMemory(1));
             return None;
         }
@@ -127,10 +127,10 @@ impl<U: Keeper> Desk<'_, U> {
     /// Returns the bytes that go to a peer next over its link, which answered with `answer`.
     fn text_behind(&mut self, instance: &Instance, peer: usize, answer: &[u8]) -> Option<Vec<u8>> {
         let frames = self.next_frames(instance, peer)?;
-        let burst = self.bursts.get_mut(peer)?;
-        let from = burst.place(answer);
-        burst.count_on(frames.len());
-        self.upkeep
+        let pending = self.pending_frames.get_mut(peer)?;
+        let from = pending.place(answer);
+        pending.count_on(frames.len());
+        self.backend
             .text_of(instance.config(), peer as Place, from, &frames)
     }
 
@@ -144,7 +144,7 @@ impl<U: Keeper> Desk<'_, U> {
     ) -> Option<Vec<u8>> {
         let text = self.text_behind(instance, peer, answer);
         if text.is_none() {
-            hand_nothing(&mut self.shares, peer);
+            hand_nothing(&mut self.transfers, peer);
             self.close_burst(peer);
         }
         text
@@ -152,12 +152,12 @@ impl<U: Keeper> Desk<'_, U> {
 
     /// Closes the link to a peer. The frames that wait for it are counted as those of a lost link.
     pub(super) fn close_burst(&mut self, peer: usize) {
-        let Some(burst) = self.bursts.get_mut(peer) else {
+        let Some(pending) = self.pending_frames.get_mut(peer) else {
             return;
         };
-        let waiting = burst.close();
+        let waiting = pending.close();
         if waiting > 0 {
-            self.upkeep.figures().heard.hand_on(peer, waiting as u64);
+            self.backend.figures().heard.hand_on(peer, waiting as u64);
         }
     }
 }

@@ -2,62 +2,67 @@
 
 ghost use Rattle.std.specs.Prelude.{◌≡◌};
 ghost use Rattle.am_http.specs.Sessions.{spoken};
-ghost use Rattle.am_dialogue.specs.Answered.{ForPages, IsAnswered};
-ghost use Rattle.am_dialogue.specs.Calls.{IsProgressOf};
-ghost use Rattle.am_dialogue.specs.Talks.{IsGiven, IsGivenOn, KeepsGone, Lasts, Rests, talk_of};
-ghost use Rattle.am_dialogue.specs.Talks.Saying.{Silent};
+ghost use Rattle.am_server.specs.Answered.{ForPages, IsAnswered};
+ghost use Rattle.am_server.specs.Calls.{IsProgressOf};
+ghost use Rattle.am_server.specs.Talks.{IsGiven, IsGivenOn, KeepsGone, Lasts, Rests, talk_of};
+ghost use Rattle.am_server.specs.Talks.Saying.{Silent};
 ghost use Rattle.am_http.specs.declared.request.Request.{Request};
-ghost use Rattle.am_living.specs.Talking.{IsTakenUp};
+ghost use Rattle.am_server.specs.Talking.{IsTakenUp};
 
-use super::desk::Desk;
+use super::server_state::ServerState;
 use super::telling::tell;
-use am_dialogue::{CallProgress, Conversation, Work};
+use am_backend::Backend;
 use am_http::session::SessionOutput;
 use am_instance::Instance;
-use am_upkeep::Keeper;
+use am_server::{CallProgress, ConnectionState, ConnectionWork};
 use std::mem;
 
-impl<U: Keeper> Desk<'_, U> {
+impl<U: Backend> ServerState<'_, U> {
     /// Continues what is still to be done for a connection. What waits for its turn goes on waiting.
-    pub(super) fn go_on(&mut self, instance: &mut Instance, dialogue: &mut Conversation)
-        ensures { IsTakenUp (talk_of dialogue.old).waiting instance.old (talk_of dialogue.old) instance.new (talk_of dialogue.new) }
+    pub(super) fn resume(&mut self, instance: &mut Instance, connection: &mut ConnectionState)
+        ensures { IsTakenUp (talk_of connection.old).waiting instance.old (talk_of connection.old) instance.new (talk_of connection.new) }
     {
-        match mem::replace(&mut dialogue.work, Work::Nothing) {
-            Work::Request(said) => self.answer_late(instance, dialogue, said),
-            Work::Judging(said, judging) => self.go_on_judging(instance, dialogue, said, judging),
-            Work::PendingReply(making) => dialogue.go_on(self.alloc, making),
-            Work::Call(call) => self.go_on_call(instance, dialogue, call),
-            other => dialogue.set(other),
+        match mem::replace(&mut connection.work, ConnectionWork::Nothing) {
+            ConnectionWork::Request(said) => self.answer_late(instance, connection, said),
+            ConnectionWork::Compiling(said, compilation) => self.resume_compilation(
+                instance,
+                connection,
+                said,
+                compilation,
+            ),
+            ConnectionWork::Building(making) => connection.resume(self.alloc, making),
+            ConnectionWork::Call(call) => self.resume_call(instance, connection, call),
+            other => connection.set(other),
         }
     }
 
     /// Continues the answer to a request that isn't about silences.
-    fn go_on_call(
+    fn resume_call(
         &mut self,
         instance: &mut Instance,
-        dialogue: &mut Conversation,
+        connection: &mut ConnectionState,
         call: CallProgress,
     )
         ensures steps { ForPages instance.old instance.new }
-        ensures rests { Rests (talk_of dialogue.old) (talk_of dialogue.new) }
-        ensures gone { KeepsGone (talk_of dialogue.old).saying (talk_of dialogue.new).saying }
-        ensures given { (request : Request) → (talk_of dialogue.old).saying ≡ Silent → IsProgressOf request call →
-            IsGiven request instance.old instance.new (talk_of dialogue.new).saying }
+        ensures rests { Rests (talk_of connection.old) (talk_of connection.new) }
+        ensures gone { KeepsGone (talk_of connection.old).saying (talk_of connection.new).saying }
+        ensures given { (request : Request) → (talk_of connection.old).saying ≡ Silent → IsProgressOf request call →
+            IsGiven request instance.old instance.new (talk_of connection.new).saying }
     {
         match call {
-            CallProgress::Turn(turn) => dialogue.put_off(CallProgress::Turn(turn)),
+            CallProgress::Turn(turn) => connection.put_off(CallProgress::Turn(turn)),
             CallProgress::Due(due) => {
                 let called = self.answer_due(instance, due);
-                self.follow_call(dialogue, called);
+                self.follow_call(connection, called);
             }
             CallProgress::Deciding(deciding) => {
-                let called = self.go_on_deciding(instance, deciding);
-                self.follow_call(dialogue, called);
+                let called = self.resume_decision(instance, deciding);
+                self.follow_call(connection, called);
             }
-            CallProgress::Log(writing) => dialogue.go_on_log(self.alloc, writing),
-            CallProgress::Counting(census) => {
-                let told = self.go_on_counting(instance, census);
-                tell(self.alloc, dialogue, told);
+            CallProgress::Log(writing) => connection.resume_log(self.alloc, writing),
+            CallProgress::Counting(state_count) => {
+                let told = self.resume_count(instance, state_count);
+                tell(self.alloc, connection, told);
             }
         }
     }
@@ -66,30 +71,34 @@ impl<U: Keeper> Desk<'_, U> {
     fn answer_late(
         &mut self,
         instance: &mut Instance,
-        dialogue: &mut Conversation,
+        connection: &mut ConnectionState,
         said: SessionOutput,
     )
-        ensures { IsAnswered (spoken said) instance.old (talk_of dialogue.old) instance.new (talk_of dialogue.new) }
+        ensures { IsAnswered (spoken said) instance.old (talk_of connection.old) instance.new (talk_of connection.new) }
     {
         if self.turns_away {
-            dialogue.refuse_unready(self.alloc, Some(said));
+            connection.refuse_unready(self.alloc, Some(said));
         } else {
-            self.judge(instance, dialogue, said);
+            self.judge(instance, connection, said);
         }
     }
 
     /// Answers a request whose moment has come.
-    pub(super) fn go_on_in_turn(&mut self, instance: &mut Instance, dialogue: &mut Conversation)
+    pub(super) fn resume_in_turn(
+        &mut self,
+        instance: &mut Instance,
+        connection: &mut ConnectionState,
+    )
         ensures steps { ForPages instance.old instance.new }
-        ensures lasts { Lasts (talk_of dialogue.old) (talk_of dialogue.new) }
-        ensures given { IsGivenOn instance.old (talk_of dialogue.old).saying instance.new (talk_of dialogue.new).saying }
+        ensures lasts { Lasts (talk_of connection.old) (talk_of connection.new) }
+        ensures given { IsGivenOn instance.old (talk_of connection.old).saying instance.new (talk_of connection.new).saying }
     {
-        match mem::replace(&mut dialogue.work, Work::Nothing) {
-            Work::Call(call) => {
+        match mem::replace(&mut connection.work, ConnectionWork::Nothing) {
+            ConnectionWork::Call(call) => {
                 let called = self.take_moment(instance, call);
-                self.follow_call(dialogue, called);
+                self.follow_call(connection, called);
             }
-            other => dialogue.set(other),
+            other => connection.set(other),
         }
     }
 }

@@ -1,23 +1,23 @@
 //! The work that a member does for the loop that serves it.
 
 ghost use Rattle.std.specs.Prelude.{◌≡◌, false};
-ghost use Rattle.am_dialogue.specs.Talks.{IsReleased, Lasts, talk_of};
-ghost use Rattle.am_upkeep.specs.Keepings.{kept, uncommitted};
-ghost use Rattle.am_upkeep.specs.Stores.{IsKept};
+ghost use Rattle.am_server.specs.Talks.{IsReleased, Lasts, talk_of};
+ghost use Rattle.am_backend.specs.CommitStates.{kept, uncommitted};
+ghost use Rattle.am_backend.specs.Stores.{IsKept};
 
-use super::clerk::Clerk;
 use super::counting::{count_broken, count_where_done};
-use super::desk::random_challenge;
-use super::guarding::hears_at;
+use super::guarding::accepted_at;
 use super::links::address_of;
-use am_attendant::Attendant;
-use am_dialogue::Conversation;
-use am_faults::Fault;
+use super::server::Server;
+use super::server_state::random_challenge;
+use crate::handler::Handler;
+use am_backend::{Backend, place_of, sooner};
+use am_diagnostics::Fault;
 use am_instance::{Config, Instance, Place};
-use am_peers::Fault as ConnectionFault;
+use am_peer_auth::Lock;
+use am_peers::ConnectionFault;
 use am_reactor::{Broken, Entrance, Failure, LinkFault, PeerBytes, Wake};
-use am_seal::Lock;
-use am_upkeep::{Keeper, place_of, sooner};
+use am_server::ConnectionState;
 use std::io::ErrorKind;
 use std::time::Instant;
 
@@ -37,108 +37,108 @@ fn fault_of(broken: Broken, is_over: bool) -> Option<Fault> {
     })
 }
 
-impl<U: Keeper> Attendant for Clerk<'_, U> {
+impl<U: Backend> Handler for Server<'_, U> {
     // (this says nothing about the bytes, only that all that came before them was committed)
-    ghost offers = { λ clerk peer bytes clerk'. uncommitted (U.store_of clerk.desk.upkeep).keeping ≡ false };
+    ghost offers = { λ server peer bytes server'. uncommitted (U.store_of server.state.backend).commit_state ≡ false };
 
-    fn begin(&mut self, entrance: Entrance) -> Conversation {
-        self.desk.upkeep.figures().begin();
-        let hears = hears_at(self.desk.upkeep.options(), entrance);
-        Conversation::new(self.desk.alloc, hears)
+    fn begin(&mut self, entrance: Entrance) -> ConnectionState {
+        self.state.backend.figures().begin();
+        let accepts = accepted_at(self.state.backend.options(), entrance);
+        ConnectionState::new(self.state.alloc, accepts)
     }
 
     fn feed(
         &mut self,
         instance: &mut Instance,
-        dialogue: &mut Conversation,
+        connection: &mut ConnectionState,
         lock: Option<Lock<'_>>,
         piece: &[u8],
     ) {
-        if let Some(refusal) = dialogue.screen(piece, self.desk.hosts.as_slice()) {
-            return self.desk.refuse(dialogue, &refusal);
+        if let Some(refusal) = connection.screen(piece, self.state.hosts.as_slice()) {
+            return self.state.refuse(connection, &refusal);
         }
-        let challenge = random_challenge(&mut self.desk.random);
-        let heard = dialogue
-            .gate
-            .feed(&mut dialogue.session, lock, challenge, piece);
-        self.desk.hear_at_gate(instance, dialogue, heard);
+        let challenge = random_challenge(&mut self.state.random);
+        let heard = connection
+            .authenticator
+            .feed(&mut connection.session, lock, challenge, piece);
+        self.state.hear_authenticated(instance, connection, heard);
     }
 
-    fn end(&mut self, instance: &mut Instance, dialogue: &mut Conversation) {
-        let heard = dialogue.gate.end(&mut dialogue.session);
-        self.desk.hear_at_gate(instance, dialogue, heard);
+    fn end(&mut self, instance: &mut Instance, connection: &mut ConnectionState) {
+        let heard = connection.authenticator.end(&mut connection.session);
+        self.state.hear_authenticated(instance, connection, heard);
     }
 
-    fn broken(&mut self, config: &Config, dialogue: &mut Conversation, broken: Broken) {
-        if dialogue.turn().is_some() {
-            self.desk.turns.end();
+    fn broken(&mut self, config: &Config, connection: &mut ConnectionState, broken: Broken) {
+        if connection.turn().is_some() {
+            self.state.turns.end();
         }
         count_broken(
-            self.desk.upkeep.figures(),
-            &mut dialogue.account,
+            self.state.backend.figures(),
+            &mut connection.account,
             broken.why,
         );
-        if let Some(fault) = fault_of(broken, dialogue.session.is_over()) {
-            let peer = place_of(config, dialogue.session.name());
-            self.desk.upkeep.tell_of(config, peer, fault);
+        if let Some(fault) = fault_of(broken, connection.session.is_over()) {
+            let peer = place_of(config, connection.session.name());
+            self.state.backend.tell_of(config, peer, fault);
         }
     }
 
     fn may_resume(&self) -> bool {
-        !self.desk.duties.waits_for_pull()
+        !self.state.duties.waits_for_pull()
     }
 
-    fn resume(&mut self, instance: &mut Instance, dialogue: &mut Conversation) {
-        self.desk.go_on(instance, dialogue);
+    fn resume(&mut self, instance: &mut Instance, connection: &mut ConnectionState) {
+        self.state.resume(instance, connection);
     }
 
     fn has_uncommitted(&self) -> bool
-        ensures { result ≡ uncommitted (U.store_of self.now.desk.upkeep).keeping }
+        ensures { result ≡ uncommitted (U.store_of self.now.state.backend).commit_state }
     {
-        self.desk.upkeep.keeping().has_news()
+        self.state.backend.commit_state().has_changes()
     }
 
     fn commit(&mut self, instance: &Instance)
-        ensures { IsKept (U.store_of self.old.desk.upkeep) (U.store_of self.new.desk.upkeep) }
+        ensures { IsKept (U.store_of self.old.state.backend) (U.store_of self.new.state.backend) }
     {
-        self.desk.upkeep.keep(instance);
+        self.state.backend.keep(instance);
     }
 
-    fn release(&mut self, dialogue: &mut Conversation)
-        ensures lasts { Lasts (talk_of dialogue.old) (talk_of dialogue.new) }
+    fn release(&mut self, connection: &mut ConnectionState)
+        ensures lasts { Lasts (talk_of connection.old) (talk_of connection.new) }
         // PROMISE: A reply that says that something changed goes out after a commit only if the commit has kept everything, and otherwise a line with status 500 does.
-        ensures kept { IsReleased (kept (U.store_of self.old.desk.upkeep).keeping) dialogue.old.work (talk_of dialogue.new).saying }
+        ensures kept { IsReleased (kept (U.store_of self.old.state.backend).commit_state) connection.old.work (talk_of connection.new).saying }
     {
-        let is_kept = self.desk.upkeep.keeping().is_kept();
-        dialogue.release(self.desk.alloc, is_kept);
+        let is_kept = self.state.backend.commit_state().is_kept();
+        connection.release(self.state.alloc, is_kept);
     }
 
-    fn due(&self, dialogue: &Conversation) -> Option<Instant> {
-        match dialogue.turn() {
+    fn due(&self, connection: &ConnectionState) -> Option<Instant> {
+        match connection.turn() {
             Some(turn) => Some(turn.due(self.are_heard(turn))),
-            None => dialogue.limit(),
+            None => connection.limit(),
         }
     }
 
-    fn come_due(&mut self, instance: &mut Instance, dialogue: &mut Conversation) {
-        self.tell_missed(instance.config(), dialogue);
-        self.desk.go_on_in_turn(instance, dialogue);
+    fn reach_deadline(&mut self, instance: &mut Instance, connection: &mut ConnectionState) {
+        self.tell_missed(instance.config(), connection);
+        self.state.resume_in_turn(instance, connection);
     }
 
-    fn hurry(&mut self, dialogue: &mut Conversation) {
-        let said = dialogue.take_waiting();
-        dialogue.refuse_unready(self.desk.alloc, said);
+    fn abandon_wait(&mut self, connection: &mut ConnectionState) {
+        let said = connection.take_waiting();
+        connection.refuse_unready(self.state.alloc, said);
     }
 
-    fn count_done(&mut self, dialogue: &mut Conversation) {
-        count_where_done(&mut self.desk.upkeep, dialogue);
+    fn count_done(&mut self, connection: &mut ConnectionState) {
+        count_where_done(&mut self.state.backend, connection);
     }
 
     fn outgoing(&mut self, config: &Config) -> Option<PeerBytes> {
-        if self.desk.upkeep.keeping().has_news() {
+        if self.state.backend.commit_state().has_changes() {
             None
-        } else if self.desk.upkeep.sends_nothing() {
-            self.desk.open_link()
+        } else if self.state.backend.sends_nothing() {
+            self.state.open_link()
         } else {
             self.next_outgoing(config)
         }
@@ -153,37 +153,41 @@ impl<U: Keeper> Attendant for Clerk<'_, U> {
     }
 
     fn more(&mut self, instance: &Instance, peer: usize, answer: &[u8]) -> Option<Vec<u8>> {
-        self.desk.upkeep.figures().heard.all_out(peer);
-        self.desk.next_text(instance, peer, answer)
+        self.state.backend.figures().heard.all_out(peer);
+        self.state.next_text(instance, peer, answer)
     }
 
     fn lost(&mut self, config: &Config, peer: usize, fault: LinkFault) {
         let address = if self.replicas.is_at(peer) {
             self.replicas.lost(peer);
-            address_of(&self.desk.asked, peer)
+            address_of(&self.state.asked, peer)
         } else {
-            self.desk.lose_link(peer, fault)
+            self.state.lose_link(peer, fault)
         };
         let fault = Fault::Lost(fault, address);
-        self.desk.upkeep.tell_of(config, Some(peer as Place), fault);
+        self.state
+            .backend
+            .tell_of(config, Some(peer as Place), fault);
     }
 
     fn wake(&mut self, instance: &mut Instance, now: Instant) -> Wake {
         self.do_duties(instance, now);
-        if self.desk.stops {
-            self.desk.give_up_first_pull(now);
+        if self.state.stops {
+            self.state.give_up_first_pull(now);
             return Wake::Stop;
         }
         let gossip = self.gossip(instance, now);
-        Wake::GoOn(sooner(gossip, self.desk.left(instance, now)))
+        Wake::GoOn(sooner(gossip, self.state.left(instance, now)))
     }
 
     fn input_ended(&mut self) {
-        self.desk.stops = true;
+        self.state.stops = true;
     }
 
     fn accept_failed(&mut self, config: &Config, kind: ErrorKind) {
-        self.desk.upkeep.figures().miss();
-        self.desk.upkeep.tell_of(config, None, Fault::Accept(kind));
+        self.state.backend.figures().miss();
+        self.state
+            .backend
+            .tell_of(config, None, Fault::Accept(kind));
     }
 }

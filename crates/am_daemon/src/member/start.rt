@@ -1,23 +1,22 @@
 //! The start of a member.
 
-use super::bursts::Burst;
-use super::clerk::Clerk;
-use super::desk::Desk;
 use super::guarding::{hosts_of, opening};
+use super::pending_frames::PendingFrames;
+use super::server::Server;
+use super::server_state::ServerState;
+use crate::handler::Member;
+use crate::live::live;
+use am_alertmanager::Replicas;
 use am_api_decisions::RecentAlerts;
-use am_attendant::{Member, live};
-use am_beside::Replicas;
-use am_dialogue::{Intervals, Share, Timers, Turns};
-use am_faults::{Fault, HasAudience, report, status};
+use am_backend::{Backend, Host, SystemBackend, config_of, lock_of, secret_of};
+use am_diagnostics::{Fault, HasAudience, report, signals, status};
 use am_instance::{Config, ConfigError, Instance, Place};
-use am_jobs::Options;
-use am_lines::signals;
 use am_member::PatternsAhead;
+use am_options::{Options, Started};
+use am_peer_auth::{CHALLENGE, Lock};
 use am_peers::{Peer, shown_name};
 use am_reactor::{Entrances, Limits, Peers, listen};
-use am_seal::{CHALLENGE, Lock};
-use am_self::Started;
-use am_upkeep::{Host, Keeper, Upkeep, config_of, lock_of, secret_of};
+use am_server::{Intervals, StateTransfer, Timers, Turns};
 use rand::make_rng;
 use rand::rngs::StdRng;
 use std::alloc::{AllocError, Global};
@@ -53,24 +52,24 @@ fn run_on<'a, R: Host>(rt: &'a R, options: &'a Options<'a>) -> Result<Option<Fau
     let config = config_of(rt.alloc(), options)?;
     let secret = secret_of(rt, options)?;
     let lock = lock_of(options, &secret);
-    let (instance, upkeep) = Upkeep::load(rt, options, config, lock)?;
-    run_kept(rt, options, lock, instance, upkeep)
+    let (instance, backend) = SystemBackend::load(rt, options, config, lock)?;
+    run_kept(rt, options, lock, instance, backend)
 }
 
-/// Runs the member that has this instance and this upkeep.
-fn run_kept<R: Host, U: Keeper + Drop>(
+/// Runs the member that has this instance and this backend.
+fn run_kept<R: Host, U: Backend + Drop>(
     rt: &R,
     options: &Options<'_>,
     lock: Option<Lock<'_>>,
     instance: Instance,
-    upkeep: U,
+    backend: U,
 ) -> Result<Option<Fault>, Fault> {
-    let attendant = clerk_with(rt, options, instance.config(), upkeep)?;
+    let handler = server_with(rt, options, instance.config(), backend)?;
     let entrances = entrances(rt, options)?;
     let mut member = Member {
         instance,
         lock,
-        attendant,
+        handler,
     };
     Ok(run_member(rt, options, &mut member, entrances))
 }
@@ -94,26 +93,26 @@ fn entrances<R: Net>(rt: &R, options: &Options<'_>) -> Result<Entrances, Fault> 
 }
 
 /// Runs a member that listens. Returns the fault that it ended with, which is reported.
-fn run_member<R: Clock + Eprint + Input + Net, U: Keeper>(
+fn run_member<R: Clock + Eprint + Input + Net, U: Backend>(
     rt: &R,
     options: &Options<'_>,
-    member: &mut Member<'_, Clerk<'_, U>>,
+    member: &mut Member<'_, Server<'_, U>>,
     entrances: Entrances,
 ) -> Option<Fault> {
     begin(rt, member);
     let failed = serve(rt, options, member, entrances);
-    member.attendant.desk.upkeep.end(&member.instance, failed)
+    member.handler.state.backend.end(&member.instance, failed)
 }
 
 /// Reports the start of a member, and does what that leaves to be done.
-fn begin<R: Eprint, U: Keeper>(rt: &R, member: &mut Member<'_, Clerk<'_, U>>) {
+fn begin<R: Eprint, U: Backend>(rt: &R, member: &mut Member<'_, Server<'_, U>>) {
     let instance = &member.instance;
-    let upkeep = &mut member.attendant.desk.upkeep;
-    if upkeep.has_room_for_line() {
-        tell_start(rt, instance, upkeep.options());
+    let backend = &mut member.handler.state.backend;
+    if backend.has_room_for_line() {
+        tell_start(rt, instance, backend.options());
     }
-    upkeep.tell_torn(instance.config());
-    upkeep.save_owed(instance);
+    backend.tell_torn(instance.config());
+    backend.save_owed(instance);
 }
 
 /// Prints that a member listens, and the times that it keeps.
@@ -124,7 +123,7 @@ fn tell_start<R: Eprint>(rt: &R, instance: &Instance, options: &Options<'_>) {
         entries: instance.log().len(),
     };
     let _ = eprintln!(rt; "am_tool: {started}");
-    am_self::report(rt, options);
+    am_options::report(rt, options);
 }
 
 /// The reason that nobody is served, or no longer.
@@ -144,38 +143,38 @@ fn fault_of(why: Unserved) -> Fault {
 
 /// Serves whoever connects, until the member is told to end or has taken its connections. Returns the fault for which it
 /// doesn't, or no longer, which is reported.
-fn serve<R: Clock + Input + Net, U: Keeper>(
+fn serve<R: Clock + Input + Net, U: Backend>(
     rt: &R,
     options: &Options<'_>,
-    member: &mut Member<'_, Clerk<'_, U>>,
+    member: &mut Member<'_, Server<'_, U>>,
     entrances: Entrances,
 ) -> Option<Fault> {
     match serve_peers(rt, options, member, entrances) {
         Ok(()) => None,
         Err(why) => {
             let config = member.instance.config();
-            let upkeep = &mut member.attendant.desk.upkeep;
-            upkeep.tell_of(config, None, fault_of(why));
+            let backend = &mut member.handler.state.backend;
+            backend.tell_of(config, None, fault_of(why));
             Some(fault_of(why))
         }
     }
 }
 
 /// Serves whoever connects, and the peers.
-fn serve_peers<R: Clock + Input + Net, U: Keeper>(
+fn serve_peers<R: Clock + Input + Net, U: Backend>(
     rt: &R,
     options: &Options<'_>,
-    member: &mut Member<'_, Clerk<'_, U>>,
+    member: &mut Member<'_, Server<'_, U>>,
     entrances: Entrances,
 ) -> Result<(), Unserved> {
-    let alloc = member.attendant.desk.alloc;
+    let alloc = member.handler.state.alloc;
     let Ok(greeting) = opening(alloc, options.name, member.lock.is_some()) else {
         return Err(Unserved::Memory);
     };
-    let Ok(links) = member.attendant.desk.addresses.clone() else {
+    let Ok(links) = member.handler.state.addresses.clone() else {
         return Err(Unserved::Memory);
     };
-    let Ok(asked) = member.attendant.desk.asked.clone() else {
+    let Ok(asked) = member.handler.state.asked.clone() else {
         return Err(Unserved::Memory);
     };
     let peers = Peers {
@@ -214,8 +213,8 @@ fn limits(options: &Options<'_>) -> Limits {
 struct Links {
     addresses: Vec<Option<SocketAddr>>,
     awaited: Vec<Place>,
-    shares: Vec<Share>,
-    bursts: Vec<Burst>,
+    transfers: Vec<StateTransfer>,
+    pending_frames: Vec<PendingFrames>,
 }
 
 /// The state that is kept of each Alertmanager beside the member, by place.
@@ -233,30 +232,30 @@ struct Places<'a> {
     beside: Beside,
 }
 
-/// Returns the clerk of a member that has this upkeep.
-fn clerk_with<'a, R: AllocGlobal + Clock + Files + RandomSource, U: Keeper + Drop>(
+/// Returns the server of a member that has this backend.
+fn server_with<'a, R: AllocGlobal + Clock + Files + RandomSource, U: Backend + Drop>(
     rt: &R,
     options: &Options<'a>,
     config: &Config,
-    upkeep: U,
-) -> Result<Clerk<'a, U>, Fault> {
+    backend: U,
+) -> Result<Server<'a, U>, Fault> {
     let random = random(rt)?;
     let duties = duties(rt, options)?;
     match places_of(rt.alloc(), config, options) {
-        Ok(places) => Ok(clerk_of(rt.alloc(), options, upkeep, places, random, duties)),
+        Ok(places) => Ok(server_of(rt.alloc(), options, backend, places, random, duties)),
         Err(_) => Err(Fault::Config(ConfigError::Memory)),
     }
 }
 
-/// Returns the clerk with all these parts.
-fn clerk_of<'a, U>(
+/// Returns the server with all these parts.
+fn server_of<'a, U>(
     alloc: Global,
     options: &Options<'a>,
-    upkeep: U,
+    backend: U,
     places: Places<'a>,
     random: StdRng,
     duties: Timers,
-) -> Clerk<'a, U> {
+) -> Server<'a, U> {
     let Places {
         hosts,
         links,
@@ -265,21 +264,21 @@ fn clerk_of<'a, U>(
     let Links {
         addresses,
         awaited,
-        shares,
-        bursts,
+        transfers,
+        pending_frames,
     } = links;
     let Beside { asked, replicas } = beside;
     let waiting = options.waiting.min(options.at_once / 2);
-    let desk = Desk {
+    let state = ServerState {
         alloc,
-        upkeep,
+        backend,
         hosts,
         addresses,
         asked,
         random,
         duties,
-        shares,
-        bursts,
+        transfers,
+        pending_frames,
         awaited,
         turns: Turns::new(waiting),
         ahead: PatternsAhead::new(),
@@ -288,7 +287,7 @@ fn clerk_of<'a, U>(
         stops: false,
         turns_away: false,
     };
-    Clerk { desk, replicas }
+    Server { state, replicas }
 }
 
 /// Returns the state of all members before any is heard.
@@ -311,13 +310,13 @@ fn places_of<'a>(
 fn links_of(alloc: Global, config: &Config, options: &Options<'_>) -> Result<Links, AllocError> {
     let addresses = addresses(alloc, config, &options.peers)?;
     let awaited = peer_places(alloc, &addresses)?;
-    let shares = shares(alloc, addresses.len())?;
-    let bursts = bursts(alloc, addresses.len())?;
+    let transfers = transfers(alloc, addresses.len())?;
+    let pending_frames = pending_frames(alloc, addresses.len())?;
     Ok(Links {
         addresses,
         awaited,
-        shares,
-        bursts,
+        transfers,
+        pending_frames,
     })
 }
 
@@ -398,21 +397,21 @@ fn address_beside(replicas: &[Peer<'_>], name: &str) -> Option<SocketAddr> {
 }
 
 /// Returns what each of `count` members is handed, which is nothing yet.
-fn shares(alloc: Global, count: usize) -> Result<Vec<Share>, AllocError> {
-    let mut shares = Vec::with_capacity(alloc, count)?;
+fn transfers(alloc: Global, count: usize) -> Result<Vec<StateTransfer>, AllocError> {
+    let mut transfers = Vec::with_capacity(alloc, count)?;
     for _ in 0..count {
-        shares.push(Share::none())?;
+        transfers.push(StateTransfer::none())?;
     }
-    Ok(shares)
+    Ok(transfers)
 }
 
 /// Returns what goes to each of `count` members, which is nothing yet.
-fn bursts(alloc: Global, count: usize) -> Result<Vec<Burst>, AllocError> {
-    let mut bursts = Vec::with_capacity(alloc, count)?;
+fn pending_frames(alloc: Global, count: usize) -> Result<Vec<PendingFrames>, AllocError> {
+    let mut pending_frames = Vec::with_capacity(alloc, count)?;
     for _ in 0..count {
-        bursts.push(Burst::new(alloc))?;
+        pending_frames.push(PendingFrames::new(alloc))?;
     }
-    Ok(bursts)
+    Ok(pending_frames)
 }
 
 /// Returns the places of the peers, which are those with a known address.

@@ -1,24 +1,23 @@
 //! The answers of a member about itself.
 
-ghost use Rattle.am_dialogue.specs.Talks.{Closes, KeepsGone, Rests, talk_of};
+ghost use Rattle.am_server.specs.Talks.{Closes, KeepsGone, Rests, talk_of};
 
-use super::desk::Desk;
 use super::links::address_of;
+use super::server_state::ServerState;
 use am_api_silences::Read;
 use am_api_status::{
-    Call, MemberStatus, Neighbor, Peer, Resource, call_of, metrics_reply, not_ready, page_reply,
-    receivers_reply, status_reply, well_reply,
+    MemberStatus, Neighbor, Peer, StatusCall, StatusResource, call_of, metrics_reply, not_ready,
+    page_reply, receivers_reply, status_reply, well_reply,
 };
-use am_dialogue::{CallProgress, Census, Conversation};
-use am_figures::{PeerName, Shown, families};
+use am_backend::Backend;
 use am_http::session::SessionOutput;
 use am_http::{Cause, Refusal};
 use am_instance::{Config, Instance};
-use am_jobs::VERSION;
+use am_metrics::{PeerName, Shown, SilenceCounts, families};
+use am_options::{VERSION, options_text};
 use am_peers::{later_moment, shown_name};
-use am_self::options_text;
+use am_server::{CallProgress, ConnectionState, StateCount};
 use am_silence_json::moments::write_moment;
-use am_upkeep::Keeper;
 use am_version_order::Moment;
 use am_wire::Text;
 use std::alloc::{AllocError, Global};
@@ -42,52 +41,52 @@ pub enum Told {
     /// A refusal.
     Refused(Refusal),
     /// The member's figures, which follow when more of the silences are counted.
-    Counting(Census),
+    Counting(StateCount),
 }
 
 /// Answers a connection.
-pub fn tell(alloc: Global, dialogue: &mut Conversation, told: Told)
-    ensures rests { Rests (talk_of dialogue.old) (talk_of dialogue.new) }
-    ensures gone { KeepsGone (talk_of dialogue.old).saying (talk_of dialogue.new).saying }
+pub fn tell(alloc: Global, connection: &mut ConnectionState, told: Told)
+    ensures rests { Rests (talk_of connection.old) (talk_of connection.new) }
+    ensures gone { KeepsGone (talk_of connection.old).saying (talk_of connection.new).saying }
 {
     match told {
-        Told::Reply(reply) => dialogue.tell(alloc, reply),
-        Told::Refused(refusal) => dialogue.refuse(alloc, &refusal),
-        Told::Counting(census) => dialogue.put_off(CallProgress::Counting(census)),
+        Told::Reply(reply) => connection.tell(alloc, reply),
+        Told::Refused(refusal) => connection.refuse(alloc, &refusal),
+        Told::Counting(state_count) => connection.put_off(CallProgress::Counting(state_count)),
     }
 }
 
 /// Counts one more stretch of the silences.
-fn counted_on<U: Keeper>(
-    upkeep: &U,
+fn counted_on<U: Backend>(
+    backend: &U,
     alloc: Global,
     instance: &Instance,
-    census: Census,
-) -> Result<Census, AllocError> {
-    let now = later_moment(upkeep.since_1970(), instance.last());
-    census.go_on(alloc, instance.silences(), now)
+    state_count: StateCount,
+) -> Result<StateCount, AllocError> {
+    let now = later_moment(backend.since_1970(), instance.last());
+    state_count.resume(alloc, instance.silences(), now)
 }
 
 /// Counts all silences at once, since nothing is done in stretches now.
-fn counted<U: Keeper>(
-    upkeep: &U,
+fn counted<U: Backend>(
+    backend: &U,
     alloc: Global,
     instance: &Instance,
-    census: Census,
-) -> Result<Census, AllocError> {
-    let mut census = census;
+    state_count: StateCount,
+) -> Result<StateCount, AllocError> {
+    let mut state_count = state_count;
     for _ in 0..u64::MAX {
-        if census.is_done() {
+        if state_count.is_done() {
             break;
         }
-        census = counted_on(upkeep, alloc, instance, census)?;
+        state_count = counted_on(backend, alloc, instance, state_count)?;
     }
-    Ok(census)
+    Ok(state_count)
 }
 
 /// Returns how far the clock is behind the moment of the last event.
-fn clock_behind<U: Keeper>(upkeep: &U, last: Moment) -> Duration {
-    let now = later_moment(upkeep.since_1970(), Moment::LEAST);
+fn clock_behind<U: Backend>(backend: &U, last: Moment) -> Duration {
+    let now = later_moment(backend.since_1970(), Moment::LEAST);
     time_between(now, last)
 }
 
@@ -118,19 +117,19 @@ fn peers_counted<'b>(
     Ok(peers)
 }
 
-impl<U: Keeper> Desk<'_, U> {
+impl<U: Backend> ServerState<'_, U> {
     /// Answers a question about the member itself. These don't wait for a first pull.
-    pub(super) fn tell_itself(
+    pub(super) fn reply_about_member(
         &self,
         instance: &Instance,
-        dialogue: &mut Conversation,
+        connection: &mut ConnectionState,
         said: SessionOutput,
-        resource: Resource,
+        resource: StatusResource,
     )
-        ensures closes { Closes (talk_of dialogue.old) (talk_of dialogue.new) }
-        ensures gone { KeepsGone (talk_of dialogue.old).saying (talk_of dialogue.new).saying }
+        ensures closes { Closes (talk_of connection.old) (talk_of connection.new) }
+        ensures gone { KeepsGone (talk_of connection.old).saying (talk_of connection.new).saying }
     {
-        dialogue.session.stop();
+        connection.session.stop();
         let SessionOutput { request, .. } = said;
         let Some(Read::Whole(request)) = request else {
             return;
@@ -139,21 +138,21 @@ impl<U: Keeper> Desk<'_, U> {
             Ok(call) => self.told(instance, call),
             Err(refusal) => Told::Refused(refusal),
         };
-        tell(self.alloc, dialogue, told);
+        tell(self.alloc, connection, told);
     }
 
     /// Returns the answer to a call.
-    fn told(&self, instance: &Instance, call: Call) -> Told {
+    fn told(&self, instance: &Instance, call: StatusCall) -> Told {
         let alloc = self.alloc;
-        let Call { resource, is_bare } = call;
+        let StatusCall { resource, is_bare } = call;
         match resource {
-            Resource::Page => Told::Reply(page_reply(alloc, is_bare)),
-            Resource::Healthy => Told::Reply(well_reply(alloc, is_bare)),
-            Resource::Ready if self.is_ready() => Told::Reply(well_reply(alloc, is_bare)),
-            Resource::Ready => Told::Refused(not_ready(is_bare)),
-            Resource::Receivers => Told::Reply(receivers_reply(alloc, is_bare)),
-            Resource::Status => Told::Reply(self.status(instance.config(), is_bare)),
-            Resource::Metrics => self.begin_counting(instance, is_bare),
+            StatusResource::Page => Told::Reply(page_reply(alloc, is_bare)),
+            StatusResource::Healthy => Told::Reply(well_reply(alloc, is_bare)),
+            StatusResource::Ready if self.is_ready() => Told::Reply(well_reply(alloc, is_bare)),
+            StatusResource::Ready => Told::Refused(not_ready(is_bare)),
+            StatusResource::Receivers => Told::Reply(receivers_reply(alloc, is_bare)),
+            StatusResource::Status => Told::Reply(self.status(instance.config(), is_bare)),
+            StatusResource::Metrics => self.begin_counting(instance, is_bare),
         }
     }
 
@@ -165,14 +164,14 @@ impl<U: Keeper> Desk<'_, U> {
     /// Returns a reply that says who the member is.
     fn status(&self, config: &Config, is_bare: bool) -> Result<Vec<u8>, AllocError> {
         let alloc = self.alloc;
-        let options = self.upkeep.options();
+        let options = self.backend.options();
         let standing = MemberStatus {
             name: Text::copied(alloc, options.name)?,
             is_ready: self.is_ready(),
             peers: self.members_shown(config)?,
             alertmanagers: self.neighbors_shown(config)?,
             options: Text::new(options_text(alloc, options)?),
-            start: later_moment(self.upkeep.counted().start, Moment::LEAST),
+            start: later_moment(self.backend.counted().start, Moment::LEAST),
             version: VERSION,
         };
         status_reply(alloc, &standing, is_bare)
@@ -181,7 +180,7 @@ impl<U: Keeper> Desk<'_, U> {
     /// Returns all members, with the addresses at which they listen.
     fn members_shown(&self, config: &Config) -> Result<Vec<Peer>, AllocError> {
         let alloc = self.alloc;
-        let options = self.upkeep.options();
+        let options = self.backend.options();
         let own = options.peers_address.unwrap_or(options.address);
         let mut peers = Vec::new(alloc);
         for (place, name) in config.members().iter().enumerate() {
@@ -217,7 +216,7 @@ impl<U: Keeper> Desk<'_, U> {
         name: Text,
         address: SocketAddr,
     ) -> Result<Neighbor, AllocError> {
-        let figures = self.upkeep.counted();
+        let figures = self.backend.counted();
         let address = Text::new(format!(in self.alloc; "{address}")?);
         Ok(Neighbor {
             name,
@@ -230,48 +229,55 @@ impl<U: Keeper> Desk<'_, U> {
 
     /// Begins to count the silences. During a first pull nothing that waits is done, so they are counted at once.
     fn begin_counting(&self, instance: &Instance, is_bare: bool) -> Told {
-        let census = Census::new(is_bare);
+        let state_count = StateCount::new(is_bare);
         if self.duties.waits_for_pull() {
             self.told_of(
                 instance,
-                counted(&self.upkeep, self.alloc, instance, census),
+                counted(&self.backend, self.alloc, instance, state_count),
             )
         } else {
-            Told::Counting(census)
+            Told::Counting(state_count)
         }
     }
 
     /// Counts one more stretch of the silences. If none is left, the answer has the figures.
-    pub(super) fn go_on_counting(&self, instance: &Instance, census: Census) -> Told {
+    pub(super) fn resume_count(&self, instance: &Instance, state_count: StateCount) -> Told {
         self.told_of(
             instance,
-            counted_on(&self.upkeep, self.alloc, instance, census),
+            counted_on(&self.backend, self.alloc, instance, state_count),
         )
     }
 
     /// Returns the figures if all silences are counted; otherwise they are counted on later.
-    fn told_of(&self, instance: &Instance, counted: Result<Census, AllocError>) -> Told {
+    fn told_of(&self, instance: &Instance, counted: Result<StateCount, AllocError>) -> Told {
         match counted {
-            Ok(census) if census.is_done() => Told::Reply(self.figures(instance, &census)),
-            Ok(census) => Told::Counting(census),
+            Ok(state_count) if state_count.is_done() => Told::Reply(self.figures(
+                instance,
+                &state_count,
+            )),
+            Ok(state_count) => Told::Counting(state_count),
             Err(_) => Told::Refused(Cause::Memory.refusal()),
         }
     }
 
     /// Returns the member's figures, as a reply.
-    fn figures(&self, instance: &Instance, census: &Census) -> Result<Vec<u8>, AllocError> {
-        let shown = self.shown(instance, census.counts)?;
-        let families = families(self.alloc, self.upkeep.counted(), &shown)?;
-        metrics_reply(self.alloc, &families, census.is_bare)
+    fn figures(
+        &self,
+        instance: &Instance,
+        state_count: &StateCount,
+    ) -> Result<Vec<u8>, AllocError> {
+        let shown = self.shown(instance, state_count.counts)?;
+        let families = families(self.alloc, self.backend.counted(), &shown)?;
+        metrics_reply(self.alloc, &families, state_count.is_bare)
     }
 
     /// Returns what the reply says beside what the member counts.
     fn shown<'b>(
         &self,
         instance: &'b Instance,
-        silences: [u64; 3],
+        silences: SilenceCounts,
     ) -> Result<Shown<'b>, AllocError> {
-        let process = self.upkeep.process();
+        let process = self.backend.process();
         let peers = peers_counted(self.alloc, instance.config(), &self.addresses)?;
         let beside = peers_counted(self.alloc, instance.config(), &self.asked)?;
         Ok(Shown {
@@ -282,7 +288,7 @@ impl<U: Keeper> Desk<'_, U> {
             silences,
             entries: instance.log().len() as u64,
             waiting: self.turns.count(),
-            behind: clock_behind(&self.upkeep, instance.last()),
+            behind: clock_behind(&self.backend, instance.last()),
             is_ready: self.is_ready(),
             ticks: process.ticks,
             resident: process.resident,

@@ -5,25 +5,26 @@ ghost use Rattle.am_http.specs.Requests.{IsUnfinished};
 ghost use Rattle.am_http.specs.Sessions.{Asks, IsCutShort, LacksToAsk, spoken};
 ghost use Rattle.am_http.specs.States.{IsSound, standing_in};
 
+use crate::cause::Cause;
+use crate::request::{Read, read_request};
 use crate::session::output::SessionOutput;
-use crate::session::state::State;
-use crate::{Cause, Read, read_request};
+use crate::session::state::SessionState;
 use std::alloc::Global;
 
 /// Returns what the bytes of a request so far say.
-fn ask(alloc: Global, bytes: Vec<u8>) -> (SessionOutput, State)
+fn ask(alloc: Global, bytes: Vec<u8>) -> (SessionOutput, SessionState)
     requires { 0 < length bytes.items }
     ensures says { Asks bytes.items (spoken result.0) (standing_in result.1) }
     ensures sound { IsSound result.1 }
 {
     match read_request(alloc, &bytes, false) {
-        Read::More => (SessionOutput::nothing(alloc), State::Asking(bytes)),
-        read => (SessionOutput::asked(alloc, read), State::Over(None)),
+        Read::More => (SessionOutput::nothing(alloc), SessionState::Asking(bytes)),
+        read => (SessionOutput::asked(alloc, read), SessionState::Over(None)),
     }
 }
 
 /// Returns what a piece says that follows the bytes of a request so far.
-pub fn ask_on(alloc: Global, bytes: Vec<u8>, piece: &[u8]) -> (SessionOutput, State)
+pub fn ask_on(alloc: Global, bytes: Vec<u8>, piece: &[u8]) -> (SessionOutput, SessionState)
     requires { 0 < length (bytes.items ++ piece.now) }
     ensures says { Asks (bytes.items ++ piece.now) (spoken result.0) (standing_in result.1)
         ⊎ LacksToAsk (spoken result.0) (standing_in result.1) }
@@ -32,7 +33,7 @@ pub fn ask_on(alloc: Global, bytes: Vec<u8>, piece: &[u8]) -> (SessionOutput, St
     let mut bytes = bytes;
     match bytes.extend_from_slice(piece) {
         Ok(()) => ask(alloc, bytes),
-        Err(_) => (SessionOutput::turned_away(alloc), State::Over(None)),
+        Err(_) => (SessionOutput::turned_away(alloc), SessionState::Over(None)),
     }
 }
 

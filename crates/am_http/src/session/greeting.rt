@@ -7,23 +7,23 @@ ghost use Rattle.am_http.specs.States.{IsSound, standing_in};
 
 use crate::session::hearing::hear;
 use crate::session::output::SessionOutput;
-use crate::session::state::{Hearing, State};
+use crate::session::state::{Hearing, SessionState};
 use am_gossip::{Feeder, FrameError, read_hello};
 use std::alloc::Global;
 
 /// Returns the output if there is no memory for a greeting.
-fn unheard(alloc: Global) -> (SessionOutput, State)
+fn unheard(alloc: Global) -> (SessionOutput, SessionState)
     ensures says { LacksToGreet (spoken result.0) (standing_in result.1) }
     ensures sound { IsSound result.1 }
 {
     (
         SessionOutput::failed(alloc, FrameError::Memory),
-        State::Over(None),
+        SessionState::Over(None),
     )
 }
 
 /// Returns what the bytes behind a greeting with this name and length say.
-fn greeted(alloc: Global, name: &str, len: usize, piece: &[u8]) -> (SessionOutput, State)
+fn greeted(alloc: Global, name: &str, len: usize, piece: &[u8]) -> (SessionOutput, SessionState)
     ensures says { Hears name.now len [] piece.now (spoken result.0) (standing_in result.1)
         ⊎ LacksToGreet (spoken result.0) (standing_in result.1) }
     ensures sound { IsSound result.1 }
@@ -40,20 +40,20 @@ fn greeted(alloc: Global, name: &str, len: usize, piece: &[u8]) -> (SessionOutpu
 }
 
 /// Keeps the bytes of a greeting that isn't whole.
-fn wait(alloc: Global, bytes: &[u8]) -> (SessionOutput, State)
+fn wait(alloc: Global, bytes: &[u8]) -> (SessionOutput, SessionState)
     requires { hello_of bytes.now ≡ Ok None }
     ensures says { Greets bytes.now (spoken result.0) (standing_in result.1)
         ⊎ LacksToGreet (spoken result.0) (standing_in result.1) }
     ensures sound { IsSound result.1 }
 {
     match bytes.to_vec(alloc) {
-        Ok(bytes) => (SessionOutput::nothing(alloc), State::Greeting(bytes)),
+        Ok(bytes) => (SessionOutput::nothing(alloc), SessionState::Greeting(bytes)),
         Err(_) => unheard(alloc),
     }
 }
 
 /// Returns what all the bytes of a connection of frames so far say.
-fn greet(alloc: Global, bytes: &[u8]) -> (SessionOutput, State)
+fn greet(alloc: Global, bytes: &[u8]) -> (SessionOutput, SessionState)
     ensures says { Greets bytes.now (spoken result.0) (standing_in result.1)
         ⊎ LacksToGreet (spoken result.0) (standing_in result.1) }
     ensures sound { IsSound result.1 }
@@ -64,12 +64,12 @@ fn greet(alloc: Global, bytes: &[u8]) -> (SessionOutput, State)
             greeted(alloc, name, len, behind)
         }
         Ok(None) => wait(alloc, bytes),
-        Err(e) => (SessionOutput::failed(alloc, e), State::Over(None)),
+        Err(e) => (SessionOutput::failed(alloc, e), SessionState::Over(None)),
     }
 }
 
 /// Returns what a piece says that follows the bytes of a greeting so far. The piece is copied only if the greeting was cut.
-pub fn greet_on(alloc: Global, bytes: Vec<u8>, piece: &[u8]) -> (SessionOutput, State)
+pub fn greet_on(alloc: Global, bytes: Vec<u8>, piece: &[u8]) -> (SessionOutput, SessionState)
     ensures says { Greets (bytes.items ++ piece.now) (spoken result.0) (standing_in result.1)
         ⊎ LacksToGreet (spoken result.0) (standing_in result.1) }
     ensures sound { IsSound result.1 }

@@ -8,7 +8,7 @@ ghost use Rattle.am_http.specs.States.{IsSound, ended_by, standing_in};
 
 use crate::session::fault::SessionFault;
 use crate::session::output::SessionOutput;
-use crate::session::state::{Hearing, State};
+use crate::session::state::{Hearing, SessionState};
 use am_gossip::FrameError;
 use std::alloc::Global;
 
@@ -38,7 +38,7 @@ fn ended_by(fault: Option<FrameError>, lost: &[u8]) -> Option<SessionFault>
 }
 
 /// Returns what a piece of a stream says.
-pub fn hear(alloc: Global, hearing: Hearing, piece: &[u8]) -> (SessionOutput, State)
+pub fn hear(alloc: Global, hearing: Hearing, piece: &[u8]) -> (SessionOutput, SessionState)
     requires { IsSome hearing.feeder }
     ensures says { Hears (string_bytes hearing.name) hearing.count (rest_bytes hearing.feeder) piece.now (spoken
         result.0) (standing_in result.1)
@@ -50,18 +50,18 @@ pub fn hear(alloc: Global, hearing: Hearing, piece: &[u8]) -> (SessionOutput, St
     let Ok(fed) = hearing.feeder.feed(took) else {
         return (
             SessionOutput::failed(alloc, FrameError::Memory),
-            State::Over(Some(hearing.name)),
+            SessionState::Over(Some(hearing.name)),
         );
     };
     hearing.count += took.len();
     match ended_by(fed.fault, lost) {
         None => (
             SessionOutput::heard(fed.frames, None),
-            State::Hearing(hearing),
+            SessionState::Hearing(hearing),
         ),
         fault => (
             SessionOutput::heard(fed.frames, fault),
-            State::Over(Some(hearing.name)),
+            SessionState::Over(Some(hearing.name)),
         ),
     }
 }

@@ -4,8 +4,9 @@ ghost use Rattle.std.specs.Prelude.{◌≡◌, [], None, Some};
 ghost use Rattle.am_http.specs.Sessions.{IsTurnedAway, asked, heard, nothing, spoken};
 ghost use Rattle.am_http.specs.declared.session.fault.SessionFault.TheVariants.{Frame as InFrame};
 
+use crate::cause::Cause;
+use crate::request::Read;
 use crate::session::fault::SessionFault;
-use crate::{Cause, Read};
 use am_gossip::{Frame, FrameError};
 use std::alloc::Global;
 

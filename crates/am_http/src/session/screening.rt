@@ -5,8 +5,8 @@ ghost use Rattle.am_http.specs.Hosts.{IsScreened, texts};
 ghost use Rattle.am_http.specs.Sessions.{Screens};
 ghost use Rattle.am_http.specs.States.{standing_in};
 
-use crate::session::state::State;
-use crate::{Screened, screen};
+use crate::hosts::{Screened, screen};
+use crate::session::state::SessionState;
 use std::alloc::{AllocError, Global};
 
 /// Returns what a piece that follows the bytes of a request so far says about where it comes from.
@@ -26,15 +26,15 @@ fn screen_on(
 /// Returns what is known, with the next piece, about where a connection comes from.
 pub fn screened(
     alloc: Global,
-    state: &State,
+    state: &SessionState,
     piece: &[u8],
     names: &[&str],
 ) -> Result<Screened, AllocError>
     ensures { IfOk result (Screens (standing_in state.now) piece.now (texts names.now)) }
 {
     match state {
-        State::Fresh => Ok(screen(piece, names)),
-        State::Asking(bytes) => screen_on(alloc, bytes.as_slice(), piece, names),
+        SessionState::Fresh => Ok(screen(piece, names)),
+        SessionState::Asking(bytes) => screen_on(alloc, bytes.as_slice(), piece, names),
         _ => Ok(Screened::Known),
     }
 }

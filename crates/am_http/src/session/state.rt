@@ -20,7 +20,7 @@ pub struct Hearing {
 
 /// The state of a session's connection.
 #[derive(Drop)]
-pub enum State {
+pub enum SessionState {
     /// No byte came.
     Fresh,
     /// The bytes of a request so far.
@@ -32,14 +32,14 @@ pub enum State {
     Over(Option<String>),
 }
 
-impl State {
+impl SessionState {
     /// Returns the name in the greeting, if one came.
     pub fn name(&self) -> Option<&str>
         ensures { option_copied result ≡ name_of (standing_in self.now) }
     {
         match self {
-            State::Hearing(hearing) => Some(hearing.name.as_str()),
-            State::Over(Some(name)) => Some(name.as_str()),
+            SessionState::Hearing(hearing) => Some(hearing.name.as_str()),
+            SessionState::Over(Some(name)) => Some(name.as_str()),
             _ => None,
         }
     }
@@ -49,9 +49,9 @@ impl State {
         ensures { result ≡ length (waiting_in (standing_in self.now)) }
     {
         match self {
-            State::Fresh | State::Over(_) => 0,
-            State::Asking(bytes) | State::Greeting(bytes) => bytes.len(),
-            State::Hearing(hearing) => hearing.feeder.waiting(),
+            SessionState::Fresh | SessionState::Over(_) => 0,
+            SessionState::Asking(bytes) | SessionState::Greeting(bytes) => bytes.len(),
+            SessionState::Hearing(hearing) => hearing.feeder.waiting(),
         }
     }
 
@@ -60,8 +60,8 @@ impl State {
         ensures { option_map string_bytes result ≡ name_of (standing_in self) }
     {
         match self {
-            State::Hearing(hearing) => Some(hearing.name),
-            State::Over(name) => name,
+            SessionState::Hearing(hearing) => Some(hearing.name),
+            SessionState::Over(name) => name,
             _ => None,
         }
     }

@@ -1,6 +1,6 @@
 //! Bytes as pairs of hexadecimal digits, and as text on one line, with `\r`, `\n`, `\\` and `\x1f` (docs/CASES.md).
 
-use crate::common::case::{Case, Fault};
+use crate::common::case::{Case, CaseFault};
 
 /// Returns the byte that two hexadecimal digits spell.
 fn byte(pair: &[u8]) -> Option<u8> {
@@ -48,7 +48,7 @@ impl Case {
     /// Appends bytes.
     pub fn append(&self, bytes: &mut Vec<u8>, more: &[u8]) {
         if bytes.extend_from_slice(more).is_err() {
-            self.fail(Fault::Memory);
+            self.fail(CaseFault::Memory);
         }
     }
 

@@ -7,7 +7,7 @@ use std::fmt::{Debug, Display, Write};
 
 /// The reason that a case has no answer.
 #[derive(Clone, Copy, Debug, PartialEq, Eq)]
-pub enum Fault {
+pub enum CaseFault {
     /// The words aren't a case.
     Words,
     /// Memory ran out.
@@ -22,7 +22,7 @@ pub const ROOM: usize = 80_000;
 #[derive(Drop)]
 pub struct Case {
     pub alloc: Global,
-    fault: Cell<Option<Fault>>,
+    fault: Cell<Option<CaseFault>>,
     text: RefCell<String>,
 }
 
@@ -30,7 +30,7 @@ impl Case {
     /// Returns a case without an answer yet.
     pub fn new(alloc: Global) -> Case {
         let made = String::with_capacity(alloc, ROOM);
-        let fault = Cell::new(made.is_err().then_some(Fault::Memory));
+        let fault = Cell::new(made.is_err().then_some(CaseFault::Memory));
         let text = RefCell::new(made.unwrap_or(String::new(alloc)));
         Case { alloc, fault, text }
     }
@@ -40,7 +40,7 @@ impl Case {
         self.text.into_inner()
     }
 
-    pub fn fault(&self) -> Option<Fault> {
+    pub fn fault(&self) -> Option<CaseFault> {
         self.fault.get()
     }
 
@@ -49,7 +49,7 @@ impl Case {
     }
 
     /// Keeps a fault, unless one came before.
-    pub fn fail(&self, fault: Fault) {
+    pub fn fail(&self, fault: CaseFault) {
         self.fault.set(self.fault().or(Some(fault)));
     }
 
@@ -61,10 +61,10 @@ impl Case {
     /// Prints a value.
     pub fn put<T: Display + Drop>(&self, value: T) {
         let Ok(mut text) = self.text.try_borrow_mut() else {
-            return self.fail(Fault::Words);
+            return self.fail(CaseFault::Words);
         };
         if self.is_fine() && write!(text, "{value}").is_err() {
-            self.fail(Fault::Memory);
+            self.fail(CaseFault::Memory);
         }
     }
 
@@ -76,7 +76,7 @@ impl Case {
     /// Returns the value of words, and notes a fault if there is none.
     pub fn wanted<T: Drop>(&self, value: Option<T>) -> Option<T> {
         if value.is_none() {
-            self.fail(Fault::Words);
+            self.fail(CaseFault::Words);
         }
         value
     }
@@ -89,7 +89,7 @@ impl Case {
     /// Returns what was made, and notes a fault if memory ran out.
     pub fn made<T: Drop, E: Drop>(&self, made: Result<T, E>) -> Option<T> {
         if made.is_err() {
-            self.fail(Fault::Memory);
+            self.fail(CaseFault::Memory);
         }
         made.ok()
     }
@@ -116,7 +116,7 @@ impl Case {
     /// Appends a value to a list.
     pub fn push<T: Drop>(&self, list: &mut Vec<T>, value: T) {
         if list.push(value).is_err() {
-            self.fail(Fault::Memory);
+            self.fail(CaseFault::Memory);
         }
     }
 

@@ -3,7 +3,7 @@
 use crate::common::{Case, cut, first};
 use crate::parts::messages;
 use am_api_status::{call_of, resource_of};
-use am_metrics::{Family, Kind, Label, Number, Sample, write_families};
+use am_metrics::{Family, Label, MetricType, Number, Sample, write_families};
 
 /// The names of labels, in their order.
 const LABELS: [&str; 3] = ["a", "b", "c"];
@@ -29,11 +29,11 @@ fn itself(case: &Case, method: &str, target: &str) {
 }
 
 /// Returns the kind that a word names.
-fn kind_of(word: &str) -> Option<Kind> {
+fn kind_of(word: &str) -> Option<MetricType> {
     match word {
-        "counter" => Some(Kind::Counter),
-        "gauge" => Some(Kind::Gauge),
-        "histogram" => Some(Kind::Histogram),
+        "counter" => Some(MetricType::Counter),
+        "gauge" => Some(MetricType::Gauge),
+        "histogram" => Some(MetricType::Histogram),
         _ => None,
     }
 }
@@ -77,7 +77,7 @@ fn figure(case: &Case, rest: &str) {
     let mut samples = Vec::new(case.alloc);
     case.push(&mut samples, sample_of(case, number, values.trim_start()));
     let mut families = Vec::new(case.alloc);
-    let kind = case.or(kind_of(kind), Kind::Gauge);
+    let kind = case.or(kind_of(kind), MetricType::Gauge);
     case.push(&mut families, family_of(kind, samples));
     given!(text = case.made(write_families(case.alloc, &families)));
     case.put("[");
@@ -86,7 +86,7 @@ fn figure(case: &Case, rest: &str) {
 }
 
 /// Returns the family of these figures.
-fn family_of(kind: Kind, samples: Vec<Sample>) -> Family {
+fn family_of(kind: MetricType, samples: Vec<Sample>) -> Family {
     Family {
         name: "up",
         help: "A \\ and a \n.",

@@ -1,6 +1,6 @@
 //! Frames as they are read, in any pieces, and as they are made and written; and sessions, piece by piece.
 
-use crate::common::{Brittle, Call, Case, Cut, Fault, Pieces, Spelled, cut, first};
+use crate::common::{Brittle, Call, Case, CaseFault, Cut, Pieces, Spelled, cut, first};
 use crate::parts::gossip;
 use crate::parts::requests::print_read;
 use am_gossip::{
@@ -165,7 +165,7 @@ fn print_said(case: &Case, said: &SessionOutput) {
         mark = ", ";
     }
     match said.fault {
-        Some(SessionFault::Frame(FrameError::Memory)) => case.fail(Fault::Memory),
+        Some(SessionFault::Frame(FrameError::Memory)) => case.fail(CaseFault::Memory),
         Some(fault) => put!(case; mark, ?fault),
         None if mark.is_empty() => case.put("nothing"),
         None => {}

@@ -3,9 +3,9 @@
 use crate::common::{Case, cut};
 use crate::parts::maps;
 use am_gossip::StateKey;
-use am_lzw::{LzwError, unpack};
 use am_memberlist::{
-    AnswerError, Said, read_message, request_text, row_in, states_text, unpack_answer,
+    AnswerError, LzwError, Said, read_message, request_text, row_in, states_text, unpack,
+    unpack_answer,
 };
 
 /// The maximum number of bytes that an answer is unpacked to.

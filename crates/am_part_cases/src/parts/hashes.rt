@@ -2,7 +2,7 @@
 
 use crate::common::Case;
 use crate::parts::plans;
-use am_alert_hash::{alert_hash, xxh64};
+use am_api_decisions::{alert_hash, xxh64};
 use am_matcher::Labels;
 
 /// Answers cases of hashes: `xxh64 BYTES` and `alert-hash LABEL ..`.

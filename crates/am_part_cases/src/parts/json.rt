@@ -1,6 +1,6 @@
 //! Moments and silences in JSON: how they are shown, written and read, and how silences are posted.
 
-use crate::common::{Case, Fault, Printed, Spelled, first};
+use crate::common::{Case, CaseFault, Printed, Spelled, first};
 use crate::parts::snapshots;
 use am_silence::{MeshSilence, State};
 use am_silence_json::laws::reads_again;
@@ -40,7 +40,7 @@ fn json(case: &Case, verb: &str, rest: &str) {
             given!(shown = case.made(cut_to_shown(alloc, &version)));
             say!(case; @shown);
         }
-        _ => case.fail(Fault::Words),
+        _ => case.fail(CaseFault::Words),
     }
 }
 
@@ -66,7 +66,7 @@ impl Spelled for (MeshSilence, State) {
 fn say_read(case: &Case, read: Result<Vec<MeshSilence>, ListError>) {
     match read {
         Ok(silences) => case.say_versions(silences.as_slice()),
-        Err(ListError::Memory) => case.fail(Fault::Memory),
+        Err(ListError::Memory) => case.fail(CaseFault::Memory),
         Err(ListError::BadJson) => say!(case; ?ListError::BadJson, ": bad JSON"),
         Err(ListError::NoList) => say!(case; ?ListError::NoList, ": no list"),
         Err(ListError::Wrong(place, key)) => {

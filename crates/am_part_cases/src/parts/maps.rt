@@ -1,6 +1,6 @@
 //! Held maps of silences, and keepers, which are maps with the moment of their last event.
 
-use crate::common::{Case, Fault, Printed, Spelled, cut, first};
+use crate::common::{Case, CaseFault, Printed, Spelled, cut, first};
 use crate::parts::matchers;
 use am_collect::{Keeper, KeeperError, Step};
 use am_merge::{FromVersionsError, Held};
@@ -42,7 +42,7 @@ fn step(case: &Case, held: &mut Map, text: &str) {
         "pair" => take_pair(case, held, words, case.moment(word)),
         "merge" => merge(case, held, words, case.moment(word)),
         "sweep" => say!(case; held.sweep(case.moment(word)), " went"),
-        _ => case.fail(Fault::Words),
+        _ => case.fail(CaseFault::Words),
     }
 }
 
@@ -73,7 +73,7 @@ fn merge(case: &Case, map: &mut Map, words: &str, now: Moment) {
         Err(error) => {
             say!(case; "MergeError { taken: ", error.taken, " }");
             case.say_held(map);
-            case.fail(Fault::Memory);
+            case.fail(CaseFault::Memory);
         }
     }
 }
@@ -93,7 +93,7 @@ fn say_refusal(case: &Case, refusal: KeeperError) {
     match refusal {
         KeeperError::MomentBack { last } => say!(case; "MomentBack ", @last),
         KeeperError::DuplicateKey => say!(case; "DuplicateKey"),
-        KeeperError::Memory => case.fail(Fault::Memory),
+        KeeperError::Memory => case.fail(CaseFault::Memory),
     }
 }
 
@@ -123,7 +123,7 @@ fn run(case: &Case, keeper: &mut Keeper<MeshSilence>, text: &str) {
     let steps = case.list(text, ", ");
     match keeper.run(&steps) {
         Ok(()) => case.put("done\n"),
-        Err((_, KeeperError::Memory)) => case.fail(Fault::Memory),
+        Err((_, KeeperError::Memory)) => case.fail(CaseFault::Memory),
         Err((place, refusal)) => {
             put!(case; "stops at ", place, ": ");
             say_refusal(case, refusal);
@@ -160,7 +160,7 @@ fn keeps(case: &Case, keeper: &mut Keeper<MeshSilence>, text: &str) {
         ("run", rest) => run(case, keeper, rest),
         ("view", rest) => view(case, keeper, rest),
         ("held", _) => case.say_held(keeper.held()),
-        _ => case.fail(Fault::Words),
+        _ => case.fail(CaseFault::Words),
     }
 }
 

@@ -1,9 +1,9 @@
 //! Decisions in JSON: messages of a webhook, answers, and notices.
 
-use crate::common::{Case, Fault, Printed, Spelled, behind, cut, first};
+use crate::common::{Case, CaseFault, Printed, Spelled, behind, cut, first};
 use crate::parts::json;
-use am_decision_json::{
-    Answer, MessageError, Muted, Why, read_message, read_notice, write_answer, write_logged,
+use am_api_decisions::{
+    DecisionReply, MessageError, Muted, Why, read_message, read_notice, write_answer, write_logged,
 };
 use am_dedup::Reason;
 use am_matcher::Labels;
@@ -23,7 +23,7 @@ pub fn answer(case: &Case, verb: &str, rest: &str) {
         ("page", ("logged", word)) => {
             say_body(case, write_logged(Vec::new(case.alloc), word == "yes"));
         }
-        ("page", _) => case.fail(Fault::Words),
+        ("page", _) => case.fail(CaseFault::Words),
         _ => json::answer(case, verb, rest),
     }
 }
@@ -113,11 +113,11 @@ impl Spelled for Muted {
 }
 
 /// Reads the answer of `page answer WHY group GROUP to r/w/0 every 60 at 10 turn 15 firing 1,2 resolved 3; MUTED; ..`.
-fn answer_of(case: &Case, words: &str) -> Option<Answer> {
+fn answer_of(case: &Case, words: &str) -> Option<DecisionReply> {
     let (head, muted) = cut(words, "; ");
     let reason = why(case, first(head).0)?;
     let receiver = case.receiver(behind(head, " to ", "r/w/0"));
-    Some(Answer {
+    Some(DecisionReply {
         decided_at: write_moment(case.moment(behind(head, " at ", "10"))),
         firing: Hashes::new(case.numbers(behind(head, " firing ", "-"))),
         group_key: case.text(behind(head, " group ", "g")),

@@ -1,6 +1,6 @@
 //! Plans of a post and of an end, and the entry that a notification leaves.
 
-use crate::common::{Case, Fault, Printed, Spelled, behind, cut, first};
+use crate::common::{Case, CaseFault, Printed, Spelled, behind, cut, first};
 use crate::parts::patterns;
 use am_nflog::{Bytes, Hashes, make_entry};
 use am_silence::{
@@ -97,7 +97,7 @@ fn end(case: &Case, rest: &str) {
 fn say_refusal(case: &Case, error: SilenceError) {
     match error {
         SilenceError::Newer { held } => say!(case; "Newer ", @held),
-        SilenceError::Memory => case.fail(Fault::Memory),
+        SilenceError::Memory => case.fail(CaseFault::Memory),
         error => say!(case; ?error),
     }
 }

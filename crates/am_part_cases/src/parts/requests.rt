@@ -1,6 +1,6 @@
 //! Requests, calls, the table of statuses and replies; texts, numbers and lists as words; schedules as they are read.
 
-use crate::common::{Case, Fault, cut, first};
+use crate::common::{Case, CaseFault, cut, first};
 use crate::parts::figures;
 use am_http::{Cause, Read, Resource, call_of, filter_texts, out_of_memory, read_request, reply};
 use am_nflog::HashIter;
@@ -47,7 +47,7 @@ pub fn print_read(case: &Case, read: &Read, has_parts: bool) {
             case.put("]");
         }
         Read::Whole(_) => case.put("whole"),
-        Read::Refused(refusal) if refusal.status == 500 => case.fail(Fault::Memory),
+        Read::Refused(refusal) if refusal.status == 500 => case.fail(CaseFault::Memory),
         Read::Refused(refusal) => put!(case; refusal.status, " ", refusal.text),
     }
 }
@@ -135,7 +135,7 @@ fn schedule(case: &Case, text: &str) {
             put!(case; schedule.names.as_slice().len(), " members, ");
             say!(case; schedule.lines.as_slice().len(), " lines");
         }
-        Err(error) if error.kind == FaultKind::Memory => case.fail(Fault::Memory),
+        Err(error) if error.kind == FaultKind::Memory => case.fail(CaseFault::Memory),
         Err(error) => say!(case; ?error.kind, " ", error.line),
     }
 }

@@ -1,9 +1,9 @@
 //! Sums of messages under keys, and sealed frames.
 
-use crate::common::{Case, Fault, cut};
+use crate::common::{Case, CaseFault, cut};
 use crate::parts::frames::print_frame;
 use crate::parts::requests;
-use am_seal::{
+use am_peer_auth::{
     CHALLENGE, Lock, Opened, SealError, Sequence, Waiting, hmac_sha256, open_piece, sum_of,
 };
 
@@ -37,7 +37,7 @@ fn place<'a>(case: &Case, rest: &'a str) -> Option<(Sequence, &'a str)> {
 fn seal(case: &Case, rest: &str) {
     let (secret, rest) = cut(rest, "|");
     let Some((place, rest)) = place(case, rest) else {
-        return case.fail(Fault::Words);
+        return case.fail(CaseFault::Words);
     };
     let (sender, rest) = cut(rest, "|");
     let (addressee, text) = cut(rest, "|");
@@ -56,7 +56,7 @@ fn seal(case: &Case, rest: &str) {
 fn unseal(case: &Case, rest: &str) {
     let (secret, rest) = cut(rest, "|");
     let Some((mut place, rest)) = place(case, rest) else {
-        return case.fail(Fault::Words);
+        return case.fail(CaseFault::Words);
     };
     let (name, rest) = cut(rest, "|");
     let (sender, pieces) = cut(rest, "|");
@@ -88,7 +88,7 @@ fn say_opened(case: &Case, opened: &Opened, waiting: usize) {
         case.put(", ");
     }
     match opened.fault {
-        Some(SealError::Memory) => case.fail(Fault::Memory),
+        Some(SealError::Memory) => case.fail(CaseFault::Memory),
         Some(fault) => say!(case; ?fault),
         None => say!(case; waiting, " wait"),
     }

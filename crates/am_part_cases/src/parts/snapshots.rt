@@ -1,15 +1,14 @@
 //! Rows that are saved, loaded, taken, folded and shown, and bytes that are sent: calls over readers and writers.
 
-use crate::common::{Brittle, Call, Case, Cut, Fault, Pieces, behind, cut, first};
+use crate::common::{Brittle, Call, Case, CaseFault, Cut, Pieces, behind, cut, first};
 use am_merge::Held;
 use am_nflog::MeshEntry;
 use am_report::write_view;
 use am_silence::MeshSilence;
 use am_snapshot::laws::what_is_saved_is_loaded;
 use am_snapshot::{SnapshotError, fold, load, load_within, save, take_row};
-use am_streams::send;
 use am_version_order::{Moment, Version};
-use am_wire::{MOST_MESSAGE_BYTES, Message, Unknown};
+use am_wire::{MOST_MESSAGE_BYTES, Message, Unknown, send};
 use std::alloc::Global;
 
 /// The verbs of calls.
@@ -19,7 +18,7 @@ const VERBS: [&str; 7] = ["load", "take_row", "save", "copy", "fold", "show", "s
 /// HOW: TEXT`. Rows are read without their unknown fields, unless HOW has the phrase `with unknown fields`.
 pub fn answer(case: &Case, verb: &str, rest: &str) {
     if !VERBS.contains(&verb) {
-        return case.fail(Fault::Words);
+        return case.fail(CaseFault::Words);
     }
     let (how, text) = rest.split_once(": ").unwrap_or(first(rest));
     let (of, row) = match verb {
@@ -69,7 +68,7 @@ impl Call for Calling<'_> {
         match self.done(case.alloc, reader, writer) {
             Err(SnapshotError::Read { at }) => return Some(("Read", at as u64)),
             Err(SnapshotError::Write { written }) => return Some(("Write", written)),
-            Err(SnapshotError::Memory) => case.fail(Fault::Memory),
+            Err(SnapshotError::Memory) => case.fail(CaseFault::Memory),
             other => case.debug(other),
         }
         None

@@ -1,7 +1,7 @@
 //! Moments and intervals; varints, fields, timestamps and rows, also over readers that give few bytes or fail.
 
 use crate::common::{
-    Brittle, Call, Case, Cut, Fault, Pieces, Printed, behind, cut, first, moment_of, phrase,
+    Brittle, Call, Case, CaseFault, Cut, Pieces, Printed, behind, cut, first, moment_of, phrase,
 };
 use crate::parts::versions;
 use am_silence::MeshSilence;
@@ -141,7 +141,7 @@ impl Call for Reading {
                     return Some(("Read", at as u64));
                 }
                 Err(RowFault::Memory) => {
-                    case.fail(Fault::Memory);
+                    case.fail(CaseFault::Memory);
                     break;
                 }
                 Err(fault) => {
@@ -176,7 +176,7 @@ fn says_next<M: Message + Printed, R: Read>(
             return true;
         }
         Ok(None) => case.put("the end\n"),
-        Err(RowFault::Memory) => case.fail(Fault::Memory),
+        Err(RowFault::Memory) => case.fail(CaseFault::Memory),
         Err(fault) => say!(case; ?fault),
     }
     false

@@ -12,7 +12,7 @@ ghost use Rattle.am_report.specs.Less.{less_word};
 use crate::groups::{greatest_of, next_below};
 use crate::json_lines::groups::{add_behind, add_greatest, add_missing};
 use crate::json_lines::values::InJson;
-use crate::side::Side;
+use crate::merge_cursor::MergeCursor;
 use am_silence_json::tokens::add;
 use am_version_order::{Moment, Version};
 use json::{Token, Writer};
@@ -22,7 +22,7 @@ use std::alloc::{AllocError, Global};
 fn add_others<V: InJson>(
     alloc: Global,
     out: &mut Writer,
-    sides: &[Side<'_, V>],
+    sides: &[MergeCursor<'_, V>],
     greatest: &V,
     now: Moment,
 ) -> Result<(), AllocError>
@@ -43,7 +43,7 @@ fn add_others<V: InJson>(
 fn add_groups<V: InJson>(
     alloc: Global,
     out: &mut Writer,
-    sides: &[Side<'_, V>],
+    sides: &[MergeCursor<'_, V>],
     greatest: &V,
     now: Moment,
 ) -> Result<(), AllocError>
@@ -65,7 +65,7 @@ fn add_groups<V: InJson>(
 pub fn add_difference<V: InJson>(
     alloc: Global,
     out: &mut Writer,
-    sides: &[Side<'_, V>],
+    sides: &[MergeCursor<'_, V>],
     now: Moment,
 ) -> Result<(), AllocError>
     ensures before { OnOk result (out.new.before ≡ out.old.before) }

@@ -11,8 +11,8 @@ ghost use Rattle.am_report.specs.Less.{less_word};
 use crate::json_lines::sources::add_sources;
 use crate::json_lines::values::InJson;
 use crate::less::less_by;
+use crate::merge_cursor::MergeCursor;
 use crate::names::{is_held, nothing};
-use crate::side::Side;
 use am_silence_json::tokens::{add, add_text};
 use am_version_order::{Moment, Version};
 use json::{Token, Writer};
@@ -36,7 +36,7 @@ fn add_version<V: InJson>(
 pub fn add_greatest<V: InJson>(
     alloc: Global,
     out: &mut Writer,
-    sides: &[Side<'_, V>],
+    sides: &[MergeCursor<'_, V>],
     greatest: &V,
     now: Moment,
 ) -> Result<(), AllocError>
@@ -55,7 +55,7 @@ pub fn add_greatest<V: InJson>(
 pub fn add_behind<V: InJson>(
     alloc: Global,
     out: &mut Writer,
-    sides: &[Side<'_, V>],
+    sides: &[MergeCursor<'_, V>],
     version: &V,
     greatest: &V,
     now: Moment,
@@ -75,7 +75,10 @@ pub fn add_behind<V: InJson>(
 }
 
 /// Adds the group of the sources that hold nothing, where there are some.
-pub fn add_missing<V: Version>(out: &mut Writer, sides: &[Side<'_, V>]) -> Result<(), AllocError>
+pub fn add_missing<V: Version>(
+    out: &mut Writer,
+    sides: &[MergeCursor<'_, V>],
+) -> Result<(), AllocError>
     ensures { OnOk result (Adds out.old out.new (row_tokens (missing_group V.seen (map holding_of sides.now)))) }
 {
     let nothing = nothing(sides);

@@ -11,7 +11,7 @@ ghost use Rattle.am_silence_json.specs.Tokens.{Adds, data_tokens, row_tokens};
 ghost use Rattle.am_report.specs.Json.Groups.{sources_data};
 
 use crate::differences::is_same;
-use crate::side::Side;
+use crate::merge_cursor::MergeCursor;
 use am_silence_json::tokens::add;
 use am_version_order::Version;
 use json::{Token, Writer};
@@ -20,14 +20,14 @@ use std::alloc::AllocError;
 /// Adds the name of a source that holds this there.
 fn add_holder<V: Version>(
     out: &mut Writer,
-    side: &Side<'_, V>,
+    cursor: &MergeCursor<'_, V>,
     here: Option<&V>,
 ) -> Result<(), AllocError>
     ensures { OnOk result (Adds out.old out.new
-        (row_tokens (if is_same V.seen side.now.here (option_copied here.entry) then string side.now.name ∷ [] else []))) }
+        (row_tokens (if is_same V.seen cursor.now.here (option_copied here.entry) then string cursor.now.name ∷ [] else []))) }
 {
-    if is_same(side.here(), here) {
-        add(out, Token::String(side.name()))?;
+    if is_same(cursor.here(), here) {
+        add(out, Token::String(cursor.name()))?;
     }
     Ok(())
 }
@@ -35,14 +35,14 @@ fn add_holder<V: Version>(
 /// Adds the names of the sources that hold this there, without brackets.
 fn add_holders<V: Version>(
     out: &mut Writer,
-    sides: &[Side<'_, V>],
+    sides: &[MergeCursor<'_, V>],
     here: Option<&V>,
 ) -> Result<(), AllocError>
     ensures { OnOk result (Adds out.old out.new
         (row_tokens (map string (holders V.seen (option_copied here.entry) (map holding_of sides.now))))) }
 {
-    for side in sides {
-        add_holder(out, side, here)?;
+    for cursor in sides {
+        add_holder(out, cursor, here)?;
     }
     Ok(())
 }
@@ -50,7 +50,7 @@ fn add_holders<V: Version>(
 /// Adds the member that lists the sources that hold this there.
 pub fn add_sources<V: Version>(
     out: &mut Writer,
-    sides: &[Side<'_, V>],
+    sides: &[MergeCursor<'_, V>],
     here: Option<&V>,
 ) -> Result<(), AllocError>
     ensures { OnOk result (Adds out.old out.new (tokens.key (codes "sources")

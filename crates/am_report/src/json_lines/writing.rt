@@ -12,12 +12,12 @@ use crate::differences::next_difference;
 use crate::json_lines::difference::add_difference;
 use crate::json_lines::tokens::line_of;
 use crate::json_lines::values::InJson;
+use crate::merge_cursor::MergeCursor;
 use crate::replica::{Replica, sides_of};
-use crate::side::Side;
 use am_silence_json::tokens::add;
 use am_snapshot::SnapshotError;
-use am_streams::send;
 use am_version_order::Moment;
+use am_wire::send;
 use json::{Token, Writer};
 use std::alloc::{AllocError, Global};
 use std::io::Write;
@@ -26,11 +26,11 @@ use std::io::Write;
 fn add_left<V: InJson>(
     alloc: Global,
     out: &mut Writer,
-    sides: &mut [Side<'_, V>],
+    sides: &mut [MergeCursor<'_, V>],
     compared: Compared,
     now: Moment,
 ) -> Result<bool, AllocError>
-    requires order { All (λ side. IsMap V.seen V.Key.cmp side.left) sides.old }
+    requires order { All (λ cursor. IsMap V.seen V.Key.cmp cursor.left) sides.old }
     ensures { IfOk result (λ found.
         AreAdded V.seen V.Key.cmp V.key_data V.named (V.value now) (less_word V.seen V.unknown_of V.known_of) compared now (map rest_of sides.old) found out.old out.new) }
 {

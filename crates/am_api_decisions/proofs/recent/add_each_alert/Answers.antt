@@ -1,5 +1,5 @@
 use Rattle.std.proofs.Common.{arith}
-use Rattle.am_decision_json.proofs.Adding.{row_more}
+use Rattle.am_api_decisions.proofs.Adding.{row_more}
 use Rattle.am_api_decisions.specs.Recent.{alert_data}
 use Rattle.am_api_decisions.proofs.recent.add_each_alert.Goals as goal
 

@@ -1,7 +1,7 @@
 use Rattle.std.proofs.Common.{refl}
 use Rattle.am_api_silences.specs.Answers.{IsErrorBytes}
 use Rattle.am_api_silences.specs.Replies.{Says}
-use Rattle.am_api_silences.specs.declared.replies.ReplyBytes.TheVariants.{Fixed}
+use Rattle.am_api_silences.specs.declared.replies.ResponseBytes.TheVariants.{Fixed}
 use Rattle.am_api_silences.proofs.Beginning.{whole_makes}
 use Rattle.am_api_silences.proofs.Telling.{says_clock, says_memory}
 use Rattle.am_api_silences.proofs.answering.stopped.Goals as goal

@@ -1,7 +1,7 @@
 use Rattle.std.proofs.Common.{sym, ap, ◌∙◌, subst, map}
 use Rattle.std.specs.Prelude.{All}
 use Rattle.std.proofs.lemmas.List.Elements.{All-nil}
-use Rattle.am_steps.specs.Contents.{IsValue, delivery_of}
+use Rattle.am_cluster.specs.Contents.{IsValue, delivery_of}
 use Rattle.am_cluster.proofs.Acted.{nothing_brought}
 use Rattle.am_cluster.proofs.events.brought_by.Goals as goal
 

@@ -3,8 +3,8 @@ use Rattle.std.proofs.Common.{◌≡◌, [], true}
 use Rattle.std.specs.Prelude.{All}
 use Rattle.am_instance.specs.Replies.{IsNothing}
 use Rattle.am_instance.specs.Steps.{collects}
-use Rattle.am_steps.specs.BothStates.{log_state, silence_state}
-use Rattle.am_steps.specs.Recorded.{AreValues}
+use Rattle.am_cluster.specs.BothStates.{log_state, silence_state}
+use Rattle.am_cluster.specs.Recorded.{AreValues}
 use Rattle.am_cluster.specs.declared.recording.Kind.TheVariants as kinds
 use Rattle.am_cluster.specs.Recording.{brings_or_makes}
 use Rattle.am_cluster.specs.Ties.{CanFly}

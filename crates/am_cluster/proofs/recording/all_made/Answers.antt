@@ -1,6 +1,6 @@
 use Rattle.std.proofs.Common.{sym, ◌∙◌}
 use Rattle.am_instance.specs.Replies.{listed}
-use Rattle.am_steps.proofs.RoundTrip.{silences_parted, entries_parted}
+use Rattle.am_cluster.proofs.RoundTrip.{silences_parted, entries_parted}
 use Rattle.am_cluster.proofs.recording.all_made.Goals as goal
 
 pub returns-clause-silences : goal.returns-clause-silences

@@ -1,7 +1,7 @@
 use Rattle.am_wire.specs.declared.unknown.Unknown.TheVariants.{Drop}
 use Rattle.std.proofs.Common.{◌≡◌, map, take}
-use Rattle.am_steps.specs.BothStates.{log_state, silence_state}
-use Rattle.am_steps.specs.Recorded.{sent_in}
+use Rattle.am_cluster.specs.BothStates.{log_state, silence_state}
+use Rattle.am_cluster.specs.Recorded.{sent_in}
 use Rattle.am_cluster.proofs.sending.sent_in.Given as goal
 
 abbrev pub invariant-loop-frame : goal.invariant-loop-frame

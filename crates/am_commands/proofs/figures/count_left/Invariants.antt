@@ -7,7 +7,7 @@ use Rattle.am_commands.proofs.figures.count_left.Given as goal
 -- the differences so far are counted
 abbrev pub invariant-loop-found : goal.invariant-loop-found
 invariant-loop-found g l = record {
-  order : All (λ side. IsMap g.V.Version.seen g.V.Key.Ord.cmp side.left) l.sides;
+  order : All (λ cursor. IsMap g.V.Version.seen g.V.Key.Ord.cmp cursor.left) l.sides;
   told : IsCounted g.V.Version.seen g.V.Key.Ord.cmp l.compared l.now l.fn.sides l.sides l.found;
 }
 

@@ -1,8 +1,8 @@
 use Rattle.std.proofs.Common.{Result, Err, ◌↔◌, ◌≡◌, ◌≤◌, ◌∷◌, List, ℕ, length, false, Contains, rules, refl, ap, ◌∙◌, subst, insert}
 use Rattle.std.proofs.lemmas.Result.{err_from_is_err_and}
 use Rattle.std.specs.Result.{IsErrAnd}
-use Rattle.am_refusals.specs.declared.error.ConfigError.{ConfigError}
-use Rattle.am_refusals.specs.declared.error.ConfigError.TheVariants.{SameName, Memory}
+use Rattle.am_gossip.specs.declared.refusals.ConfigError.{ConfigError}
+use Rattle.am_gossip.specs.declared.refusals.ConfigError.TheVariants.{SameName, Memory}
 use Rattle.am_instance.specs.Configs.{AreInOrder, HasTwice}
 use Rattle.am_instance.proofs.Names.{none_twice, put_among, put_at, twice_more, twice_there}
 use Rattle.am_instance.proofs.config.in_order.Goals as goal

@@ -1,6 +1,6 @@
 use Rattle.std.proofs.Common.{◌≡◌, Ok, ◌∙◌, subst, string_bytes}
 use Rattle.am_schedule.specs.Schedules.{schedule_of}
-use Rattle.am_streams.specs.Writing.{WritesPart}
+use Rattle.am_wire.specs.OutputWriting.{WritesPart}
 use Rattle.am_replay.proofs.Stopping.{stops_writing}
 use Rattle.am_replay.proofs.replay.run_shown.Goals as goal
 

@@ -12,5 +12,5 @@ append_others-requires g c = sym c.in-Some.ensures
 
 pub returns : goal.returns
 returns g c =
-    difference_is g.V.Version.seen g.V.ReportLine.begins (g.V.ReportLine.told c.args.manner.now) (g.V.ReportLine.more c.args.manner.now) (less_word g.V.Version.seen g.V.WithUnknown.unknown_of g.V.WithUnknown.known_of) (map holding_of c.args.sides.now) c.in-Some.greatest.now _ _ _ _
+    difference_is g.V.Version.seen g.V.ReportLine.begins (g.V.ReportLine.told c.args.format.now) (g.V.ReportLine.more c.args.format.now) (less_word g.V.Version.seen g.V.WithUnknown.unknown_of g.V.WithUnknown.known_of) (map holding_of c.args.sides.now) c.in-Some.greatest.now _ _ _ _
     c.in-Some.ensures c.in_ok-append_greatest.ensures c.in_ok-append_others.ensures (rw c.key.ensures at c.in_ok-append_missing.ensures)

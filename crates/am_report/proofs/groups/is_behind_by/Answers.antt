@@ -1,5 +1,5 @@
 use Rattle.std.proofs.Common.{rules}
-use Rattle.am_report.specs.declared.part.Part.TheVariants.{Expiry, Bytes}
+use Rattle.am_report.specs.declared.diff_field.DiffField.TheVariants.{Expiry, Bytes}
 use Rattle.am_report.proofs.Parts.{less_as}
 use Rattle.am_report.proofs.groups.is_behind_by.Goals as goal
 

@@ -6,6 +6,6 @@ use Rattle.am_report.specs.Sources.{holding_of}
 use Rattle.am_report.proofs.names.is_held.Given as goal
 
 -- those before don't hold it
-abbrev pub invariant-loop-side : goal.invariant-loop-side
-invariant-loop-side g l =
-    list_any (λ holding. is_same g.V.Version.seen holding.here (option_copied l.here)) (map holding_of (take l.side-index l.sides)) ≡ false
+abbrev pub invariant-loop-cursor : goal.invariant-loop-cursor
+invariant-loop-cursor g l =
+    list_any (λ holding. is_same g.V.Version.seen holding.here (option_copied l.here)) (map holding_of (take l.cursor-index l.sides)) ≡ false

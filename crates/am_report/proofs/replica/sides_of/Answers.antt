@@ -1,6 +1,6 @@
 use Rattle.std.proofs.lemmas.List.Elements.{All-push}
 use Rattle.am_merge.specs.Maps.{IsMap}
-use Rattle.am_report.specs.Sources.{Side}
+use Rattle.am_report.specs.Sources.{MergeCursor}
 use Rattle.am_report.proofs.Loops.{sides_more}
 use Rattle.am_report.proofs.replica.sides_of.Goals as goal
 
@@ -12,5 +12,5 @@ loop-replica-preserved g c =
       start = rw (c.in_ok-push.ensures.items, c.new.ensures.start, c.name.ensures, c.held.ensures) more;
       order =
           rw c.in_ok-push.ensures.items
-          (All-push (λ (side : Side _). IsMap g.V.Version.seen g.V.Key.Ord.cmp side.left) _ _ so_far.order (rw c.new.ensures.start c.new.ensures.order));
+          (All-push (λ (cursor : MergeCursor _). IsMap g.V.Version.seen g.V.Key.Ord.cmp cursor.left) _ _ so_far.order (rw c.new.ensures.start c.new.ensures.order));
     }

@@ -7,5 +7,5 @@ use Rattle.am_report.proofs.replica.sides_of.Given as goal
 abbrev pub invariant-loop-replica : goal.invariant-loop-replica
 invariant-loop-replica g l = record {
   start : l.sides.items ≡ map side_of (take l.replica-index l.replicas);
-  order : All (λ side. IsMap g.V.Version.seen g.V.Key.Ord.cmp side.left) l.sides.items;
+  order : All (λ cursor. IsMap g.V.Version.seen g.V.Key.Ord.cmp cursor.left) l.sides.items;
 }

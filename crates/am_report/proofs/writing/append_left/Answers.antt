@@ -15,5 +15,5 @@ loop-compared-preserved g c = record {
 pub returns : goal.returns
 returns g c =
     let keys = key_order g.met.V.Key.Ord.total g.met.V.Version.exact_keys in
-    all_lines g.V.Version.seen g.V.Key.Ord.cmp _ _ g.V.ReportLine.begins (g.V.ReportLine.told c.args.manner.now) (g.V.ReportLine.more c.args.manner.now) (less_word g.V.Version.seen g.V.WithUnknown.unknown_of g.V.WithUnknown.known_of) _ _ _ _
+    all_lines g.V.Version.seen g.V.Key.Ord.cmp _ _ g.V.ReportLine.begins (g.V.ReportLine.told c.args.format.now) (g.V.ReportLine.more c.args.format.now) (less_word g.V.Version.seen g.V.WithUnknown.unknown_of g.V.WithUnknown.known_of) _ _ _ _
     (told_all g.V.Version.seen g.V.Key.Ord.cmp _ _ _ keys _ _ _ _ _ c.loop-compared.invariant.told (c.next_difference.ensures.none c.loop-compared-test.false))

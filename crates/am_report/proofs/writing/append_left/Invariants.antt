@@ -10,8 +10,8 @@ use Rattle.am_report.proofs.writing.append_left.Given as goal
 -- the lines of the differences so far are appended
 abbrev pub invariant-loop-compared : goal.invariant-loop-compared
 invariant-loop-compared g l = record {
-  order : All (λ side. IsMap g.V.Version.seen g.V.Key.Ord.cmp side.left) l.sides;
-  told : AreTold g.V.Version.seen g.V.Key.Ord.cmp l.compared l.manner.moment (difference_lines g.V.Version.seen g.V.ReportLine.begins (g.V.ReportLine.told l.manner) (g.V.ReportLine.more l.manner) (less_word g.V.Version.seen g.V.WithUnknown.unknown_of g.V.WithUnknown.known_of)) l.fn.sides l.sides (string_bytes l.fn.out) (string_bytes l.out) l.found;
+  order : All (λ cursor. IsMap g.V.Version.seen g.V.Key.Ord.cmp cursor.left) l.sides;
+  told : AreTold g.V.Version.seen g.V.Key.Ord.cmp l.compared l.format.moment (difference_lines g.V.Version.seen g.V.ReportLine.begins (g.V.ReportLine.told l.format) (g.V.ReportLine.more l.format) (less_word g.V.Version.seen g.V.WithUnknown.unknown_of g.V.WithUnknown.known_of)) l.fn.sides l.sides (string_bytes l.fn.out) (string_bytes l.out) l.found;
 }
 
 abbrev pub decreases-loop-compared : goal.decreases-loop-compared

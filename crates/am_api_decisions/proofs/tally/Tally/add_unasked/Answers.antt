@@ -1,7 +1,7 @@
 use Rattle.std.proofs.Common.{◌≡◌, List, [], ◌∷◌, map, refl, sym, ap, ◌∙◌, length, arith}
 use Rattle.std.specs.Vec.Iter.{into_iter_items}
 use Rattle.std.proofs.lemmas.List.{nil_from_length}
-use Rattle.am_decision_json.specs.declared.message.Alert.{Alert}
+use Rattle.am_api_decisions.specs.declared.message.Alert.{Alert}
 use Rattle.am_api_decisions.specs.Asking.{AskedAlert, Counted, counted_with, unasked}
 use Rattle.am_api_decisions.proofs.AskedMore.{counted_more, counted_none}
 use Rattle.am_api_decisions.proofs.tally.Tally.add_unasked.Goals as goal

@@ -1,7 +1,7 @@
 use Rattle.am_wire.specs.declared.unknown.Unknown.TheVariants.{Drop}
 use Rattle.std.proofs.Common.{◌≡◌, sym, ◌∙◌, subst, length, Some, arith, slice_get}
-use Rattle.am_steps.specs.BothStates.{log_state, silence_state}
-use Rattle.am_steps.specs.Recorded.{HasSource}
+use Rattle.am_cluster.specs.BothStates.{log_state, silence_state}
+use Rattle.am_cluster.specs.Recorded.{HasSource}
 use Rattle.am_cluster.specs.Ties.{IsWorld}
 use Rattle.am_cluster.proofs.Places.{set_length}
 use Rattle.am_cluster.proofs.Lived.{found_at, inside}

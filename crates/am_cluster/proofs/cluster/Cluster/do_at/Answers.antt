@@ -1,7 +1,7 @@
 use Rattle.std.proofs.Common.{◌≡◌, Err, Some, inl, inr, refl, sym, ap, ◌∙◌, subst, length}
 use Rattle.std.proofs.lemmas.Result.{err_from_is_err_and}
 use Rattle.std.specs.Prelude.{None}
-use Rattle.am_steps.specs.Events.{IsSound}
+use Rattle.am_cluster.specs.LineEvents.{IsSound}
 use Rattle.am_cluster.specs.Refusals.{refused_anyway}
 use Rattle.am_cluster.specs.Steps.{Fits}
 use Rattle.am_cluster.proofs.Refusing.{can_begin, can_have, late_cause, stranger_refused}

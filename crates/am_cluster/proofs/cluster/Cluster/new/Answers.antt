@@ -1,7 +1,7 @@
 use Rattle.std.proofs.Common.{◌≡◌, ◌∙◌, arith}
 use Rattle.std.proofs.lemmas.List.Sorted.{IsPermutation-trans}
 use Rattle.std.proofs.lemmas.Result.{err_from_is_err_and}
-use Rattle.am_refusals.specs.declared.error.ConfigError.TheVariants.{EmptyName, LongName, SameName, Memory}
+use Rattle.am_gossip.specs.declared.refusals.ConfigError.TheVariants.{EmptyName, LongName, SameName, Memory}
 use Rattle.am_cluster.proofs.Born.{empty_told, err_moved, long_told, newborns_are, no_error, none_unborn, other_error, same_told, to_front, twice_long, unborn}
 use Rattle.am_cluster.proofs.cluster.Cluster.new.Goals as goal
 

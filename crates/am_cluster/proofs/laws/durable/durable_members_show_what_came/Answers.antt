@@ -1,4 +1,4 @@
-use Rattle.am_steps.proofs.States.{of_log as log_facts, of_silences as silence_facts}
+use Rattle.am_cluster.proofs.States.{of_log as log_facts, of_silences as silence_facts}
 use Rattle.am_cluster.proofs.DurableShown.{show_what_came}
 use Rattle.am_cluster.proofs.OneOfBoth.{of_log, of_silences}
 use Rattle.am_cluster.proofs.laws.durable.durable_members_show_what_came.Goals as goal

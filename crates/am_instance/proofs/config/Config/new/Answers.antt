@@ -1,6 +1,6 @@
 use Rattle.std.proofs.Common.{◌≡◌, ◌∷◌, Result, Err, ap}
 use Rattle.std.proofs.lemmas.Result.{err_from_is_err_and}
-use Rattle.am_refusals.specs.declared.error.ConfigError.{ConfigError}
+use Rattle.am_gossip.specs.declared.refusals.ConfigError.{ConfigError}
 use Rattle.am_instance.proofs.Names.{members_of}
 use Rattle.am_instance.proofs.config.Config.new.Goals as goal
 

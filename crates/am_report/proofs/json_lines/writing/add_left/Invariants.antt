@@ -11,7 +11,7 @@ use Rattle.am_report.proofs.json_lines.writing.add_left.Given as goal
 -- the differences so far are added
 abbrev pub invariant-loop-alloc : goal.invariant-loop-alloc
 invariant-loop-alloc g l = record {
-  order : All (λ side. IsMap g.V.Version.seen g.V.Key.Ord.cmp side.left) l.sides;
+  order : All (λ cursor. IsMap g.V.Version.seen g.V.Key.Ord.cmp cursor.left) l.sides;
   before : l.out.before ≡ l.fn.out.before;
   told : AreTold g.V.Version.seen g.V.Key.Ord.cmp l.compared l.now (λ d. data_tokens (difference_data g.V.Version.seen g.V.InJson.named (g.V.InJson.value l.now) (less_word g.V.Version.seen g.V.WithUnknown.unknown_of g.V.WithUnknown.known_of) g.V.InJson.key_data d)) l.fn.sides l.sides l.fn.out.tokens l.out.tokens l.found;
 }

@@ -1,2 +1,0 @@
-pub mod Xxh64
-pub mod Alerts

@@ -1,0 +1,29 @@
+-- What was read of a row, as the lemmas of am_snapshot have it.
+use Rattle.std.proofs.Common.{ℕ, List, Option, Result}
+use Rattle.std.specs.declared.cmp.Ordering.{Ordering}
+use Rattle.am_version_order.specs.Versions.{Version}
+use Rattle.am_merge.specs.Maps.{IsMap, at}
+use Rattle.am_snapshot.proofs.Bests.{IsBestAt}
+use Rattle.am_snapshot.proofs.RowReads.{ReadsSoFar}
+use Rattle.am_wire.specs.Limits.{most}
+use Rattle.am_wire.specs.declared.error.WireError.{WireError}
+use Rattle.am_wire.specs.declared.reader.RowPosition.{RowPosition}
+use Rattle.am_alertmanager.specs.Reading.{IsReadFrom}
+
+module _ {K X : Type 0} (reads : ℕ → List ℕ → Result X WireError) (seen : X → Version K) (cmp : K → K → Ordering)
+    (start now : Option (List ℕ)) (standing : RowPosition) where
+  pub as_read : (bytes : List ℕ) (versions map : List X) → ReadsSoFar reads most start now standing bytes versions
+      → IsMap seen cmp map → ((key : K) → IsBestAt seen versions key (at seen cmp map key)) → IsReadFrom reads seen cmp start now standing map
+  as_read bytes versions map read order best = record {
+    bytes = bytes;
+    versions = versions;
+    consumed = read.consumed;
+    goes_on = read.read.reads_on;
+    stands = read.stands;
+    small = read.small;
+    order = order;
+    best = best;
+  }
+
+  pub read_so_far : (map : List X) → (from : IsReadFrom reads seen cmp start now standing map) → ReadsSoFar reads most start now standing from.bytes from.versions
+  read_so_far map from = record { consumed = from.consumed; read = record { reads_on = from.goes_on }; stands = from.stands; small = from.small }

@@ -1,0 +1,4 @@
+pub mod Lacking
+pub mod Mended
+pub mod Begun
+pub mod Sifted

@@ -1,0 +1,9 @@
+use Rattle.std.proofs.Common.{map}
+use Rattle.am_silence_json.proofs.Bodies.{chain, list_is}
+use Rattle.am_api_decisions.specs.Hashes.{hash_data}
+use Rattle.am_api_decisions.proofs.writing.add_hashes.Goals as goal
+
+pub returns : goal.returns
+returns c =
+    chain c.in_ok-add.ensures
+    (list_is _ _ _ _ (map hash_data c.args.hashes) c.in_ok-add-2.ensures c.in_ok-add_each_hash.ensures c.in_ok-add-3.ensures)

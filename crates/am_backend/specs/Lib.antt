@@ -1,0 +1,2 @@
+pub mod CommitStates
+pub mod Stores

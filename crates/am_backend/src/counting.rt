@@ -1,0 +1,93 @@
+//! The counts of frames, links and saves.
+
+ghost use Rattle.std.specs.Prelude.{◌≡◌};
+ghost use Rattle.am_backend.specs.Stores.{store_of};
+
+use crate::system_backend::SystemBackend;
+use am_gossip::Frame;
+use am_instance::Place;
+use am_metrics::{CauseLabel, Metrics, SavedState, StepLabel, VersionKind};
+use am_reactor::LinkFault;
+use std::rt::Clock;
+use std::time::{Duration, Instant};
+
+/// Returns the kind that a frame is counted as.
+fn kind_of_frame(frame: &Frame) -> VersionKind {
+    match frame {
+        Frame::Delta(_) => VersionKind::Update,
+        Frame::Push(_) | Frame::Pull(_) => VersionKind::FullState,
+        Frame::Tick => VersionKind::Tick,
+    }
+}
+
+/// Returns the step by which a frame is taken, if there is one.
+fn step_of_frame(frame: &Frame) -> Option<StepLabel> {
+    match frame {
+        Frame::Delta(_) => Some(StepLabel::Delta),
+        Frame::Push(_) | Frame::Pull(_) => Some(StepLabel::State),
+        Frame::Tick => None,
+    }
+}
+
+/// Returns the cause that a fault of a link is counted as.
+pub fn cause_of(fault: LinkFault) -> CauseLabel {
+    match fault {
+        LinkFault::Connect(_) | LinkFault::NoPeer => CauseLabel::Connect,
+        LinkFault::Write { .. } | LinkFault::Read { .. } | LinkFault::Unanswered { .. } => {
+            CauseLabel::Write
+        }
+        LinkFault::Time { .. } => CauseLabel::Time,
+        LinkFault::Full | LinkFault::TooLong => CauseLabel::Full,
+        LinkFault::Memory => CauseLabel::Memory,
+    }
+}
+
+/// Returns what the clock says, as the time since 1970, or 0 if it can't be read.
+pub fn since_1970<C: Clock>(clock: &C) -> Duration {
+    clock.since_1970().unwrap_or(Duration::ZERO)
+}
+
+/// Counts the frames of a peer.
+pub fn count_frames(figures: &mut Metrics, place: Place, frames: &[Frame]) {
+    figures.heard.take(place as usize, frames.len() as u64);
+    for frame in frames {
+        figures.take(kind_of_frame(frame));
+        if let Some(step) = step_of_frame(frame) {
+            figures.step(step, 1);
+        }
+    }
+}
+
+/// Counts frames that are handed to the link of a peer.
+pub(crate) fn count_handed(figures: &mut Metrics, place: Place, frames: &[Frame]) {
+    figures.heard.hand_on(place as usize, frames.len() as u64);
+    for frame in frames {
+        figures.send(kind_of_frame(frame));
+    }
+}
+
+impl<R: Clock> SystemBackend<'_, R> {
+    /// Counts that a save begins.
+    pub(crate) fn count_save_begun(&mut self, state: SavedState)
+        ensures { store_of self.new ≡ store_of self.old }
+    {
+        let now = Instant::now(self.rt).ok();
+        self.figures.begin_save(state, now);
+    }
+
+    /// Counts a save that was made now.
+    pub(crate) fn count_save_done(&mut self, state: SavedState)
+        ensures { store_of self.new ≡ store_of self.old }
+    {
+        let now = Instant::now(self.rt).ok();
+        let since_1970 = since_1970(self.rt);
+        self.figures.end_save(state, now, since_1970);
+    }
+
+    /// Counts a save that failed.
+    pub(crate) fn count_save_failed(&mut self, state: SavedState)
+        ensures { store_of self.new ≡ store_of self.old }
+    {
+        self.figures.fail_save(state);
+    }
+}

@@ -1,0 +1,104 @@
+//! The saves of both states while everybody waits, and when they are made.
+
+ghost use Rattle.std.specs.Prelude.{◌≡◌, IfNone};
+ghost use Rattle.am_store.specs.Appending.{IsBegunAnew, log_of};
+ghost use Rattle.am_backend.specs.Stores.{HasSaved, MaySave, store_of};
+
+use crate::system_backend::SystemBackend;
+use am_diagnostics::Fault;
+use am_instance::Instance;
+use am_metrics::SavedState;
+use std::fs::File;
+use std::rt::{Clock, Files};
+use std::time::Instant;
+
+impl<R: AllocGlobal + Clock + Eprint + Files<File = File>> SystemBackend<'_, R> {
+    /// Saves the silences, and then the log, while everybody waits. Returns the first fault; each is told.
+    pub(crate) fn save(&mut self, instance: &Instance) -> Option<Fault>
+        ensures { HasSaved result (store_of self.old) (store_of self.new) }
+    {
+        self.give_up_compaction();
+        let silences = self.save_silences(instance);
+        let log = self.save_log(instance);
+        match silences.or(log) {
+            None => {
+                self.is_changed = false;
+                self.commit_state.is_saved();
+                None
+            }
+            Some(fault) => {
+                self.is_changed = true;
+                Some(fault)
+            }
+        }
+    }
+
+    /// Saves the silences, and returns the reason why they are not saved, if they aren't, which is told.
+    fn save_silences(&mut self, instance: &Instance) -> Option<Fault>
+        ensures anew { IfNone result (IsBegunAnew (log_of self.new.silences)) }
+        ensures commit_state { self.new.commit_state ≡ self.old.commit_state }
+        ensures log { log_of self.new.log ≡ log_of self.old.log }
+    {
+        let most = self.options.most_bytes;
+        self.count_save_begun(SavedState::Silences);
+        match self.silences.save(self.rt, instance.silences(), most) {
+            Ok(bytes) => {
+                self.count_save_done(SavedState::Silences);
+                self.silences_room.is_counted(bytes);
+                None
+            }
+            Err(fault) => {
+                self.count_save_failed(SavedState::Silences);
+                self.tell(instance.config(), Fault::Silences(fault));
+                Some(Fault::Silences(fault))
+            }
+        }
+    }
+
+    /// Saves the log, and returns the reason why it is not saved, if it isn't, which is told.
+    fn save_log(&mut self, instance: &Instance) -> Option<Fault>
+        ensures anew { IfNone result (IsBegunAnew (log_of self.new.log)) }
+        ensures commit_state { self.new.commit_state ≡ self.old.commit_state }
+        ensures silences { log_of self.new.silences ≡ log_of self.old.silences }
+    {
+        let most = self.options.most_bytes;
+        self.count_save_begun(SavedState::Log);
+        match self.log.save(self.rt, instance.log(), most) {
+            Ok(bytes) => {
+                self.count_save_done(SavedState::Log);
+                self.log_room.is_counted(bytes);
+                None
+            }
+            Err(fault) => {
+                self.count_save_failed(SavedState::Log);
+                self.tell(instance.config(), Fault::Log(fault));
+                Some(Fault::Log(fault))
+            }
+        }
+    }
+
+    /// Saves both states: at once or, if logs are kept, after the duties and while the member serves.
+    pub(crate) fn save_in_turn(&mut self, instance: &Instance) {
+        if self.commit_state.is_on() {
+            self.want_both();
+        } else {
+            self.save(instance);
+        }
+    }
+
+    /// Saves both states if the logs lack something, unless the last such save was less than a second ago.
+    pub(crate) fn save_behind(&mut self, instance: &Instance)
+        ensures { MaySave (store_of self.old) (store_of self.new) }
+    {
+        if !self.commit_state.is_behind() {
+            return;
+        }
+        let Ok(now) = Instant::now(self.rt) else {
+            return;
+        };
+        if !self.commit_state.may_save(now) {
+            return;
+        }
+        self.save(instance);
+    }
+}

@@ -1,0 +1,61 @@
+//! The frames that wait for peers.
+
+ghost use Rattle.std.specs.Prelude.{IfSome};
+ghost use Rattle.am_peers.specs.Queues.{frames_for};
+ghost use Rattle.am_backend.specs.CommitStates.{disk_of};
+ghost use Rattle.am_backend.specs.Stores.{GoesOn, IsLogged, store_of};
+
+use crate::system_backend::SystemBackend;
+use am_diagnostics::Fault;
+use am_gossip::Frame;
+use am_instance::{Config, Place};
+use am_options::Options;
+use am_peer_auth::{Lock, Secret, Sequence, sealed_text};
+use am_peers::frames_text;
+use std::rt::Clock;
+
+/// Returns the lock by which members of a cluster know one another: the secret, if they have one, and the name of this one.
+pub fn lock_of<'a>(options: &Options<'a>, secret: &'a Option<Secret>) -> Option<Lock<'a>> {
+    match secret {
+        Some(secret) => Some(Lock {
+            secret: secret.bytes.as_slice(),
+            name: options.name,
+        }),
+        None => None,
+    }
+}
+
+impl<R: AllocGlobal> SystemBackend<'_, R> {
+    /// Returns the bytes of frames for a peer, sealed from a place in its connection on if members have a secret: then there are
+    /// none without a place. If there is no memory for them, there are none.
+    pub(crate) fn bytes_for(
+        &self,
+        config: &Config,
+        peer: Place,
+        from: Option<Sequence>,
+        frames: &[Frame],
+    ) -> Option<Vec<u8>> {
+        let alloc = self.rt.alloc();
+        let Some(lock) = self.lock else {
+            return frames_text(alloc, frames).ok();
+        };
+        let name = config.members().get(peer as usize)?;
+        match sealed_text(alloc, lock, name.as_str(), from?, frames) {
+            Ok(sealed) => Some(sealed.text),
+            Err(_) => None,
+        }
+    }
+}
+
+impl<R: AllocGlobal + Clock + Eprint> SystemBackend<'_, R> {
+    /// Has frames wait to be handed out.
+    pub(crate) fn queue_frames(&mut self, config: &Config, frames: Vec<(Place, Frame)>)
+        ensures logged { IfSome (disk_of self.old.commit_state) (λ disk. IsLogged (frames_for disk frames.items) (store_of self.old) (store_of self.new)) }
+        ensures goes_on { GoesOn self.old.commit_state self.new.commit_state }
+    {
+        let mut frames = self.log_frames(config, frames);
+        if self.queue.append(&mut frames).is_err() {
+            self.tell(config, Fault::UnsentMemory(frames.len()));
+        }
+    }
+}

@@ -1,5 +1,0 @@
-use Rattle.am_dialogue.proofs.Steps.{frame_made}
-use Rattle.am_daemon.proofs.member.clerk.Clerk.gossip.Goals as goal
-
-pub returns : goal.returns
-returns g c = frame_made _ _ _ c.take_came.ensures

@@ -1,6 +1,0 @@
-use Rattle.am_daemon.proofs.Calling.{put_off_called}
-use Rattle.am_daemon.proofs.member.desk.Desk.answer_unread.Goals as goal
-
-pub returns-in-Some-clause-called : goal.returns-in-Some-clause-called
-returns-in-Some-clause-called g c =
-    put_off_called c.args.request _ c.args.instance.now c.wait_for_turn.result c.args.instance.now c.new.ensures.same c.wait_for_turn.ensures

@@ -1,7 +1,0 @@
-use Rattle.am_dialogue.proofs.Calls.{own_replied}
-use Rattle.am_dialogue.proofs.Sayings.{told_own}
-use Rattle.am_dialogue.specs.Talks.OwnCause.{OutOfMemory}
-use Rattle.am_daemon.proofs.member.desk.Desk.list_log.Goals as goal
-
-pub returns-in-Err : goal.returns-in-Err
-returns-in-Err g c = λ request asked. own_replied request _ _ _ (told_own OutOfMemory _ c.in-Err.ensures.refused)

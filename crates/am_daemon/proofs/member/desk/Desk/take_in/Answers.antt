@@ -1,6 +1,0 @@
-use Rattle.am_daemon.proofs.Answering.{steps_taken}
-use Rattle.am_daemon.proofs.member.desk.Desk.take_in.Goals as goal
-
-pub returns : goal.returns
-returns g c = steps_taken _ _ _ _ _ _ _ _ c.spare-said.ensures.said c.make_steps-exchanged.ensures.exchanged c.make_steps-exchanged.ensures.session
-    c.reply.ensures.stays c.reply.ensures.says

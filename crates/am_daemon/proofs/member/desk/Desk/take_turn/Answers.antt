@@ -1,6 +1,0 @@
-use Rattle.am_dialogue.specs.Calls.CallCause.{Stops}
-use Rattle.am_daemon.proofs.Calling.{away_called}
-use Rattle.am_daemon.proofs.member.desk.Desk.take_turn.Goals as goal
-
-pub returns-then-self-clause-called : goal.returns-then-self-clause-called
-returns-then-self-clause-called g c = away_called _ Stops _ _ _ c.refused_by_stop.ensures

@@ -1,5 +1,0 @@
-use Rattle.am_dialogue.proofs.Steps.{made_on}
-use Rattle.am_daemon.proofs.member.serving.ClerkAttendant.wake.Goals as goal
-
-pub returns : goal.returns
-returns g c = made_on _ _ _ _ c.do_duties.ensures c.gossip-gossip.ensures

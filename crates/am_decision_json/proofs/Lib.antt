@@ -1,8 +1,0 @@
-mod Digits
-mod Reading
-mod Labelled
-mod Ordered
-pub mod Adding
-mod Again
-mod Bytes
-mod Noticed

@@ -1,5 +1,0 @@
-use Rattle.am_decision_json.proofs.Digits.{hash_again}
-use Rattle.am_decision_json.proofs.laws.a_written_hash_is_read.Goals as goal
-
-pub returns : goal.returns
-returns c = hash_again

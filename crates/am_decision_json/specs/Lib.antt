@@ -1,9 +1,0 @@
-pub mod Keys
-pub mod Found
-pub mod Steps
-pub mod Hashes
-pub mod Orders
-pub mod Messages
-pub mod Notices
-pub mod Answers
-pub mod Sound

@@ -1,7 +1,0 @@
-use Rattle.am_http.specs.Lines.{line_seen}
-use Rattle.am_dialogue.specs.Talks.OwnCause.{OutOfMemory}
-use Rattle.am_dialogue.proofs.Sayings.{told_own}
-use Rattle.am_dialogue.proofs.refusals.out_of_memory.Goals as goal
-
-pub returns : goal.returns
-returns c = told_own OutOfMemory (line_seen c.refusal.result) c.refusal.ensures

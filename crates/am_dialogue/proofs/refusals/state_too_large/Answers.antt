@@ -1,7 +1,0 @@
-use Rattle.am_http.specs.Lines.{line_seen}
-use Rattle.am_dialogue.specs.Talks.OwnCause.{StateTooLarge}
-use Rattle.am_dialogue.proofs.Sayings.{told_own}
-use Rattle.am_dialogue.proofs.refusals.state_too_large.Goals as goal
-
-pub returns : goal.returns
-returns c = told_own StateTooLarge (line_seen c.new.result) c.new.ensures

@@ -1,4 +1,0 @@
-pub mod Talks
-pub mod Answered
-pub mod Waiting
-pub mod Calls

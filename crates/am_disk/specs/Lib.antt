@@ -1,4 +1,0 @@
-pub mod Calls
-pub mod Faults
-pub mod Opening
-pub mod Saves

@@ -1,7 +1,0 @@
--- A file in memory, as contracts see it.
-use Rattle.std.specs.Prelude.{ℕ, List}
-use Rattle.am_journal.specs.declared.memory.Memory.{Memory}
-
--- the bytes that it holds
-abbrev pub memory_bytes : Memory → List ℕ
-memory_bytes m = m.bytes.items

@@ -1,3 +1,0 @@
-pub mod Fronts
-mod Lived
-pub mod Talking

@@ -1,0 +1,180 @@
+-- The authenticator before the session of a connection: what of it the session hears, and which sealed frames are accepted.
+use Rattle.std.specs.Prelude.{◌≡◌, ◌⊎◌, ℕ, ◌+◌, ◌<◌, ◌≤◌, List, [], ◌∷◌, ◌++◌, length, take, drop, Option, Some, None, option_map, Result, Ok, Err}
+use Rattle.am_gossip.specs.declared.error.FrameError.{FrameError}
+use Rattle.am_gossip.specs.declared.error.FrameError.TheVariants as frame_errors
+use Rattle.am_gossip.specs.declared.frame.Frame.{Frame}
+use Rattle.am_gossip.specs.Hellos.{hello_of}
+use Rattle.am_http.specs.declared.session.fault.SessionFault.TheVariants.{Frame as InFrame}
+use Rattle.am_http.specs.Sessions.{Spoken, Standing, Feeds, heard, name_of, nothing, over, spoken}
+use Rattle.am_peer_auth.specs.declared.seal.Lock.{Lock}
+use Rattle.am_peer_auth.specs.declared.seal.SealError.{SealError}
+use Rattle.am_peer_auth.specs.declared.sequence.Sequence.{Sequence}
+use Rattle.am_peer_auth.specs.Openings.{Opens, ended}
+use Rattle.am_peer_auth.specs.Sequences.{after, first_in}
+use Rattle.am_peer_auth.specs.declared.fault.AuthFault.{AuthFault}
+use Rattle.am_peer_auth.specs.declared.fault.AuthFault.TheVariants as gate_faults
+use Rattle.am_peer_auth.specs.declared.passing.Heard.{Heard}
+use Rattle.am_peer_auth.specs.declared.passing.AcceptedProtocols.{AcceptedProtocols}
+use Rattle.am_peer_auth.specs.declared.passing.AcceptedProtocols.TheVariants.{Requests, Frames}
+use Rattle.am_peer_auth.specs.declared.passing.AuthState.{AuthState}
+use Rattle.am_peer_auth.specs.declared.passing.AuthState.TheVariants as states
+
+-- The progress of a connection: before its first byte; passing, when everything goes to its session; in the greeting of a sealed
+-- connection, with its bytes so far behind the first one; sealed, behind its greeting, with the place of the next frame behind
+-- the challenge that it answers, the number of bytes of the challenge that were sent, and the bytes of a frame that isn't whole;
+-- or shut, when nothing more is heard.
+pub data Way : Type 0 where
+  before : Way
+  passing : Way
+  greeting : List ℕ → Way
+  sealed : Sequence → ℕ → List ℕ → Way
+  shut : Way
+
+-- the state that the code holds
+abbrev pub way_of : AuthState → Way
+way_of states.Fresh = before
+way_of states.Open = passing
+way_of (states.Greeting bytes) = greeting bytes.items
+way_of (states.Sealed sealing) = sealed sealing.place sealing.out sealing.waiting
+way_of states.Closed = shut
+
+-- the output, and why nothing more is heard after it
+pub record Told : Type 0 where
+  pub said : Spoken
+  pub fault : Option AuthFault
+
+-- the output that the code returns
+abbrev pub told_by : Heard → Told
+told_by heard = record { said = spoken heard.said; fault = heard.fault }
+
+-- this was said, and nothing is at fault here
+abbrev pub told : Spoken → Told
+told said = record { said = said; fault = None }
+
+-- ---- the effect of a piece: the output, the progress of the connection, and its session
+
+-- nothing was said, and the session is as it was
+abbrev pub Waits : Way → Standing → Told → Way → Standing → Type 0
+Waits next session it way session' = (it ≡ told nothing) × (way ≡ next) × (session' ≡ session)
+
+-- the session hears the piece as it came
+abbrev pub PassesOn : Standing → List ℕ → Told → Way → Standing → Type 0
+PassesOn session piece it way session' = Feeds session piece it.said session' × (it.fault ≡ None) × (way ≡ passing)
+
+-- nothing was said, and nothing more is heard, for this reason
+abbrev pub IsTurnedBack : AuthFault → Standing → Told → Way → Standing → Type 0
+IsTurnedBack fault session it way session' =
+    (it ≡ record { said = nothing; fault = Some fault }) × (way ≡ shut) × (session' ≡ over (name_of session))
+
+-- no frame was said, because the greeting has this fault, and nothing more is heard
+abbrev pub IsFailed : FrameError → Standing → Told → Way → Standing → Type 0
+IsFailed error session it way session' =
+    (it ≡ told (heard [] (Some (InFrame error)))) × (way ≡ shut) × (session' ≡ over (name_of session))
+
+-- ---- a sealed connection
+
+-- the frames go on at the next place, and these bytes wait; or one isn't accepted, and nothing more is heard
+abbrev pub GoesOn : Option SealError → Sequence → ℕ → List ℕ → Standing → Way → Standing → Type 0
+GoesOn None next out rest session way session' = (way ≡ sealed next out rest) × (session' ≡ session)
+GoesOn (Some error) next out rest session way session' = (way ≡ shut) × (session' ≡ over (name_of session))
+
+-- these frames are said, and why there are no more
+pub record IsKept (frames : List Frame) (error : Option SealError) (next : Sequence) (out : ℕ) (rest : List ℕ) (session : Standing) (it : Told) (way : Way) (session' : Standing) : Type 0 where
+  pub said : it.said ≡ heard frames None
+  pub fault : it.fault ≡ option_map gate_faults.Seal error
+  pub goes_on : GoesOn error next out rest session way session'
+
+-- Exactly the frames are said to which the bytes open, from this sender, from this place on: each of them follows a sum that is
+-- right for its place behind the challenge, for its sender and for its receiver. The next frame has the place after them.
+abbrev pub TakesSealed : Lock → List ℕ → Sequence → ℕ → Standing → List ℕ → Told → Way → Standing → Type 0
+TakesSealed lock sender place out session bytes it way session' =
+    (frames : List Frame) × (error : Option SealError) × (rest : List ℕ) × Opens lock sender place bytes frames (ended rest error)
+    × IsKept frames error (after (length frames) place) out rest session it way session'
+
+-- the sender is the one that greeted
+abbrev pub UnsealsFrom : Option (List ℕ) → Lock → Sequence → ℕ → Standing → List ℕ → Told → Way → Standing → Type 0
+UnsealsFrom None lock place out session bytes it way session' = IsTurnedBack gate_faults.Unsealed session it way session'
+UnsealsFrom (Some sender) lock place out session bytes it way session' = TakesSealed lock sender place out session bytes it way session'
+
+abbrev pub Unseals : Lock → Sequence → ℕ → Standing → List ℕ → Told → Way → Standing → Type 0
+Unseals lock place out session bytes it way session' = UnsealsFrom (name_of session) lock place out session bytes it way session'
+
+-- the session hears the greeting, and the bytes behind it are sealed frames of its sender, the first ones behind this challenge,
+-- of which nothing was sent yet; unless the session has no memory for the greeting
+pub record IsGreeted (lock : Lock) (challenge : List ℕ) (name : List ℕ) (session : Standing) (text behind : List ℕ) (it : Told) (way : Way) (session' : Standing) : Type 0 where
+  pub said : Spoken
+  pub mid : Standing
+  pub greets : Feeds session text said mid
+  pub frames : said.fault ≡ None → TakesSealed lock name (first_in challenge) 0 mid behind it way session'
+  pub lacks : (fault : _) → said.fault ≡ Some fault → (it ≡ told said) × (way ≡ shut) × (session' ≡ mid)
+
+-- the greeting isn't whole; or it is; or it is at fault
+abbrev pub GreetsBy : Result (Option (List ℕ × ℕ)) FrameError → Lock → List ℕ → Standing → List ℕ → Told → Way → Standing → Type 0
+GreetsBy (Ok None) lock challenge session bytes it way session' = Waits (greeting bytes) session it way session'
+GreetsBy (Ok (Some hello)) lock challenge session bytes it way session' =
+    IsGreeted lock challenge hello.0 session (take hello.1 bytes) (drop hello.1 bytes) it way session'
+GreetsBy (Err error) lock challenge session bytes it way session' = IsFailed error session it way session'
+
+-- the output for the bytes behind the first byte of a sealed connection, if this challenge is sent back
+abbrev pub Greets : Lock → List ℕ → Standing → List ℕ → Told → Way → Standing → Type 0
+Greets lock challenge session bytes it way session' =
+    GreetsBy (hello_of bytes) lock challenge session bytes it way session' ⊎ IsFailed frame_errors.Memory session it way session'
+
+-- ---- any connection
+
+-- the first byte of a request is 0x20 or greater
+abbrev pub Asks : AcceptedProtocols → Standing → List ℕ → Told → Way → Standing → Type 0
+Asks Frames session piece it way session' = IsTurnedBack gate_faults.Requests session it way session'
+Asks _ session piece it way session' = PassesOn session piece it way session'
+
+-- with a lock, a connection of frames begins with a byte 1
+pub record Knocks (lock : Lock) (challenge : List ℕ) (first : ℕ) (behind : List ℕ) (session : Standing) (it : Told) (way : Way) (session' : Standing) : Type 0 where
+  pub sealed_ : first ≡ 1 → Greets lock challenge session behind it way session'
+  pub open_ : ¬ (first ≡ 1) → IsTurnedBack gate_faults.Unsealed session it way session'
+
+-- without a lock, a connection of frames goes to the session
+abbrev pub Sends : AcceptedProtocols → Option Lock → List ℕ → ℕ → List ℕ → Standing → Told → Way → Standing → Type 0
+Sends Requests lock challenge first behind session it way session' = IsTurnedBack gate_faults.Frames session it way session'
+Sends _ None challenge first behind session it way session' = PassesOn session (first ∷ behind) it way session'
+Sends _ (Some lock) challenge first behind session it way session' = Knocks lock challenge first behind session it way session'
+
+-- the effect of the first piece, by the first byte of the connection
+pub record Begins (accepts : AcceptedProtocols) (lock : Option Lock) (challenge : List ℕ) (first : ℕ) (behind : List ℕ) (session : Standing) (it : Told) (way : Way) (session' : Standing) : Type 0 where
+  pub request : 32 ≤ first → Asks accepts session (first ∷ behind) it way session'
+  pub peer : first < 32 → Sends accepts lock challenge first behind session it way session'
+
+-- The output for a piece of a connection of which this is heard, with the progress of the connection and its session then. If it is
+-- greeted now, its frames have to answer this challenge.
+abbrev pub Passes : AcceptedProtocols → Option Lock → List ℕ → Way → Standing → List ℕ → Told → Way → Standing → Type 0
+Passes accepts lock challenge before session [] it way session' = Waits before session it way session'
+Passes accepts lock challenge before session (first ∷ behind) it way session' = Begins accepts lock challenge first behind session it way session'
+Passes accepts lock challenge passing session piece it way session' = PassesOn session piece it way session'
+Passes accepts (Some lock) challenge (greeting bytes) session piece it way session' = Greets lock challenge session (bytes ++ piece) it way session'
+Passes accepts (Some lock) challenge (sealed place out bytes) session piece it way session' = Unseals lock place out session (bytes ++ piece) it way session'
+Passes accepts lock challenge way_ session piece it way session' = Waits shut session it way session'
+
+-- the bytes of a challenge that haven't been sent
+abbrev pub challenge_left : Way → List ℕ
+challenge_left (sealed place out bytes) = drop out place.challenge
+challenge_left _ = []
+
+-- `count` more bytes of the challenge were sent
+abbrev pub challenge_sent : ℕ → Way → Way
+challenge_sent count (sealed place out bytes) = sealed place (out + count) bytes
+challenge_sent count way = way
+
+-- the bytes that wait for the rest of a greeting or of a frame
+abbrev pub waiting_at : Way → List ℕ
+waiting_at (greeting bytes) = bytes
+waiting_at (sealed place out bytes) = bytes
+waiting_at _ = []
+
+-- the fault if the input ends while these bytes wait
+abbrev pub cut_at : List ℕ → Option AuthFault
+cut_at [] = None
+cut_at (_ ∷ _) = Some gate_faults.Cut
+
+-- the kinds of input that are heard, and the progress of the connection
+pub record AtGate : Type 0 where
+  pub accepts : AcceptedProtocols
+  pub way : Way

@@ -1,0 +1,58 @@
+-- The seal of a frame: the message that its sum covers, and the texts that are taken.
+use Rattle.std.specs.Prelude.{◌≡◌, ℕ, List, [], ◌∷◌, ◌++◌, length, ⊤, Ok}
+use Rattle.std.specs.Int.{w32, w64, to_be_bytes}
+use Rattle.am_gossip.specs.declared.frame.Frame.{Frame}
+use Rattle.am_gossip.specs.Frames.{frame_text}
+use Rattle.am_gossip.specs.Streams.{stream_of}
+use Rattle.am_peer_auth.specs.declared.seal.Lock.{Lock}
+use Rattle.am_peer_auth.specs.declared.seal.SealError.{SealError}
+use Rattle.am_peer_auth.specs.declared.seal.SealError.TheVariants.{Length, Sum, Text, Number, Memory}
+use Rattle.am_peer_auth.specs.declared.sequence.Sequence.{Sequence}
+use Rattle.am_peer_auth.specs.Macs.{hmac}
+use Rattle.am_peer_auth.specs.Sequences.{next_in}
+
+-- the front of the message that a sum covers: the challenge of the connection; the number of the frame in it, in 8 bytes; and
+-- the sender and the addressee, each after its length in 8 bytes
+abbrev pub message_front : Sequence → List ℕ → List ℕ → List ℕ
+message_front place sender addressee = place.challenge ++ to_be_bytes w64 place.number ++ to_be_bytes w64 (length sender) ++ sender
+    ++ to_be_bytes w64 (length addressee) ++ addressee
+
+-- the message that a sum covers: its front, and the frame's bytes
+abbrev pub sealed_message : Sequence → List ℕ → List ℕ → List ℕ → List ℕ
+sealed_message place sender addressee text = message_front place sender addressee ++ text
+
+-- the sum of a frame's bytes at a place in its connection, from a sender to an addressee
+unfoldable pub seal_sum : List ℕ → Sequence → List ℕ → List ℕ → List ℕ → List ℕ
+seal_sum secret place sender addressee text = hmac secret (sealed_message place sender addressee text)
+
+-- a sum is correct for a sender, for the receiver, for a place in the connection, and for a frame's bytes
+abbrev pub IsRight : Lock → List ℕ → Sequence → List ℕ → List ℕ → Type 0
+IsRight lock sender place sum text = sum ≡ seal_sum lock.secret.now place sender lock.name.now text
+
+-- a text is exactly one frame
+abbrev pub IsOnly : List ℕ → Frame → Type 0
+IsOnly text frame = stream_of text ≡ record { frames = frame ∷ []; ending = Ok [] }
+
+-- the reason why a text isn't taken: its sum isn't correct; its sum is correct, but it isn't one frame; or memory ran out
+abbrev pub IsUntaken : Lock → List ℕ → Sequence → List ℕ → List ℕ → SealError → Type 0
+IsUntaken lock sender place sum text Sum = ¬ IsRight lock sender place sum text
+IsUntaken lock sender place sum text Text = IsRight lock sender place sum text × ((frame : Frame) → ¬ IsOnly text frame)
+IsUntaken lock sender place sum text Memory = ⊤
+IsUntaken lock sender place sum text Length = ⊥
+IsUntaken lock sender place sum text Number = ⊥
+
+-- the reason why a text is no frame
+abbrev pub IsNoFrame : List ℕ → SealError → Type 0
+IsNoFrame text Text = (frame : Frame) → ¬ IsOnly text frame
+IsNoFrame text Memory = ⊤
+IsNoFrame text _ = ⊥
+
+-- a sealed frame as it is sent: its sum, its length in 4 bytes, and its text
+abbrev pub sealed_frame : Lock → List ℕ → Sequence → Frame → List ℕ
+sealed_frame lock addressee place frame =
+    seal_sum lock.secret.now place lock.name.now addressee (frame_text frame) ++ to_be_bytes w32 (length (frame_text frame)) ++ frame_text frame
+
+-- sealed frames as they are sent, from a place in the connection on, each at the next place
+abbrev pub sealed_frames : Lock → List ℕ → Sequence → List Frame → List ℕ
+sealed_frames lock addressee place [] = []
+sealed_frames lock addressee place (frame ∷ frames) = sealed_frame lock addressee place frame ++ sealed_frames lock addressee (next_in place) frames

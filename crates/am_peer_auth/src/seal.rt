@@ -1,0 +1,183 @@
+//! The seal of one frame.
+
+ghost use Rattle.std.specs.Prelude.{◌≡◌, ◌++◌, IfOk, IfErr, IfSome, OnOk, length};
+ghost use Rattle.am_peer_auth.specs.Seals.{IsNoFrame, IsOnly, IsRight, IsUntaken, seal_sum, sealed_frame, sealed_frames};
+ghost use Rattle.am_peer_auth.specs.Sequences.{after};
+ghost use Rattle.am_peer_auth.specs.Summings.{Covers};
+
+use crate::mac::{Mac, SUM, are_same};
+use crate::sequence::Sequence;
+use crate::summing::{Summing, whole_sum};
+use am_gossip::{Fed, Feeder, Frame, FrameError, encode_frame};
+use std::alloc::{AllocError, Global};
+use thiserror::Error;
+
+/// The means of sealing and opening frames: the members' secret, and the name of the member that does it.
+#[derive(Clone, Copy)]
+pub struct Lock<'a> {
+    pub secret: &'a [u8],
+    pub name: &'a str,
+}
+
+/// The reason for not taking a sealed frame. It is printed as its name.
+#[derive(Clone, Copy, Debug, PartialEq, Eq, Error)]
+pub enum SealError {
+    /// The length is over the limit of frames.
+    #[error("Length")]
+    Length,
+    /// The sum isn't that of the frame's place in the connection, its sender, its addressee and its bytes under the secret.
+    #[error("Sum")]
+    Sum,
+    /// The sum is correct, but the bytes aren't one frame.
+    #[error("Text")]
+    Text,
+    /// There is no number for a next frame.
+    #[error("Number")]
+    Number,
+    #[error("Memory")]
+    Memory,
+}
+
+impl From<AllocError> for SealError {
+    ghost use Rattle.am_peer_auth.specs.declared.seal.SealError.TheVariants.{Memory};
+
+    ghost from_gives = { λ _ e. e ≡ Memory };
+
+    fn from(_e: AllocError) -> SealError {
+        SealError::Memory
+    }
+}
+
+/// Returns the sum of a frame's text that one member sends to another at a place in a connection: the sum of the challenge, of the
+/// number in 8 bytes, the highest first, of both names, each after its length in 8 such bytes, and of the text.
+#[tactic(auto, unfolding(crate::specs::Seals::seal_sum))]
+pub fn sum_of(
+    secret: &[u8],
+    place: Sequence,
+    sender: &str,
+    addressee: &str,
+    text: &[u8],
+) -> [u8; SUM]
+    ensures { result ≡ seal_sum secret.now place sender.now addressee.now text.now }
+{
+    let mut mac = Mac::new(secret);
+    mac.update(&place.challenge);
+    mac.update(&place.number.to_be_bytes());
+    mac.update(&(sender.len() as u64).to_be_bytes());
+    mac.update(sender.as_bytes());
+    mac.update(&(addressee.len() as u64).to_be_bytes());
+    mac.update(addressee.as_bytes());
+    mac.update(text);
+    mac.finalize()
+}
+
+/// Reads a text as exactly one frame.
+///
+/// # Errors
+///
+/// Returns [`SealError::Text`] if the text is no frame, or more than one, and [`SealError::Memory`] if memory runs out.
+fn only_frame(alloc: Global, text: &[u8]) -> Result<Frame, SealError>
+    ensures taken { IfOk result (λ frame. IsOnly text.now frame) }
+    ensures refused { IfErr result (IsNoFrame text.now) }
+{
+    let mut feeder = Feeder::new(alloc);
+    let Ok(fed) = feeder.feed(text) else {
+        return Err(SealError::Memory);
+    };
+    let Fed { mut frames, fault } = fed;
+    if fault.is_some() || feeder.waiting() > 0 || frames.len() > 1 {
+        return Err(SealError::Text);
+    }
+    match frames.pop() {
+        Some(frame) => Ok(frame),
+        None => Err(SealError::Text),
+    }
+}
+
+/// Returns the frame that stands after a sum, from a sender, at a place in a connection. What `summing` covers of its text isn't
+/// summed again.
+///
+/// # Errors
+///
+/// Returns [`SealError::Sum`] if the sum isn't correct, before the text is read; [`SealError::Text`] if the text is not one frame;
+/// and [`SealError::Memory`] if memory runs out.
+pub fn open_frame(
+    alloc: Global,
+    lock: Lock<'_>,
+    sender: &str,
+    place: Sequence,
+    summing: Option<Summing>,
+    sum: &[u8; SUM],
+    text: &[u8],
+) -> Result<Frame, SealError>
+    requires covers { IfSome summing (λ s. Covers s text.now) }
+
+    // PROMISE: A frame is taken only if its sum is right for the challenge of its connection, its number there, its sender, its addressee and its bytes.
+    ensures right { IfOk result (λ _. IsRight lock.entry sender.now place sum.now text.now) }
+    ensures frame { IfOk result (λ frame. IsOnly text.now frame) }
+    ensures refused { IfErr result (IsUntaken lock.entry sender.now place sum.now text.now) }
+{
+    let correct = whole_sum(alloc, summing, lock, sender, place, text)?;
+    if !are_same(sum, &correct) {
+        return Err(SealError::Sum);
+    }
+    only_frame(alloc, text)
+}
+
+/// The bytes of sealed frames, and the place of the next frame.
+#[derive(Drop)]
+pub struct Sealed {
+    pub text: Vec<u8>,
+    pub next: Sequence,
+}
+
+/// Returns frames for an addressee from a place in a connection on, each sealed: its sum, its length in 4 bytes, the highest first,
+/// and its text.
+///
+/// # Errors
+///
+/// Returns [`FrameError::Length`] if a frame is over its limit or there is no number for a next one, and [`FrameError::Memory`] if
+/// memory runs out.
+pub fn sealed_text(
+    alloc: Global,
+    lock: Lock<'_>,
+    addressee: &str,
+    place: Sequence,
+    frames: &[Frame],
+) -> Result<Sealed, FrameError>
+    // PROMISE: Frames go out behind sums of the challenge that was answered, and of their numbers one after the other.
+    ensures text { IfOk result (λ sealed. sealed.text.items ≡ sealed_frames lock.entry addressee.now place frames.now) }
+    ensures next { IfOk result (λ sealed. sealed.next ≡ after (length frames.now) place) }
+{
+    let mut text = Vec::new(alloc);
+    let mut next = place;
+    for frame in frames {
+        append_sealed(alloc, &mut text, lock, addressee, next, frame)?;
+        next = match next.next() {
+            Some(behind) => behind,
+            None => return Err(FrameError::Length),
+        };
+    }
+    Ok(Sealed { text, next })
+}
+
+/// Appends one sealed frame to `out`.
+fn append_sealed(
+    alloc: Global,
+    out: &mut Vec<u8>,
+    lock: Lock<'_>,
+    addressee: &str,
+    place: Sequence,
+    frame: &Frame,
+) -> Result<(), FrameError>
+    ensures { OnOk result (out.new.items ≡ out.old.items ++ sealed_frame lock.entry addressee.now place frame.now) }
+{
+    let text = encode_frame(alloc, frame)?;
+    let Ok(size) = u32::try_from(text.len()) else {
+        return Err(FrameError::Length);
+    };
+    out.extend_from_slice(&sum_of(lock.secret, place, lock.name, addressee, &text))?;
+    out.extend_from_slice(&size.to_be_bytes())?;
+    out.extend_from_slice(&text)?;
+    Ok(())
+}

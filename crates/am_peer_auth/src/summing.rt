@@ -1,0 +1,143 @@
+//! The sum of a frame whose text comes in pieces: each piece is summed as it comes.
+
+ghost use Rattle.std.specs.Prelude.{◌≡◌, ℕ, List, IfOk, IfSome, IsTrue};
+ghost use Rattle.am_peer_auth.specs.Seals.{message_front, seal_sum};
+ghost use Rattle.am_peer_auth.specs.Summings.{Covers, IsBegun, IsSumOf};
+
+use crate::mac::{Mac, SUM};
+use crate::seal::{Lock, sum_of};
+use crate::sequence::Sequence;
+use std::alloc::{AllocError, Global};
+
+/// The sum of the beginning of a frame's text, with the secret and the front of the message that it belongs to.
+#[derive(Drop)]
+pub struct Summing {
+    secret: Vec<u8>,
+    front: Vec<u8>,
+    mac: Mac,
+    /// The number of bytes of the text that the sum covers.
+    count: usize,
+}
+
+/// Returns the front of the message that a sum covers: all of it before the frame's text.
+fn front_of_message(
+    alloc: Global,
+    place: Sequence,
+    sender: &str,
+    addressee: &str,
+) -> Result<Vec<u8>, AllocError>
+    ensures { IfOk result (λ front. front.items ≡ message_front place sender.now addressee.now) }
+{
+    let mut front = place.challenge.as_slice().to_vec(alloc)?;
+    front.extend_from_slice(&place.number.to_be_bytes())?;
+    front.extend_from_slice(&(sender.len() as u64).to_be_bytes())?;
+    front.extend_from_slice(sender.as_bytes())?;
+    front.extend_from_slice(&(addressee.len() as u64).to_be_bytes())?;
+    front.extend_from_slice(addressee.as_bytes())?;
+    Ok(front)
+}
+
+impl Summing {
+    /// Begins a sum of which no text has come.
+    fn begin(alloc: Global, secret: &[u8], front: Vec<u8>) -> Result<Summing, AllocError>
+        ensures { IfOk result (IsBegun secret.now front.items) }
+    {
+        let mut mac = Mac::new(secret);
+        mac.update(&front);
+        Ok(Summing {
+            secret: secret.to_vec(alloc)?,
+            front,
+            mac,
+            count: 0,
+        })
+    }
+
+    /// Returns the number of bytes of the text that the sum covers.
+    pub fn count(&self) -> usize
+        ensures { result ≡ self.now.count }
+    {
+        self.count
+    }
+
+    /// Returns whether the sum belongs to a message with this front, under this secret.
+    fn is_of(&self, secret: &[u8], front: &[u8]) -> bool
+        ensures secret { IsTrue result → self.now.secret.items ≡ secret.now }
+        ensures front { IsTrue result → self.now.front.items ≡ front.now }
+    {
+        self.secret.as_slice() == secret && self.front.as_slice() == front
+    }
+
+    /// Takes in the rest of a text.
+    fn sum_rest(&mut self, text: &[u8])
+        requires covers { Covers self.old text.now }
+        ensures sum { IsSumOf self.new self.old.secret.items self.old.front.items text.now }
+    {
+        self.mac.update(&text[self.count..]);
+        self.count = text.len();
+    }
+}
+
+/// Returns the sum of a text so far, from a sender, at a place in a connection. It goes on with `summing` if that is a sum of the
+/// same message, and otherwise begins anew.
+///
+/// # Errors
+///
+/// Returns [`AllocError`] if memory runs out.
+pub fn sum_so_far(
+    alloc: Global,
+    summing: Option<Summing>,
+    lock: Lock<'_>,
+    sender: &str,
+    place: Sequence,
+    text: &[u8],
+) -> Result<Summing, AllocError>
+    requires covers { IfSome summing (λ s. Covers s text.now) }
+    ensures sum { IfOk result (λ s. IsSumOf s lock.entry.secret.now (message_front place sender.now lock.entry.name.now) text.now) }
+{
+    let front = front_of_message(alloc, place, sender, lock.name)?;
+    let mut summing = begun_for(alloc, summing, lock.secret, front)?;
+    summing.sum_rest(text);
+    Ok(summing)
+}
+
+/// Returns `summing` if it belongs to a message with this front, under this secret, and otherwise one of which no text has come.
+fn begun_for(
+    alloc: Global,
+    summing: Option<Summing>,
+    secret: &[u8],
+    front: Vec<u8>,
+) -> Result<Summing, AllocError>
+    ensures secret { IfOk result (λ s. s.secret.items ≡ secret.now) }
+    ensures front { IfOk result (λ s. s.front.items ≡ front.items) }
+    ensures covers { (text : List ℕ) → IfSome summing (λ s. Covers s text) → IfOk result (λ s. Covers s text) }
+{
+    match summing {
+        Some(summing) if summing.is_of(secret, &front) => Ok(summing),
+        _ => Summing::begin(alloc, secret, front),
+    }
+}
+
+/// Returns the correct sum of a frame's whole text, from a sender, at a place in a connection. What `summing` covers of the text
+/// isn't summed again.
+///
+/// # Errors
+///
+/// Returns [`AllocError`] if memory runs out.
+#[tactic(auto, unfolding(crate::specs::Seals::seal_sum))]
+pub fn whole_sum(
+    alloc: Global,
+    summing: Option<Summing>,
+    lock: Lock<'_>,
+    sender: &str,
+    place: Sequence,
+    text: &[u8],
+) -> Result<[u8; SUM], AllocError>
+    requires covers { IfSome summing (λ s. Covers s text.now) }
+    ensures sum { IfOk result (λ sum. sum ≡ seal_sum lock.entry.secret.now place sender.now lock.entry.name.now text.now) }
+{
+    if summing.is_none() {
+        return Ok(sum_of(lock.secret, place, sender, lock.name, text));
+    }
+    let summing = sum_so_far(alloc, summing, lock, sender, place, text)?;
+    Ok(summing.mac.finalize())
+}

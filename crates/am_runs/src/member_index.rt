@@ -1,0 +1,164 @@
+//! A member's standing: the versions that it took, its last collection, and the first step after which it isn't calm.
+
+ghost use Rattle.std.specs.Prelude.{◌≡◌, ℕ, ◌++◌, ◌∷◌, [], ◌↔◌, IsTrue, true, map, IfOk, OnOk};
+ghost use Rattle.am_merge.specs.Maps.{at};
+ghost use Rattle.am_runs.specs.Records.{step_of, lasts_seen};
+ghost use Rattle.am_runs.specs.Steps.{EachStep, is_at};
+ghost use Rattle.am_runs.specs.Tests.{last_after, lasts_after, runs_after, top_among, in_time};
+ghost use Rattle.am_runs.specs.Standings.{AreStandings, IsStanding, IsJudged, fault_after};
+
+use crate::calm::{LastCollection, in_time, lasts_after};
+use crate::running::{last_after, runs_after};
+use crate::step::RunStep;
+use am_merge::Held;
+use am_version_order::{Moment, Version};
+use std::alloc::{AllocError, Global};
+
+/// The standing of a member.
+#[derive(Drop)]
+pub struct MemberIndex<V: Version> {
+    pub runs: bool,
+    /// The moment of the member's last event or start.
+    pub acted: Moment,
+    pub lasts: LastCollection,
+    /// The number of the first step after which the member is not calm.
+    pub fault: Option<usize>,
+    /// The greatest version of each key that the member took; none is ever dropped.
+    pub taken: Held<V>,
+    /// The greatest versions in the saved copy.
+    pub saved: Held<V>,
+}
+
+/// Creates the standings of members before the first step.
+///
+/// # Errors
+///
+/// Returns [`AllocError`] if memory runs out. The standings created so far are kept.
+pub fn fill_first<V: Version>(
+    alloc: Global,
+    standings: &mut Vec<MemberIndex<V>>,
+    members: usize,
+    steps: &[RunStep<V>],
+) -> Result<(), AllocError>
+    ensures { AreStandings V.seen V.Key.cmp standings.old.items (map step_of steps.now)
+        → AreStandings V.seen V.Key.cmp standings.new.items (map step_of steps.now) }
+{
+    if !steps.is_empty() {
+        return Ok(());
+    }
+    fill(alloc, standings, members)
+}
+
+/// Creates the missing standings of `members` members, of which nothing is known yet.
+fn fill<V: Version>(
+    alloc: Global,
+    standings: &mut Vec<MemberIndex<V>>,
+    members: usize,
+) -> Result<(), AllocError>
+    ensures { AreStandings V.seen V.Key.cmp standings.old.items [] → AreStandings V.seen V.Key.cmp standings.new.items [] }
+{
+    for _member in standings.len()..members {
+        standings.push(MemberIndex {
+            runs: true,
+            acted: Moment::LEAST,
+            lasts: LastCollection {
+                last: None,
+                saved: None,
+            },
+            fault: None,
+            taken: Held::new(alloc),
+            saved: Held::new(alloc),
+        })?;
+    }
+    Ok(())
+}
+
+/// Takes all versions of an event, and returns whether each came in time.
+fn take_all<V: Version>(
+    taken: &mut Held<V>,
+    last: Option<Moment>,
+    now: Moment,
+    versions: &[V],
+) -> Result<bool, AllocError>
+    ensures calm { IfOk result (λ calm. IsTrue calm ↔ EachStep versions.now (λ done v.
+        in_time V.seen (top_among V.seen V.Key.cmp (V.seen v).key
+        (at V.seen V.Key.cmp taken.old (V.seen v).key) done) last now v ≡ true)) }
+    ensures taken { OnOk result ((key : V.Key) →
+        at V.seen V.Key.cmp taken.new key ≡ top_among V.seen V.Key.cmp key (at V.seen V.Key.cmp taken.old key) versions.now) }
+{
+    let alloc = taken.allocator();
+    let mut calm = true;
+    for number in 0..versions.len() {
+        let version = &versions[number];
+        calm &= in_time(taken.get(version.key()), last, now, version);
+        taken.take(version.try_clone(alloc)?, now)?;
+    }
+    Ok(calm)
+}
+
+/// Updates a member's taken and saved versions by a step of its own, and returns whether it stays calm.
+fn judge<V: Version>(standing: &mut MemberIndex<V>, step: &RunStep<V>) -> Result<bool, AllocError>
+    ensures { IfOk result (IsJudged V.seen V.Key.cmp standing.old standing.new (step_of step.now)) }
+{
+    match step {
+        RunStep::Took { now, versions, .. } => {
+            take_all(&mut standing.taken, standing.lasts.last, *now, versions)
+        }
+        RunStep::Back { .. } => Ok(false),
+        RunStep::Saved { .. } => {
+            standing.saved = standing.taken.try_clone()?;
+            Ok(true)
+        }
+        RunStep::Started { .. } => {
+            standing.taken = standing.saved.try_clone()?;
+            Ok(true)
+        }
+        _ => Ok(true),
+    }
+}
+
+fn fault_after(fault: Option<usize>, stays: bool, number: usize) -> Option<usize>
+    ensures { result ≡ fault_after fault stays number }
+{
+    if fault.is_some() || stays {
+        return fault;
+    }
+    Some(number)
+}
+
+/// Notes the step with this number, which is one of the member.
+fn update_indexes<V: Version>(
+    standing: &mut MemberIndex<V>,
+    member: usize,
+    before: &[RunStep<V>],
+    step: &RunStep<V>,
+) -> Result<(), AllocError>
+    requires at { is_at member (step_of step.now) ≡ true }
+    ensures { OnOk result (IsStanding V.seen V.Key.cmp member standing.old (map step_of before.now)
+        → IsStanding V.seen V.Key.cmp member standing.new (map step_of before.now ++ step_of step.now ∷ [])) }
+{
+    let stays = judge(standing, step)?;
+    standing.runs = runs_after(member, standing.runs, step);
+    standing.acted = last_after(member, standing.acted, step);
+    standing.lasts = lasts_after(member, standing.lasts, step);
+    standing.fault = fault_after(standing.fault, stays, before.len());
+    Ok(())
+}
+
+/// Notes a step after those before it. If memory runs out, all standings are dropped.
+pub fn note<V: Version>(
+    standings: &mut Vec<MemberIndex<V>>,
+    before: &[RunStep<V>],
+    step: &RunStep<V>,
+)
+    ensures { AreStandings V.seen V.Key.cmp standings.old.items (map step_of before.now)
+        → AreStandings V.seen V.Key.cmp standings.new.items (map step_of before.now ++ step_of step.now ∷ []) }
+{
+    if let Some(member) = step.place() {
+        if member < standings.len() {
+            if update_indexes(&mut standings[member], member, before, step).is_err() {
+                standings.clear();
+            }
+        }
+    }
+}

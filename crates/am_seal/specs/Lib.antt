@@ -1,5 +1,0 @@
-pub mod Macs
-pub mod Sequences
-pub mod Seals
-pub mod Summings
-pub mod Openings

@@ -1,8 +1,0 @@
-use Rattle.am_steps.proofs.RoundTrip.{delta_carries, delta_rows}
-use Rattle.am_steps.proofs.carried.laws.deltas_carry_their_version.Goals as goal
-
-pub returns-clause-rows : goal.returns-clause-rows
-returns-clause-rows c = delta_rows
-
-pub returns-clause-carried : goal.returns-clause-carried
-returns-clause-carried c = delta_carries

@@ -1,6 +1,0 @@
-use Rattle.am_wire.specs.Inputs.{messages_of}
-use Rattle.am_steps.proofs.RowAdding.{HasAdded}
-use Rattle.am_steps.proofs.carried.reading.append_row.Given as goal
-
-abbrev pub invariant-loop-message : goal.invariant-loop-message
-invariant-loop-message g l = HasAdded g.V.FrameVersion.delivered (messages_of (g.V.Message.reads l.fn.unknown) l.row) l.message-iterator l.initial.versions.items l.versions.items

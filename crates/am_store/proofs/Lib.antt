@@ -1,0 +1,15 @@
+mod Stops
+mod BlockLemmas
+mod Calls
+mod Crash
+mod Crashes
+mod Kept
+mod Moments
+mod ReadingLemmas
+mod Standing
+mod UnsyncedSaves
+pub mod Appended
+pub mod Joining
+pub mod ReadBatches
+pub mod Taken
+pub mod Together

@@ -1,0 +1,109 @@
+-- A directory and its files, the calls that change them, and what a crash leaves of them. Nothing else changes them meanwhile.
+use Rattle.std.specs.Prelude.{◌≡◌, ◌≢◌, ◌⊎◌, ℕ, ◌==◌, true, false, if◌then◌else◌, List, [], ◌∷◌, Option, Some, None, option_map, IfSome}
+use Rattle.am_store.specs.Calls.{Call, Event, Remove, Make, Permit, Write, Sync, Rename, SyncDirectory}
+
+-- the names in a directory: which file is at a path, if any
+abbrev pub Names : Type 0
+Names = List ℕ → Option ℕ
+
+-- a directory and its files
+pub record Disk : Type 0 where
+  -- the path of the directory
+  pub directory : List ℕ
+  -- its names now, and those before each change since it was synced
+  pub names : Names
+  pub earlier : List Names
+  -- the bytes of each file that is synced; any other file may hold anything
+  pub synced : ℕ → Option (List ℕ)
+  -- the file that was created last
+  pub created : ℕ
+
+-- what is there after a crash: names, and the bytes of each file
+pub record Remains : Type 0 where
+  pub names : Names
+  pub bytes : ℕ → List ℕ
+
+-- the bytes at a path, if there is a file
+abbrev pub bytes_at : Remains → List ℕ → Option (List ℕ)
+bytes_at left path = option_map left.bytes (left.names path)
+
+-- these are the names of one of the moments
+abbrev pub IsAmong : Names → List Names → Type 0
+IsAmong names [] = ⊥
+IsAmong names (moment ∷ others) = (names ≡ moment) ⊎ IsAmong names others
+
+-- the names of each moment since the directory was synced
+abbrev pub moments : Disk → List Names
+moments disk = disk.names ∷ disk.earlier
+
+-- a crash may leave the names of any moment since the directory was synced: the first of the changes since, and not the others;
+-- a file that is synced has its bytes, and any other may have any bytes
+pub record MayLeave (disk : Disk) (left : Remains) : Type 0 where
+  pub names : IsAmong left.names (moments disk)
+  pub files : (file : ℕ) → IfSome (disk.synced file) (λ bytes. left.bytes file ≡ bytes)
+
+-- whatever a crash leaves, these are the bytes at the path, or no file is there
+abbrev pub Keeps : Disk → List ℕ → Option (List ℕ) → Type 0
+Keeps disk path bytes = (left : Remains) → MayLeave disk left → bytes_at left path ≡ bytes
+
+-- ---- what a call does
+-- other names are as they were
+abbrev pub SameBut : List ℕ → Names → Names → Type 0
+SameBut path old new = (other : List ℕ) → other ≢ path → new other ≡ old other
+
+-- the directory's names are changed, and it isn't synced
+abbrev pub with_names : Disk → Names → Disk
+with_names disk names = record disk { names = names; earlier = moments disk }
+
+-- the file that was created last is synced with these bytes, or isn't synced
+abbrev pub with_bytes : Disk → Option (List ℕ) → Disk
+with_bytes disk bytes = record disk { synced = λ file. if file == disk.created then bytes else disk.synced file }
+
+-- no path leads to the file, nor did since the directory was synced, and nothing of it is synced
+pub record IsNew (file : ℕ) (disk : Disk) : Type 0 where
+  pub unsynced : disk.synced file ≡ None
+  pub unnamed : (names : Names) → IsAmong names (moments disk) → (path : List ℕ) → names path ≢ Some file
+
+-- a call does its work
+abbrev pub Does : Call → Disk → Disk → Type 0
+-- unlink: nothing is at the path
+Does (Remove path) old new = (names : Names) × (names path ≡ None) × SameBut path old.names names × (new ≡ with_names old names)
+-- open with O_CREAT and O_EXCL: a new file is at the path
+Does (Make path) old new =
+    (names : Names) × (file : ℕ) × IsNew file old × (names path ≡ Some file) × SameBut path old.names names
+    × (new ≡ record (with_names old names) { created = file })
+Does (Permit path) old new = new ≡ old
+-- write: the new file isn't synced any more
+Does (Write bytes) old new = new ≡ with_bytes old None
+-- fsync of the new file: a crash leaves these bytes
+Does (Sync bytes) old new = new ≡ with_bytes old bytes
+-- rename: at one path is what was at the other, of which nothing is said any more
+Does (Rename from to) old new =
+    (names : Names) × (names to ≡ old.names from) × ((other : List ℕ) → other ≢ from → other ≢ to → names other ≡ old.names other)
+    × (new ≡ with_names old names)
+-- fsync of the directory: a crash leaves its names; other directories make no difference
+Does (SyncDirectory path) old new = ((path ≡ old.directory) × (new ≡ record old { earlier = [] })) ⊎ ((path ≢ old.directory) × (new ≡ old))
+
+-- a call that fails, or that a crash interrupts, does its work or nothing; of a sync nothing can be relied on
+abbrev pub MayDo : Call → Disk → Disk → Type 0
+MayDo (Sync bytes) old new = new ≡ old
+MayDo (SyncDirectory path) old new = new ≡ old
+MayDo call old new = (new ≡ old) ⊎ Does call old new
+
+-- the change by a call and its answer
+abbrev pub Changes : Event → Disk → Disk → Type 0
+Changes (call, true) = Does call
+Changes (call, false) = MayDo call
+
+-- calls are made, one after the other
+abbrev pub Runs : List Event → Disk → Disk → Type 0
+Runs [] old new = new ≡ old
+Runs (event ∷ events) old new = (next : Disk) × Changes event old next × Runs events next new
+
+-- a crash while these calls are made, or right after, may leave this: it comes during the first one, or later. Writes to the new
+-- file need no place among the calls, since it may hold anything before it is synced.
+abbrev pub MayLeaveDuring : List Event → Disk → Remains → Type 0
+MayLeaveDuring [] disk left = MayLeave disk left
+MayLeaveDuring ((call, done) ∷ events) disk left =
+    ((next : Disk) × MayDo call disk next × MayLeave next left)
+    ⊎ ((next : Disk) × Changes (call, done) disk next × MayLeaveDuring events next left)

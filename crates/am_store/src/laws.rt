@@ -1,0 +1,62 @@
+//! Laws about what a crash leaves of a save.
+
+ghost use Rattle.std.specs.Prelude.{◌≡◌, ◌⊎◌, ℕ, false, List, [], ◌++◌, Option, Some, None, codes};
+ghost use Rattle.am_snapshot.specs.Texts.{row_text};
+ghost use Rattle.am_snapshot.specs.Saving.{FitsRow};
+ghost use Rattle.am_store.specs.declared.file_fault.FileFault.{FileFault};
+ghost use Rattle.am_store.specs.Calls.{Event};
+ghost use Rattle.am_store.specs.Saves.{IsDirectoryOf, IsSaved, IsStopped, saving};
+ghost use Rattle.am_store.specs.Crashes.{Disk, Remains, Keeps, MayLeave, MayLeaveDuring, Runs, bytes_at};
+ghost use Rattle.am_store.specs.UnsyncedSaves.{one_file, without_the_file, without_the_directory};
+
+use am_version_order::Version;
+
+/// States that a crash at any moment of a save leaves the file that was there, or none if none was, or else the new one; and
+/// after a save that is done, the new one.
+pub fn a_crash_leaves_the_old_file_or_the_new_one<V: Version>()
+    // PROMISE: A crash at any moment of a save leaves the old file or the new one, whole.
+    ensures saved { (path : List ℕ) (map : List V) (old : Option (List ℕ)) (before calls : List Event) (disk : Disk) (left : Remains) →
+        Keeps disk path old → IsSaved path (row_text V.seen map) before (before ++ calls) →
+        MayLeaveDuring calls disk left → (bytes_at left path ≡ old) ⊎ (bytes_at left path ≡ Some (row_text V.seen map)) }
+    ensures stopped { (path : List ℕ) (map : List V) (most : ℕ) (old : Option (List ℕ)) (before calls : List Event) (fault : FileFault)
+        (disk : Disk) (left : Remains) →
+        Keeps disk path old → IsStopped (FitsRow V.seen most map) path (row_text V.seen map) before (before ++ calls) fault →
+        MayLeaveDuring calls disk left → (bytes_at left path ≡ old) ⊎ (bytes_at left path ≡ Some (row_text V.seen map)) }
+    // PROMISE: After a save that is done, a crash leaves the new file.
+    ensures done { (path : List ℕ) (map : List V) (before calls : List Event) (disk new : Disk) → IsDirectoryOf path disk.directory →
+        IsSaved path (row_text V.seen map) before (before ++ calls) → Runs calls disk new → Keeps new path (Some (row_text V.seen map)) }
+{}
+
+/// States that a crash at any moment of a save, or right after it, leaves the new file, or what a crash before the save might
+/// have left. So after saves that stopped, too, a crash leaves the whole file of one of them, or what was there before all of
+/// them.
+pub fn a_save_adds_its_own_file_alone<V: Version>()
+    ensures saved { (path : List ℕ) (map : List V) (before calls : List Event) (disk : Disk) (left : Remains) →
+        IsSaved path (row_text V.seen map) before (before ++ calls) → MayLeaveDuring calls disk left →
+        (bytes_at left path ≡ Some (row_text V.seen map))
+        ⊎ ((earlier : Remains) × MayLeave disk earlier × (bytes_at earlier path ≡ bytes_at left path)) }
+    ensures stopped { (path : List ℕ) (map : List V) (most : ℕ) (before calls : List Event) (fault : FileFault) (disk : Disk) (left : Remains) →
+        IsStopped (FitsRow V.seen most map) path (row_text V.seen map) before (before ++ calls) fault → MayLeaveDuring calls disk left →
+        (bytes_at left path ≡ Some (row_text V.seen map))
+        ⊎ ((earlier : Remains) × MayLeave disk earlier × (bytes_at earlier path ≡ bytes_at left path)) }
+    ensures right_after { (calls : List Event) (disk new : Disk) (left : Remains) →
+        Runs calls disk new → MayLeave new left → MayLeaveDuring calls disk left }
+{}
+
+/// States that a crash leaves a file that is synced, if its directory is synced, too, and no file where none was then.
+pub fn what_is_synced_is_kept()
+    ensures there { (path bytes : List ℕ) (file : ℕ) (disk : Disk) → disk.earlier ≡ [] → disk.names path ≡ Some file →
+        disk.synced file ≡ Some bytes → Keeps disk path (Some bytes) }
+    ensures absent { (path : List ℕ) (disk : Disk) → disk.earlier ≡ [] → disk.names path ≡ None → Keeps disk path None }
+{}
+
+/// States that a save can be made, and what a crash may leave of one that lacks a sync: without that of the new file any bytes,
+/// and without that of the directory the old file.
+pub fn each_sync_is_needed()
+    ensures whole { (path row old : List ℕ) → (new : Disk) × Runs (saving false path (codes ".") row) (one_file path old) new }
+    // PROMISE: Without either sync a crash may lose the new file: worked disks.
+    ensures file { (path old found : List ℕ) → (new : Disk) × (left : Remains)
+        × Runs (without_the_file path) (one_file path old) new × MayLeave new left × (bytes_at left path ≡ Some found) }
+    ensures directory { (path row old : List ℕ) → (new : Disk) × (left : Remains)
+        × Runs (without_the_directory path row) (one_file path old) new × MayLeave new left × (bytes_at left path ≡ Some old) }
+{}

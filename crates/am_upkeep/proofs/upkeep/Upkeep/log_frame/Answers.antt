@@ -1,8 +1,0 @@
-use Rattle.am_upkeep.specs.Stores.{store_of}
-use Rattle.am_upkeep.proofs.Logged.{logged_delta}
-use Rattle.am_upkeep.proofs.upkeep.Upkeep.log_frame.Goals as goal
-
-pub returns-in-Delta : goal.returns-in-Delta
-returns-in-Delta g c =
-    rw c.in-Delta.is
-    (logged_delta c.in-Delta.part (store_of c.args.self.now) (store_of c.log_part.new.self) c.add.new.self c.add.ensures c.log_part.ensures.rows c.log_part.ensures.goes_on)

@@ -1,2 +1,0 @@
-pub mod Keepings
-pub mod Stores
