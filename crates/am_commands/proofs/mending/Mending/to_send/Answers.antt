@@ -12,7 +12,7 @@ loop-row-init g c = record {
   whole = refl;
   sending =
       rw (c.new.ensures.items, c.new-2.ensures)
-      (none_sent g.V.Version.seen g.V.Key.Ord.cmp (g.V.Message.reads Keep) g.V.Handed.is_hazard c.args.self.now.all c.args.self.now.moment c.args.held.now);
+      (none_sent g.V.Version.seen g.V.Key.Ord.cmp (g.V.Message.reads Keep) g.V.Candidate.is_hazard c.args.self.now.all c.args.self.now.moment c.args.held.now);
 }
 
 pub loop-row-preserved : goal.loop-row-preserved
@@ -20,9 +20,9 @@ loop-row-preserved g c =
     let rows = c.deref-row-items.result.now in
     subst
     (λ messages.
-    IsSendingOf g.V.Version.seen g.V.Key.Ord.cmp (g.V.Message.reads Keep) g.V.Handed.is_hazard c.args.self.now.all c.args.self.now.moment c.args.held.now
+    IsSendingOf g.V.Version.seen g.V.Key.Ord.cmp (g.V.Message.reads Keep) g.V.Candidate.is_hazard c.args.self.now.all c.args.self.now.moment c.args.held.now
     messages c.add_row.new.sent.rows.items c.add_row.new.sent.versions)
     (ap (λ one. flat_map (λ row. rows_of row.items) (take c.loop-row.row-index rows) ++ rows_of one) (c.deref.ensures.value ∙ ap (λ row. row.items) c.row-item.is)
     ∙ sym (flat_more (λ row. rows_of row.items) rows c.loop-row.row-index c.row-item.result c.loop-row-test.true))
-    (rows_more g.V.Version.seen g.V.Key.Ord.cmp (g.V.Message.reads Keep) g.V.Handed.is_hazard c.args.self.now.all c.args.self.now.moment c.args.held.now
+    (rows_more g.V.Version.seen g.V.Key.Ord.cmp (g.V.Message.reads Keep) g.V.Candidate.is_hazard c.args.self.now.all c.args.self.now.moment c.args.held.now
     (flat_map (λ row. rows_of row.items) (take c.loop-row.row-index rows)) (rows_of c.deref.result.now) _ _ _ _ c.loop-row.invariant c.in_ok-add_row.ensures)
