@@ -49,6 +49,7 @@ ANCHORS = {
     "save": ("am_store::a_crash_leaves_the_old_file_or_the_new_one", "saved"),
     "life": ("am_daemon::live", "lived"),
     "kept": ("am_daemon::Server::release", "kept"),
+    "commits": ("am_reactor::Service::release", "committed"),
 }
 
 HEAD = """# What is proved
@@ -60,11 +61,36 @@ Every function is proved safe: it returns on every input, without undefined beha
 - **Calm** is a premise, and nothing that comes for free: a replica that is cut off for longer than the retention may no longer be calm.
 """
 
+CHAIN = """## From a socket to a reply, clause by clause
+
+A silence that is posted to a member meets these clauses, in this order. `am_daemon::live`, lived, says of all connections at once, and at each moment, what steps 1 to 5, 7 and 8 say of one.
+
+1. `am_reactor::run`, led: just the bytes that came over the connection's own stream are fed to its session, in order, each once.
+2. `am_server::ConnectionState::screen`, refused: a foreign host or origin is turned away. `am_peer_auth::Authenticator::feed`, passes: so are frames without a seal.
+3. `am_http::Session::feed`: the bytes say one request, wherever they are cut (`am_http::cuts_change_nothing`).
+4. `am_api_silences::to_event`: the request means one event, or has its first fault.
+5. `am_member::apply_session_output`, exchanged: the event is one step at its moment. `am_instance::Instance::step`: what is held then, what is sent, what is replied.
+6. `am_backend::Backend::follow`: with logs, what the step sends to the disk is in the logs. `am_daemon::ServerState::reply`, waits: the reply waits for the next commit. `am_backend::Backend::keep`: what a commit has kept. `am_reactor::Service::release`, committed: a reply is released only after a commit. `am_daemon::Server::release`, kept: if not everything is kept, a line with status 500 goes out in its place.
+7. `am_api_silences::ReplyBuilder::finish`: the bytes of the reply to that step.
+8. `am_reactor::flush_session`, out: they leave over the connection's own stream, in order, each once.
+
+## From a step to a peer's socket
+
+1. `am_instance::Instance::step`: which frames the step sends to which peers, in order.
+2. `am_backend::Backend::follow`, queued: they wait behind those that waited, or are counted as not sent.
+3. `am_backend::Backend::next_frames`, taken: all that wait for a peer are taken out, in order, each once. `am_backend::Backend::text_of`, text: their bytes are the text of just these, sealed if members have a secret (`am_peer_auth::sealed_text`).
+4. `am_reactor::Service::outgoing`, committed: nothing is given for a peer before it is committed.
+5. `am_reactor::run`, peered: just what is given for a peer leaves over the link to it, in order, each byte once, or is told lost.
+6. At the other end a frame is fed, passes and is heard as a request is (steps 1 to 3 above; `am_gossip::Feeder::feed`), and is one step (step 5), of the place of its sender.
+
+That each step's frames are handed to `follow`, each step's reply to `reply`, and what `text_of` makes to the link of that peer, no clause says: one reads it in am_daemon.
+"""
+
 TAIL = """## Only tested
 
 - **That definitions mean what people want**: [cases/](CASES.md), worked out by hand.
 - **That the loop** is fair, keeps deadlines, closes the right connection, hands on an answer once the peer ends, and counts unfinished bytes, and that replies come: tests/upkeep.py, tests/edges.py. Members under faults of network, process and disk: tests/chaos.py.
-- **That with `--log`** the loop commits before it releases a reply or sends its frames, that what a save puts into a file is what the logs lack, and that a start reads both logs, so that members with logs are durable: tests/disk.py.
+- **That with `--log`** what a save puts into a file is what the logs lack, and that a start reads both logs, so that members with logs are durable: tests/disk.py.
 - **A member's turns, figures, readiness and first pull**, that a decision is broken off at its limit and not before, and that it gives each step the right moment: tests/turns.py, tests/operations.py, tests/three_members.py, tests/machines.py.
 - **That pages go out**, and only once if nothing fails: tests/pages.py; with real Alertmanagers, if one is installed, tests/real_shims.py.
 - **Command lines, what is read from a path, a server or logs, the counts of `diff --prometheus`, what `mend` does in turn, pictures' layout, the page for people**: tests/command_line.py, live_sources.py, log_sources.py, gossip.py, pictures.py, page.py (with chromium).
@@ -141,11 +167,13 @@ def page():
     places = [(f"{crate}::{function}", clause) for crate, marks in found.items() for function, clause, _ in marks]
     if lacking := [it for it in ANCHORS.values() if places.count(it) != 1]:
         sys.exit(f"docs/promises.py: not one promise each is at {lacking}")
+    if lacking := set(re.findall(r"`(am_\w+(?:::\w+)+)`", CHAIN)) - {function for function, _ in places}:
+        sys.exit(f"docs/promises.py: no promise is at {sorted(lacking)}")
     lines = [HEAD]
     for part, crates in PARTS.items():
         rows = [row(crate, *mark) for crate in crates for mark in found.get(crate, [])]
         lines += [f"## {part}\n", "Call, clause | Promise\n---|---", *rows, ""]
-    return "\n".join([*lines, TAIL])
+    return "\n".join([*lines, CHAIN, TAIL])
 
 
 def main():

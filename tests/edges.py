@@ -963,6 +963,78 @@ def test_patterns(folder):
     compare("a stop", (member.stop(), member.lines[1:]), (0, []))
 
 
+TOO_MANY = (400, b'"too many patterns"')
+
+
+def large(number):
+    """A pattern that takes several MiB, as it is counted, one for each number."""
+    return rf"\pL{{140}}v{number}"
+
+
+def put_large(member, number, **more):
+    """What comes of a post with such a pattern."""
+    matchers = [{"name": "alertname", "value": large(number), "isRegex": True}]
+    return member.ask("POST", "/api/v2/silences", json.dumps(silence("x", matchers=matchers, **more)).encode())
+
+
+def put_until_full(member):
+    """The identifiers of silences with such patterns, as many as the member takes."""
+    taken = []
+    while (reply := put_large(member, len(taken)))[0] == 200:
+        taken.append(json.loads(reply[1])["silenceID"])
+    compare("the next post", reply, TOO_MANY)
+    return taken
+
+
+def decided_on(member, count):
+    """What comes of a question about so many alerts, none of which is muted."""
+    alerts = [{"status": "firing", "labels": {"alertname": f"a{number}"}} for number in range(count)]
+    body = json.dumps({"groupKey": "g", "receiver": "r", "alerts": alerts}).encode()
+    status, answer = member.ask("POST", "/v1/decide?wait=false", body)
+    return status, json.loads(answer).get("reason")
+
+
+def meanwhile(member, work):
+    """What comes of something, how long it takes, and for how long somebody waits for /-/healthy beside it at most."""
+    start, longest, statuses = time.monotonic(), 0, set()
+    with ThreadPoolExecutor(1) as lane:
+        doing = lane.submit(work)
+        while not doing.done():
+            asked_at = time.monotonic()
+            statuses.add(member.ask("GET", "/-/healthy")[0])
+            longest = max(longest, time.monotonic() - asked_at)
+    compare("it is healthy meanwhile", statuses, {200})
+    return doing.result(), time.monotonic() - start, longest
+
+
+def test_all_patterns(folder):
+    """The patterns of all silences that haven't ended are bounded where one is posted, so a decision compiles none of them anew."""
+    member = alone("p", folder, ["--time-limit", str(PATIENCE), "--retention", "3600"])
+    taken, _, longest = meanwhile(member, lambda: put_until_full(member))
+    check("some are taken", 8 <= len(taken) <= 60, len(taken))
+    check("nobody waits for long beside posts", longest < 0.5, longest)
+    found, took, longest = meanwhile(member, lambda: decided_on(member, 30))
+    compare("a decision over all", found, (200, "First"))
+    check("is made soon", took < 2, took)
+    check("nobody waits for long beside it", longest < 0.5, longest)
+    compare("another post", put_large(member, "x"), TOO_MANY)
+    compare("one with a pattern that is there", put_large(member, 0)[0], 200)
+    compare("one in the place of another", put_large(member, 1, id=taken[1], comment="again")[0], 200)
+    compare("one without a pattern", post(member, "x")[0], 200)
+    compare("a broken pattern", member.ask("POST", "/api/v2/silences", with_patterns(["("])), (400, b'"bad pattern"'))
+    compare("what takes too much by itself", member.ask("POST", "/api/v2/silences", with_patterns(map(large, "abcdefgh"))), (400, b'"bad pattern"'))
+    for it in taken[-2:]:
+        compare("an end", member.ask("DELETE", f"/api/v2/silence/{it}")[0], 200)
+    compare("there is room again", [put_large(member, it)[0] for it in "yz"], [200, 200])
+    compare("but not for one more", put_large(member, "x"), TOO_MANY)
+    compare("the stop", (member.stop(), member.lines[1:]), (0, []))
+    member = alone("p", folder, ["--time-limit", str(PATIENCE), "--retention", "3600"])
+    (found, took, longest) = meanwhile(member, lambda: put_large(member, "x"))
+    compare("a post after a start", found, TOO_MANY)
+    check("nobody waits for long beside it", longest < 0.5, longest)
+    compare("the stop", (member.stop(), member.lines[1:]), (0, []))
+
+
 LONG_FILTER = f"{LIST}?filter=" + quote('job=~"(.?){8000}"')
 
 
@@ -1230,7 +1302,7 @@ def main():
             test_silent_beside_wait,
             test_unfinished,
             test_slow_readers,
-            test_patterns, test_long_value,
+            test_patterns, test_all_patterns, test_long_value,
             test_long_filter,
             test_long_posts,
             test_full,

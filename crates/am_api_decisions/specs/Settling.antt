@@ -1,5 +1,5 @@
 -- The answer to a decision, once all alerts of its group have been asked.
-use Rattle.std.specs.Prelude.{◌≡◌, ◌⊎◌, ◌&&◌, ◌==◌, ◌*◌, ℕ, Bool, true, false, List, [], length, map, Result, Ok, Err}
+use Rattle.std.specs.Prelude.{◌≡◌, ◌⊎◌, ◌&&◌, ◌==◌, ◌*◌, ℕ, Bool, true, false, List, [], length, map, Option, Some, None, Result, Ok, Err}
 use Rattle.am_dedup.specs.declared.decision.Decision.{Decision}
 use Rattle.am_dedup.specs.declared.decision.Decision.TheVariants.{Skip, Notify}
 use Rattle.am_api_decisions.specs.Answers.{answer_data}
@@ -75,6 +75,12 @@ pub record IsAnswerOf (timing : Timing) (group : Group) (counted : Counted) (why
 abbrev pub IsAnswerBytes : Timing → Group → Counted → Why → List ℕ → Type 0
 IsAnswerBytes timing group counted why bytes =
     (answer : DecisionReply) × IsAnswerOf timing group counted why answer × (bytes ≡ good_bytes (compact_text (answer_data answer)))
+
+-- The reply gives this reason; one that gives none is a line of a refusal.
+abbrev pub GivesReason : Option Why → ResponseBytes → Type 0
+GivesReason (Some why) reply =
+    Says (λ bytes. (answer : DecisionReply) × (answer.reason ≡ why) × (bytes ≡ good_bytes (compact_text (answer_data answer)))) reply
+GivesReason None reply = Says (λ bytes. (line : RefusalLine) × (bytes ≡ line_bytes line)) reply
 
 -- The bytes say what a step decided.
 abbrev pub IsDecisionBytes : Judgement → Timing → Group → Counted → Reply → List ℕ → Type 0

@@ -1,14 +1,21 @@
 //! The answer whether to notify, and why.
 
-ghost use Rattle.std.specs.Prelude.{◌≡◌};
+ghost use Rattle.std.specs.Prelude.{◌≡◌, MatchOption, false};
+ghost use Rattle.am_http.specs.Lines.{line_seen};
+ghost use Rattle.am_api_silences.specs.ReplyBuilder.{IsNoMemory};
+ghost use Rattle.am_api_silences.specs.Replies.{Says, line_bytes};
 ghost use Rattle.am_api_decisions.specs.Answers.{reason_text, why_text};
+ghost use Rattle.am_api_decisions.specs.Settling.{GivesReason, is_notified};
 
+use crate::replies::{short, tell};
 use am_api_silences::ResponseBytes;
 use am_dedup::Reason;
+use am_http::Refusal;
 use am_matcher::Labels;
 use am_nflog::Hashes;
 use am_silence_json::moments::MomentText;
 use am_wire::Text;
+use std::alloc::Global;
 
 /// The reason why a group is notified or not.
 #[derive(Clone, Copy)]
@@ -47,6 +54,17 @@ impl Why {
             Why::Muted => "Muted",
         }
     }
+
+    /// Returns whether the group is to be notified.
+    pub fn is_notified(self) -> bool
+        ensures { result ≡ is_notified self }
+    {
+        match self {
+            Why::Notify(_) | Why::Unjudged => true,
+            Why::Skip => false,
+            Why::Muted => false,
+        }
+    }
 }
 
 /// The reply to a question.
@@ -55,6 +73,40 @@ pub struct Verdict {
     pub reply: ResponseBytes,
     /// The reason that the reply gives, or `None` if it says why nothing is decided.
     pub why: Option<Why>,
+}
+
+impl Verdict {
+    /// Returns whether the group is to be notified. A refusal decides nothing.
+    pub fn is_notified(&self) -> bool
+        ensures { MatchOption self.now.why (result ≡ false) (λ why. result ≡ is_notified why) }
+    {
+        match self.why {
+            Some(why) => why.is_notified(),
+            None => false,
+        }
+    }
+
+    /// Returns the one whose reply says that there is no memory for another.
+    pub(crate) fn short() -> Verdict
+        ensures short { IsNoMemory result.reply }
+        ensures reason { GivesReason result.why result.reply }
+    {
+        Verdict {
+            reply: short(),
+            why: None,
+        }
+    }
+
+    /// Returns the one whose reply is a refusal.
+    pub(crate) fn refusal(alloc: Global, line: &Refusal) -> Verdict
+        ensures line { Says (λ bytes. bytes ≡ line_bytes (line_seen line.now)) result.reply }
+        ensures reason { GivesReason result.why result.reply }
+    {
+        Verdict {
+            reply: tell(alloc, line),
+            why: None,
+        }
+    }
 }
 
 /// A muted alert, and identifiers of silences that mute it.

@@ -4,14 +4,13 @@ ghost use Rattle.std.specs.Prelude.{◌≡◌, ◌==◌, ℕ, List, [], ◌∷�
 ghost use Rattle.am_http.specs.Lines.{line_seen};
 ghost use Rattle.am_api_decisions.specs.Asking.{HoldsSame, IsMutesStep, StopsAt, counted_with};
 ghost use Rattle.am_api_decisions.specs.Deciding.{IsGoingOn, underway_of};
-ghost use Rattle.am_api_decisions.specs.Settling.{IsBrokenOff, IsDecided};
+ghost use Rattle.am_api_decisions.specs.Settling.{GivesReason, IsBrokenOff, IsDecided};
 
 use crate::alerts::ask;
 use crate::answer::Verdict;
 use crate::asked::Question;
 use crate::group::Group;
 use crate::message::Alert;
-use crate::replies::{short, tell};
 use crate::settling::{Judgement, settle};
 use crate::table;
 use crate::tally::Tally;
@@ -140,6 +139,8 @@ impl Deciding {
     pub fn decide(self, alloc: Global, instance: &mut Instance, timing: Timing) -> Verdict
         // PROMISE: The decision is over all alerts that no silence mutes, and its reply is the text of that answer.
         ensures decided { IsDecided timing self instance.old result.reply instance.new }
+        // PROMISE: The reason that is handed on for counting is the one that the reply tells.
+        ensures reason { GivesReason result.why result.reply }
         ensures same { HoldsSame instance.old instance.new }
     {
         let count = self.left.len();
@@ -153,10 +154,7 @@ impl Deciding {
                 } = deciding;
                 settle(alloc, instance, group, tally, Judgement::Whole, timing)
             }
-            Err(refusal) => Verdict {
-                reply: tell(alloc, &refusal),
-                why: None,
-            },
+            Err(refusal) => Verdict::refusal(alloc, &refusal),
         }
     }
 
@@ -166,6 +164,7 @@ impl Deciding {
     pub fn break_off(self, alloc: Global, instance: &mut Instance, timing: Timing) -> Verdict
         // PROMISE: A decision that is broken off leaves out no alert that wasn't asked, and says so.
         ensures decided { IsBrokenOff timing self instance.old result.reply instance.new }
+        ensures reason { GivesReason result.why result.reply }
         ensures same { HoldsSame instance.old instance.new }
     {
         let Deciding {
@@ -176,10 +175,7 @@ impl Deciding {
         } = self;
         match tally.add_unasked(alloc, left) {
             Ok(()) => settle(alloc, instance, group, tally, Judgement::Partial, timing),
-            Err(_) => Verdict {
-                reply: short(),
-                why: None,
-            },
+            Err(_) => Verdict::short(),
         }
     }
 }

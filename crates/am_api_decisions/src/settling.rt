@@ -4,12 +4,12 @@ ghost use Rattle.std.specs.Prelude.{◌≡◌, IfOk};
 ghost use Rattle.serde_json.specs.Written.{compact_text};
 ghost use Rattle.am_api_decisions.specs.Answers.{answer_data};
 ghost use Rattle.am_api_silences.specs.Replies.{Says, good_bytes};
-ghost use Rattle.am_api_decisions.specs.Settling.{IsAnswerBytes, IsAnswerOf, IsDecidedByStep, IsSettled, why_of};
-ghost use Rattle.am_api_decisions.specs.Settling.{IsDecisionBytes, is_notified};
+ghost use Rattle.am_api_decisions.specs.Settling.{GivesReason, IsAnswerBytes, IsAnswerOf, IsDecidedByStep, IsSettled, why_of};
+ghost use Rattle.am_api_decisions.specs.Settling.{IsDecisionBytes};
 
 use crate::answer::{DecisionReply, Verdict, Why};
 use crate::group::Group;
-use crate::replies::{good, short, tell};
+use crate::replies::good;
 use crate::reply_bytes::write_answer;
 use crate::table;
 use crate::tally::Tally;
@@ -42,17 +42,6 @@ fn why_of(judgement: Judgement, decision: Decision) -> Why
     }
 }
 
-/// Returns whether the group is to be notified.
-fn is_notified(why: Why) -> bool
-    ensures { result ≡ is_notified why }
-{
-    match why {
-        Why::Notify(_) | Why::Unjudged => true,
-        Why::Skip => false,
-        Why::Muted => false,
-    }
-}
-
 /// Returns the answer that says what is decided of a group, and why.
 fn answer_of(timing: Timing, group: Group, tally: Tally, why: Why) -> DecisionReply
     ensures { IsAnswerOf timing group tally why result }
@@ -81,7 +70,7 @@ fn answer_of(timing: Timing, group: Group, tally: Tally, why: Why) -> DecisionRe
         index,
         integration,
         muted,
-        notify: is_notified(why),
+        notify: why.is_notified(),
         reason: why,
         receiver,
         repeat: repeat.seconds,
@@ -101,7 +90,8 @@ fn answered(alloc: Global, answer: &DecisionReply) -> Result<Vec<u8>, AllocError
 
 /// Returns the reply that says what is decided of a group, and why.
 fn told_of(alloc: Global, timing: Timing, group: Group, tally: Tally, why: Why) -> Verdict
-    ensures { Says (IsAnswerBytes timing group tally why) result.reply }
+    ensures says { Says (IsAnswerBytes timing group tally why) result.reply }
+    ensures reason { GivesReason result.why result.reply }
 {
     let answer = answer_of(timing, group, tally, why);
     match answered(alloc, &answer) {
@@ -109,10 +99,7 @@ fn told_of(alloc: Global, timing: Timing, group: Group, tally: Tally, why: Why) 
             reply: ResponseBytes::Own(bytes),
             why: Some(why),
         },
-        Err(_) => Verdict {
-            reply: short(),
-            why: None,
-        },
+        Err(_) => Verdict::short(),
     }
 }
 
@@ -125,17 +112,15 @@ fn told_by(
     tally: Tally,
     reply: Reply,
 ) -> Verdict
-    ensures { Says (IsDecisionBytes judgement timing group tally reply) result.reply }
+    ensures says { Says (IsDecisionBytes judgement timing group tally reply) result.reply }
+    ensures reason { GivesReason result.why result.reply }
 {
     match reply {
         Reply::Decided(decision) => {
             let why = why_of(judgement, decision);
             told_of(alloc, timing, group, tally, why)
         }
-        _ => Verdict {
-            reply: short(),
-            why: None,
-        },
+        _ => Verdict::short(),
     }
 }
 
@@ -148,20 +133,15 @@ fn decide_by_step(
     judgement: Judgement,
     timing: Timing,
 ) -> Verdict
-    ensures { IsDecidedByStep judgement timing group tally instance.old result.reply instance.new }
+    ensures decided { IsDecidedByStep judgement timing group tally instance.old result.reply instance.new }
+    ensures reason { GivesReason result.why result.reply }
 {
     let Ok(event) = group.event(alloc, &tally) else {
-        return Verdict {
-            reply: short(),
-            why: None,
-        };
+        return Verdict::short();
     };
     match instance.step(event, timing.now) {
         Ok(outcome) => told_by(alloc, judgement, timing, group, tally, outcome.reply),
-        Err(error) => Verdict {
-            reply: tell(alloc, &table::refused(error)),
-            why: None,
-        },
+        Err(error) => Verdict::refusal(alloc, &table::refused(error)),
     }
 }
 
@@ -174,7 +154,8 @@ pub fn settle(
     judgement: Judgement,
     timing: Timing,
 ) -> Verdict
-    ensures { IsSettled judgement timing group tally instance.old result.reply instance.new }
+    ensures settled { IsSettled judgement timing group tally instance.old result.reply instance.new }
+    ensures reason { GivesReason result.why result.reply }
 {
     if tally.has_none() {
         return told_of(alloc, timing, group, tally, Why::Muted);

@@ -1,18 +1,21 @@
 -- What is logged of frames, one after another.
 use Rattle.std.proofs.Common.{◌≡◌, ℕ, ◌+◌, ◌-◌, ◌^◌, ◌<◌, ◌≤◌, Bool, true, false, ◌||◌, List, [], ◌∷◌, ◌++◌, Option, Some, None, refl, sym, ap, subst, inl, inr, ◌∙◌, append_assoc, arith, length, take, get_or}
-use Rattle.std.specs.List.{list_any}
-use Rattle.std.specs.Prelude.{IfSome, if◌then◌else◌, is_some, nat_lt}
+use Rattle.std.specs.List.{filter, list_any}
+use Rattle.std.specs.Prelude.{◌==◌, IfSome, if◌then◌else◌, is_some, map, nat_lt}
 use borrow.Author.Tests.{lt-ltb, ltb-false, ltb-true}
 use Rattle.std.proofs.Math.Dec.{ltb}
-use Rattle.std.proofs.lemmas.List.{append-nil, take_more}
+use Rattle.std.proofs.lemmas.List.{append-nil, map-append, take_more}
+use Rattle.std.proofs.lemmas.List.Elements.{filter-append}
 use Rattle.am_gossip.specs.declared.frame.Frame.{Frame}
 use Rattle.am_gossip.specs.declared.frame.Frame.TheVariants.{Delta}
 use Rattle.am_gossip.specs.declared.frame.Part.{Part}
 use Rattle.am_gossip.specs.declared.frame.StateKey.{StateKey}
 use Rattle.am_gossip.specs.declared.frame.StateKey.TheVariants.{Sil, Nfl}
+use Rattle.am_peers.specs.Queues.{frames_beside, frames_for}
 use Rattle.am_store.specs.Appending.{Appends, IfKept, LogRows}
 use Rattle.am_backend.specs.declared.commit_state.CommitState.{CommitState}
 use Rattle.am_backend.specs.CommitStates.{behind, came, counted_on, keeps_logs, with_lost, with_more}
+use Rattle.am_backend.specs.Outbound.{for_peers}
 use Rattle.am_backend.specs.Stores.{AreLogged, GoesOn, HasCome, IsLogged, Store, brings, brought, lost_if, rows_for, rows_if}
 
 pub rows_for-append : (key : StateKey) (xs ys : List Frame) → rows_for key (xs ++ ys) ≡ rows_for key xs ++ rows_for key ys
@@ -102,11 +105,20 @@ logged_none store =
       goes_on = stays store.commit_state;
     }
 
--- a frame more of a list is logged
-pub logged_more : (frames : List Frame) (i : ℕ) (frame : Frame) (old mid new : Store) → i < length frames → IsLogged (take i frames) old mid → IsLogged (get_or frames i frame ∷ []) mid new
-    → IsLogged (take (i + 1) frames) old new
-logged_more frames i frame old mid new below so_far is =
-    subst (λ (some : List Frame). IsLogged some old new) (sym (take_more frames i frame below)) (logged_on (take i frames) (get_or frames i frame ∷ []) old mid new so_far is)
+-- ---- the frames for the disk, among those for all places
+
+for_append : (disk : ℕ) (xs ys : List (ℕ × Frame)) → frames_for disk (xs ++ ys) ≡ frames_for disk xs ++ frames_for disk ys
+for_append disk xs ys =
+    ap (λ (queued : List (ℕ × Frame)). map (λ q. q.1) queued) (filter-append (λ q. q.0 == disk) xs ys)
+    ∙ map-append (λ q. q.1) (filter (λ q. q.0 == disk) xs) (filter (λ q. q.0 == disk) ys)
+
+-- one more of them is logged, if it is for the disk
+pub logged_more : (disk : ℕ) (queued : List (ℕ × Frame)) (i : ℕ) (q : ℕ × Frame) (old mid new : Store) → i < length queued → IsLogged (frames_for disk (take i queued)) old mid
+    → IsLogged (frames_for disk (get_or queued i q ∷ [])) mid new → IsLogged (frames_for disk (take (i + 1) queued)) old new
+logged_more disk queued i q old mid new below so_far is =
+    subst (λ (frames : List Frame). IsLogged frames old new)
+    (sym (ap (λ (some : List (ℕ × Frame)). frames_for disk some) (take_more queued i q below) ∙ for_append disk (take i queued) (get_or queued i q ∷ [])))
+    (logged_on (frames_for disk (take i queued)) (frames_for disk (get_or queued i q ∷ [])) old mid new so_far is)
 
 -- ---- one frame
 
@@ -137,9 +149,6 @@ logged_delta part old new added is rows on =
 
 -- ---- what is lost
 
-lost_is : (commit_state : CommitState) → keeps_logs commit_state ≡ true → with_lost commit_state ≡ record (with_more commit_state) { is_behind = true }
-lost_is commit_state on = rw on refl
-
 lost_on : (commit_state : CommitState) → GoesOn commit_state (with_lost commit_state)
 lost_on commit_state =
     elim (is_some commit_state.disk) as (λ b. GoesOn commit_state (if b then record (with_more commit_state) { is_behind = true } else commit_state))
@@ -150,16 +159,14 @@ pub lost_goes_on : (lost : Bool) (old : CommitState) (mid new : Store) → mid.c
 lost_goes_on true old mid new same is = subst (λ (k : CommitState). GoesOn k new.commit_state) same (subst (λ (s : Store). GoesOn mid.commit_state s.commit_state) (sym is) (lost_on mid.commit_state))
 lost_goes_on false old mid new same is = subst (λ (k : CommitState). GoesOn k new.commit_state) same (subst (λ (s : Store). GoesOn mid.commit_state s.commit_state) (sym is) (stays mid.commit_state))
 
--- if frames are lost, that is known
-pub all_lost : (frames : List Frame) (old new : Store) → keeps_logs old.commit_state ≡ true → new ≡ record old { commit_state = with_lost old.commit_state } → IsLogged frames old new
-all_lost frames old new on is =
-    let same : new.commit_state ≡ record (with_more old.commit_state) { is_behind = true } = ap (λ (s : Store). s.commit_state) is ∙ lost_is old.commit_state on in
-    record {
-      rows = λ kept. inl (ap behind same);
-      come = λ any. subst (λ (k : CommitState). HasCome old.commit_state k) (sym same) (record { due = refl; counted = counted_more old.commit_state.changes });
-      goes_on = subst (λ (k : CommitState). GoesOn old.commit_state k) (sym (ap (λ (s : Store). s.commit_state) is)) (lost_on old.commit_state);
-    }
-
 -- what holds at the place of the disk
 pub at_disk : (o : Option ℕ) (disk : ℕ) (P : ℕ → Type 0) → o ≡ Some disk → P disk → IfSome o P
 at_disk o disk P is holds = subst (λ (o' : Option ℕ). IfSome o' P) (sym is) holds
+
+-- the frames for peers, where the disk has this place
+pub beside_disk : (o : Option ℕ) (disk : ℕ) (frames peers : List (ℕ × Frame)) → o ≡ Some disk → peers ≡ frames_beside disk frames → peers ≡ for_peers o frames
+beside_disk o disk frames peers is beside = subst (λ (o' : Option ℕ). peers ≡ for_peers o' frames) (sym is) beside
+
+-- all frames are for peers, where no logs are kept
+pub all_beside : (o : Option ℕ) (frames : List (ℕ × Frame)) → o ≡ None → frames ≡ for_peers o frames
+all_beside o frames is = subst (λ (o' : Option ℕ). frames ≡ for_peers o' frames) (sym is) refl

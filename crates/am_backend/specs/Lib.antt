@@ -1,2 +1,3 @@
 pub mod CommitStates
+pub mod Outbound
 pub mod Stores

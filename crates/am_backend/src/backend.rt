@@ -1,14 +1,18 @@
 //! The backend of a member, as those who make its steps see it.
 
-ghost use Rattle.std.specs.Prelude.{◌≡◌, ◌≤◌, IfSome, Result};
+ghost use Rattle.std.specs.Prelude.{◌≡◌, ◌≤◌, ◌↔◌, [], length, Option, is_some, IfNone, IfSome, IsTrue, Result};
 ghost use Rattle.am_instance.specs.OneStep.{IsStep};
 ghost use Rattle.am_instance.specs.declared.event.Event.TheVariants as events;
 ghost use Rattle.am_instance.specs.declared.reply.Outcome.{Outcome};
 ghost use Rattle.am_gossip.specs.declared.refusals.StepError.{StepError};
+ghost use Rattle.am_instance.specs.Sendings.{Sent};
+ghost use Rattle.am_peer_auth.specs.declared.seal.Lock.{Lock};
+ghost use Rattle.am_backend.specs.CommitStates.{disk_of};
+ghost use Rattle.am_backend.specs.Outbound.{AreGone, IsQueued, IsTaken, IsTextFor, left_out, outbound_of};
 ghost use Rattle.am_backend.specs.Stores.{IsFollowed, IsKept, Store, store_of as backend_store};
 
 use crate::commit_state::CommitState;
-use crate::counting::count_handed;
+use crate::counting::{cause_of, count_handed};
 use crate::system_backend::SystemBackend;
 use am_diagnostics::{Diagnostic, Fault, TickVerdict, signals};
 use am_gossip::Frame;
@@ -17,6 +21,7 @@ use am_metrics::{Metrics, StepLabel};
 use am_options::{Options, Process};
 use am_peer_auth::Sequence;
 use am_peers::{ConnectionFault, Parted, split_by_peer};
+use am_reactor::LinkFault;
 use am_version_order::Moment;
 use std::fs::File;
 use std::mem;
@@ -48,6 +53,12 @@ pub trait Backend {
     /// The store: the state of what is to be on the disk, and the rows of the logs.
     ghost store_of: { Self → Store };
 
+    /// The frames that wait for peers, each with the place of its peer, and the numbers of those that aren't sent.
+    ghost outbound: { Self → Sent };
+
+    /// The lock by which frames are sealed, if members have a secret.
+    ghost sealed_by: { Self → Option Lock };
+
     /// Returns the options that the member was started with.
     fn options(&self) -> &Options<'_>;
 
@@ -78,14 +89,17 @@ pub trait Backend {
         ensures { result ≡ (store_of self.now).commit_state };
 
     /// Notes what comes.
-    fn take(&mut self, incoming: Incoming);
+    fn take(&mut self, incoming: Incoming)
+        ensures { (outbound self.new).frames ≡ (outbound self.old).frames };
 
     /// Returns whether there is room for `post` bytes of a post, and for the ends of all silences. If there doesn't seem to be,
     /// the silences are counted anew, once a second.
-    fn has_room_for_post(&mut self, instance: &Instance, post: u64) -> bool;
+    fn has_room_for_post(&mut self, instance: &Instance, post: u64) -> bool
+        ensures { (outbound self.new).frames ≡ (outbound self.old).frames };
 
     /// Returns whether the log has room for `notice` bytes of a notice. If it doesn't seem to, it is counted anew, once a second.
-    fn has_room_for_notice(&mut self, instance: &Instance, notice: u64) -> bool;
+    fn has_room_for_notice(&mut self, instance: &Instance, notice: u64) -> bool
+        ensures { (outbound self.new).frames ≡ (outbound self.old).frames };
 
     /// Returns the moment of a Tick after the last event, unless that is too far ahead of the time that has passed, and the clock
     /// isn't trusted.
@@ -94,38 +108,48 @@ pub trait Backend {
 
     /// Drops what has expired at a moment, and saves both states.
     fn tick(&mut self, instance: &mut Instance, moment: Moment)
-        ensures { (answer : Result Outcome StepError) × IsStep instance.old events.Tick moment answer instance.new };
+        ensures step { (answer : Result Outcome StepError) × IsStep instance.old events.Tick moment answer instance.new }
+        ensures queue { (outbound self.new).frames ≡ (outbound self.old).frames };
 
     /// Saves both states, if something may have changed since the last save: when a save is due, and at the start, if a log
     /// stands that is to go. Without logs that is before anything comes: what ended a version that such a log has would be in no
     /// log, and could have gone before the log does.
-    fn save_owed(&mut self, instance: &Instance);
+    fn save_owed(&mut self, instance: &Instance)
+        ensures { (outbound self.new).frames ≡ (outbound self.old).frames };
 
     /// Makes sure of what was done so far: it is in the logs or, if they lack something, in the files.
     fn keep(&mut self, instance: &Instance)
         // PROMISE: With logs, a commit has kept everything only if both logs have all their rows on the disk and lacked nothing, or both states were saved.
-        ensures { IsKept (store_of self.old) (store_of self.new) };
+        ensures kept { IsKept (store_of self.old) (store_of self.new) }
+        ensures queue { (outbound self.new).frames ≡ (outbound self.old).frames };
 
     /// Does the next stage of the file that is being written anew, if the logs lack nothing, and returns the time until the next
     /// one.
-    fn compact(&mut self, instance: &Instance, now: Instant) -> Option<Duration>;
+    fn compact(&mut self, instance: &Instance, now: Instant) -> Option<Duration>
+        ensures { (outbound self.new).frames ≡ (outbound self.old).frames };
 
     /// Tells that the clock is behind the moment of the last event, and that it no longer is; and that it went far ahead, unless
     /// it is trusted.
-    fn look_at_clock(&mut self, instance: &Instance, now: Instant);
+    fn look_at_clock(&mut self, instance: &Instance, now: Instant)
+        ensures { (outbound self.new).frames ≡ (outbound self.old).frames };
 
     /// Returns whether there is room for a line.
-    fn has_room_for_line(&mut self) -> bool;
+    fn has_room_for_line(&mut self) -> bool
+        ensures { (outbound self.new).frames ≡ (outbound self.old).frames };
 
     /// Prints how many bytes were cut off from the logs, if any were.
-    fn tell_torn(&mut self, config: &Config);
+    fn tell_torn(&mut self, config: &Config)
+        ensures { (outbound self.new).frames ≡ (outbound self.old).frames };
 
     /// Prints a fault that is about a peer, if its place is known.
     fn tell_of(&mut self, config: &Config, peer: Option<Place>, fault: Fault)
-        ensures { store_of self.new ≡ store_of self.old };
+        ensures store { store_of self.new ≡ store_of self.old }
+        ensures outbound { outbound self.new ≡ outbound self.old }
+        ensures lock { sealed_by self.new ≡ sealed_by self.old };
 
     /// Prints how many lines were left out of each kind for which that is due.
-    fn settle_due_lines(&mut self, config: &Config, now: Instant);
+    fn settle_due_lines(&mut self, config: &Config, now: Instant)
+        ensures { (outbound self.new).frames ≡ (outbound self.old).frames };
 
     /// Returns the time until that is due for a kind.
     fn lines_left(&self, now: Instant) -> Option<Duration>;
@@ -139,16 +163,25 @@ pub trait Backend {
         fault: Option<ConnectionFault>,
     )
         // PROMISE: With logs, each version that a step sends to the place of the disk is added to the log of its state, or the logs are known to lack it; and the next commit is due.
-        ensures { IsFollowed outbox (store_of self.old) (store_of self.new) };
+        ensures followed { IsFollowed outbox (store_of self.old) (store_of self.new) }
+        // PROMISE: What a step sends to peers waits behind what waited before, in order, or memory ran out, and just those frames are counted as not sent.
+        ensures queued { IsQueued (disk_of (store_of self.old).commit_state) outbox (outbound self.old) (outbound self.new) };
 
     /// Returns whether no frame waits.
-    fn sends_nothing(&self) -> bool;
+    fn sends_nothing(&self) -> bool
+        ensures { IsTrue result ↔ ((outbound self.now).frames ≡ []) };
 
-    /// Takes out the frames that wait for the peer of the first of them, with its place.
-    fn next_frames(&mut self, config: &Config) -> Option<(Place, Vec<Frame>)>;
+    /// Takes out the frames that wait for the peer of the first of them, with its place. If there is no memory for that, all that
+    /// wait are told unsent.
+    fn next_frames(&mut self, config: &Config) -> Option<(Place, Vec<Frame>)>
+        // PROMISE: The frames that wait for a peer are taken out at once, in order, and those for others wait on.
+        ensures taken { IfSome result (λ taken. IsTaken taken.0 taken.1.items (outbound self.old) (outbound self.new)) }
+        ensures gone { IfNone result (AreGone (outbound self.old) (outbound self.new)) }
+        ensures lock { sealed_by self.new ≡ sealed_by self.old };
 
     /// Returns whether members have a secret, so that frames go out sealed.
-    fn is_sealed(&self) -> bool;
+    fn is_sealed(&self) -> bool
+        ensures { result ≡ is_some (sealed_by self.now) };
 
     /// Returns the text of frames for a peer, sealed from a place in its connection on if members have a secret. If there is
     /// none, the frames are told unsent.
@@ -158,15 +191,35 @@ pub trait Backend {
         peer: Place,
         from: Option<Sequence>,
         frames: &[Frame],
-    ) -> Option<Vec<u8>>;
+    ) -> Option<Vec<u8>>
+        // PROMISE: The bytes for a peer are the text of just the frames that go to it, in order, or what is sealed for its name.
+        ensures text { IfSome result (λ bytes. IsTextFor (sealed_by self.old) config.now peer from frames.now bytes.items) }
+        ensures queue { (outbound self.new).frames ≡ (outbound self.old).frames }
+        ensures unsent { IfNone result (outbound self.new ≡ left_out (length frames.now) (outbound self.old)) }
+        ensures lock { sealed_by self.new ≡ sealed_by self.old };
+
+    /// Counts frames that aren't sent for want of memory, and prints how many.
+    fn leave_out(&mut self, config: &Config, peer: Option<Place>, count: usize)
+        ensures outbound { outbound self.new ≡ left_out count (outbound self.old) }
+        ensures lock { sealed_by self.new ≡ sealed_by self.old };
+
+    /// Counts frames for a peer that are dropped before they are sealed, as those of a lost link.
+    fn drop_frames(&mut self, peer: usize, count: usize, fault: LinkFault)
+        ensures outbound { outbound self.new ≡ outbound self.old }
+        ensures lock { sealed_by self.new ≡ sealed_by self.old };
 
     /// Saves both states, now that nobody is served any more, be it because the listener failed. Returns the fault with which the
     /// member ends: that of the listener, or else the reason why a state isn't saved, which is told.
-    fn end(&mut self, instance: &Instance, failed: Option<Fault>) -> Option<Fault>;
+    fn end(&mut self, instance: &Instance, failed: Option<Fault>) -> Option<Fault>
+        ensures { (outbound self.new).frames ≡ (outbound self.old).frames };
 }
 
 impl<R: AllocGlobal + Clock + Eprint + Files<File = File>> Backend for SystemBackend<'_, R> {
     ghost store_of = { λ backend. backend_store backend };
+
+    ghost outbound = { λ backend. outbound_of backend };
+
+    ghost sealed_by = { λ backend. backend.lock };
 
     fn options(&self) -> &Options<'_> {
         self.options
@@ -329,7 +382,7 @@ impl<R: AllocGlobal + Clock + Eprint + Files<File = File>> Backend for SystemBac
         let frames = mem::replace(&mut self.queue, Vec::new(alloc));
         let count = frames.len();
         let Ok(Parted { own, others }) = split_by_peer(alloc, place, frames) else {
-            self.tell(config, Fault::UnsentMemory(count));
+            self.tell_left_out(config, None, count);
             return None;
         };
         self.queue = others;
@@ -353,11 +406,19 @@ impl<R: AllocGlobal + Clock + Eprint + Files<File = File>> Backend for SystemBac
                 Some(bytes)
             }
             None => {
-                self.figures.unsent(frames.len(), 0);
-                self.tell_of(config, Some(peer), Fault::UnsentMemory(frames.len()));
+                self.tell_left_out(config, Some(peer), frames.len());
                 None
             }
         }
+    }
+
+    fn leave_out(&mut self, config: &Config, peer: Option<Place>, count: usize) {
+        self.tell_left_out(config, peer, count);
+    }
+
+    fn drop_frames(&mut self, peer: usize, count: usize, fault: LinkFault) {
+        self.figures.heard.hand_on(peer, count as u64);
+        self.figures.heard.lose(peer, cause_of(fault));
     }
 
     fn end(&mut self, instance: &Instance, failed: Option<Fault>) -> Option<Fault> {

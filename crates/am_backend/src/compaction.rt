@@ -105,7 +105,9 @@ impl Compacting {
 
 impl<R> SystemBackend<'_, R> {
     /// Has both files written anew.
-    pub(crate) fn want_both(&mut self) {
+    pub(crate) fn want_both(&mut self)
+        ensures { self.new.queue ≡ self.old.queue }
+    {
         self.compacting.silences.is_wanted = true;
         self.compacting.log.is_wanted = true;
         self.is_changed = false;
@@ -113,7 +115,8 @@ impl<R> SystemBackend<'_, R> {
 
     /// Has each file written anew whose log has outgrown it.
     pub(crate) fn want_outgrown(&mut self)
-        ensures { store_of self.new ≡ store_of self.old }
+        ensures store { store_of self.new ≡ store_of self.old }
+        ensures queue { self.new.queue ≡ self.old.queue }
     {
         self.compacting.silences.is_wanted |= self.silences.is_outgrown();
         self.compacting.log.is_wanted |= self.log.is_outgrown();
@@ -123,7 +126,8 @@ impl<R> SystemBackend<'_, R> {
 impl<R: Files + AllocGlobal> SystemBackend<'_, R> {
     /// Gives up writing files anew, since both are saved.
     pub(crate) fn give_up_compaction(&mut self)
-        ensures { store_of self.new ≡ store_of self.old }
+        ensures store { store_of self.new ≡ store_of self.old }
+        ensures queue { self.new.queue ≡ self.old.queue }
     {
         match self.compacting.work {
             CompactionWork::Nothing => {}
@@ -136,7 +140,9 @@ impl<R: Files + AllocGlobal> SystemBackend<'_, R> {
 
 impl<R: Clock + Eprint> SystemBackend<'_, R> {
     /// Tells why the silences aren't written anew. If the log of their rows isn't trusted any more, that lacks what comes.
-    fn fail_silences(&mut self, config: &Config, fault: FileFault, now: Instant) {
+    fn fail_silences(&mut self, config: &Config, fault: FileFault, now: Instant)
+        ensures { self.new.queue ≡ self.old.queue }
+    {
         self.compacting.silences.fails(now);
         self.count_save_failed(SavedState::Silences);
         self.tell_uncompacted(config, Fault::Silences(fault));
@@ -146,7 +152,9 @@ impl<R: Clock + Eprint> SystemBackend<'_, R> {
     }
 
     /// Tells why the notification log isn't written anew. If the log of its rows isn't trusted any more, that lacks what comes.
-    fn fail_log(&mut self, config: &Config, fault: FileFault, now: Instant) {
+    fn fail_log(&mut self, config: &Config, fault: FileFault, now: Instant)
+        ensures { self.new.queue ≡ self.old.queue }
+    {
         self.compacting.log.fails(now);
         self.count_save_failed(SavedState::Log);
         self.tell_uncompacted(config, Fault::Log(fault));
@@ -156,7 +164,9 @@ impl<R: Clock + Eprint> SystemBackend<'_, R> {
     }
 
     /// Tells why a file isn't written anew, and notes that both are to be saved.
-    fn tell_uncompacted(&mut self, config: &Config, fault: Fault) {
+    fn tell_uncompacted(&mut self, config: &Config, fault: Fault)
+        ensures { self.new.queue ≡ self.old.queue }
+    {
         self.is_changed = true;
         self.tell(config, fault);
     }
@@ -164,7 +174,9 @@ impl<R: Clock + Eprint> SystemBackend<'_, R> {
 
 impl<R: AllocGlobal + Clock + Eprint + Files<File = File>> SystemBackend<'_, R> {
     /// Does the next stage of the file that is being written anew.
-    pub(crate) fn compact_on(&mut self, instance: &Instance, now: Instant) {
+    pub(crate) fn compact_on(&mut self, instance: &Instance, now: Instant)
+        ensures { self.new.queue ≡ self.old.queue }
+    {
         match mem::replace(&mut self.compacting.work, CompactionWork::Nothing) {
             CompactionWork::Nothing => self.begin_compaction(instance, now),
             CompactionWork::Silences(left) => self.compact_silences(instance, left, now),
@@ -173,7 +185,9 @@ impl<R: AllocGlobal + Clock + Eprint + Files<File = File>> SystemBackend<'_, R> 
     }
 
     /// Begins to write a file anew that is wanted: the silences first.
-    fn begin_compaction(&mut self, instance: &Instance, now: Instant) {
+    fn begin_compaction(&mut self, instance: &Instance, now: Instant)
+        ensures { self.new.queue ≡ self.old.queue }
+    {
         if self.compacting.silences.begins(now) {
             self.begin_silences(instance, now);
         } else if self.compacting.log.begins(now) {
@@ -181,7 +195,9 @@ impl<R: AllocGlobal + Clock + Eprint + Files<File = File>> SystemBackend<'_, R> 
         }
     }
 
-    fn begin_silences(&mut self, instance: &Instance, now: Instant) {
+    fn begin_silences(&mut self, instance: &Instance, now: Instant)
+        ensures { self.new.queue ≡ self.old.queue }
+    {
         self.count_save_begun(SavedState::Silences);
         let most = self.options.most_bytes;
         match self.silences.part_logs(self.rt, instance.silences(), most) {
@@ -194,7 +210,9 @@ impl<R: AllocGlobal + Clock + Eprint + Files<File = File>> SystemBackend<'_, R> 
         }
     }
 
-    fn begin_log(&mut self, instance: &Instance, now: Instant) {
+    fn begin_log(&mut self, instance: &Instance, now: Instant)
+        ensures { self.new.queue ≡ self.old.queue }
+    {
         self.count_save_begun(SavedState::Log);
         let most = self.options.most_bytes;
         match self.log.part_logs(self.rt, instance.log(), most) {
@@ -207,7 +225,9 @@ impl<R: AllocGlobal + Clock + Eprint + Files<File = File>> SystemBackend<'_, R> 
         }
     }
 
-    fn compact_silences(&mut self, instance: &Instance, left: Compaction<Text>, now: Instant) {
+    fn compact_silences(&mut self, instance: &Instance, left: Compaction<Text>, now: Instant)
+        ensures { self.new.queue ≡ self.old.queue }
+    {
         let most = self.options.most_bytes;
         let held = instance.silences();
         match compact(self.rt, &mut self.silences, left, held, most) {
@@ -217,7 +237,9 @@ impl<R: AllocGlobal + Clock + Eprint + Files<File = File>> SystemBackend<'_, R> 
         }
     }
 
-    fn compact_log(&mut self, instance: &Instance, left: Compaction<LogKey>, now: Instant) {
+    fn compact_log(&mut self, instance: &Instance, left: Compaction<LogKey>, now: Instant)
+        ensures { self.new.queue ≡ self.old.queue }
+    {
         let most = self.options.most_bytes;
         let held = instance.log();
         match compact(self.rt, &mut self.log, left, held, most) {

@@ -1,11 +1,12 @@
 //! The counts of frames, links and saves.
 
-ghost use Rattle.std.specs.Prelude.{◌≡◌};
+ghost use Rattle.std.specs.Prelude.{◌≡◌, ◌+◌};
+ghost use Rattle.am_instance.specs.Sendings.{capped};
 ghost use Rattle.am_backend.specs.Stores.{store_of};
 
 use crate::system_backend::SystemBackend;
 use am_gossip::Frame;
-use am_instance::Place;
+use am_instance::{Place, Unsent};
 use am_metrics::{CauseLabel, Metrics, SavedState, StepLabel, VersionKind};
 use am_reactor::LinkFault;
 use std::rt::Clock;
@@ -58,6 +59,15 @@ pub fn count_frames(figures: &mut Metrics, place: Place, frames: &[Frame]) {
     }
 }
 
+/// Counts frames that aren't sent, for want of memory and by the limit of their kind.
+pub(crate) fn count_unsent(figures: &mut Metrics, unsent: Unsent)
+    ensures memory { figures.new.unsent_memory ≡ capped (figures.old.unsent_memory + unsent.memory) }
+    ensures limit { figures.new.unsent_limit ≡ capped (figures.old.unsent_limit + unsent.limit) }
+{
+    figures.unsent_memory = figures.unsent_memory.saturating_add(unsent.memory as u64);
+    figures.unsent_limit = figures.unsent_limit.saturating_add(unsent.limit as u64);
+}
+
 /// Counts frames that are handed to the link of a peer.
 pub(crate) fn count_handed(figures: &mut Metrics, place: Place, frames: &[Frame]) {
     figures.heard.hand_on(place as usize, frames.len() as u64);
@@ -69,7 +79,8 @@ pub(crate) fn count_handed(figures: &mut Metrics, place: Place, frames: &[Frame]
 impl<R: Clock> SystemBackend<'_, R> {
     /// Counts that a save begins.
     pub(crate) fn count_save_begun(&mut self, state: SavedState)
-        ensures { store_of self.new ≡ store_of self.old }
+        ensures store { store_of self.new ≡ store_of self.old }
+        ensures queue { self.new.queue ≡ self.old.queue }
     {
         let now = Instant::now(self.rt).ok();
         self.figures.begin_save(state, now);
@@ -77,7 +88,8 @@ impl<R: Clock> SystemBackend<'_, R> {
 
     /// Counts a save that was made now.
     pub(crate) fn count_save_done(&mut self, state: SavedState)
-        ensures { store_of self.new ≡ store_of self.old }
+        ensures store { store_of self.new ≡ store_of self.old }
+        ensures queue { self.new.queue ≡ self.old.queue }
     {
         let now = Instant::now(self.rt).ok();
         let since_1970 = since_1970(self.rt);
@@ -86,7 +98,8 @@ impl<R: Clock> SystemBackend<'_, R> {
 
     /// Counts a save that failed.
     pub(crate) fn count_save_failed(&mut self, state: SavedState)
-        ensures { store_of self.new ≡ store_of self.old }
+        ensures store { store_of self.new ≡ store_of self.old }
+        ensures queue { self.new.queue ≡ self.old.queue }
     {
         self.figures.fail_save(state);
     }

@@ -6,21 +6,30 @@
 ghost use Rattle.std.specs.Prelude.{◌≡◌, [], ◌∷◌, is_some, true, IfSome};
 ghost use Rattle.am_gossip.specs.declared.frame.StateKey.TheVariants.{Sil, Nfl};
 ghost use Rattle.am_store.specs.Appending.{log_of};
-ghost use Rattle.am_peers.specs.Queues.{frames_for};
+ghost use Rattle.am_peers.specs.Queues.{frames_beside, frames_for};
 ghost use Rattle.am_backend.specs.CommitStates.{disk_of, keeps_logs};
+ghost use Rattle.am_backend.specs.Outbound.{for_peers, outbound_of};
 ghost use Rattle.am_backend.specs.Stores.{AreLogged, GoesOn, HasCommitted, IsLogged, lost_if, rows_if, store_of};
 
 use crate::system_backend::SystemBackend;
 use am_diagnostics::Fault;
 use am_gossip::{Frame, Part, StateKey};
 use am_instance::{Config, Place};
-use am_peers::{Parted, split_by_peer};
 use std::rt::Clock;
+
+/// Removes the frames for a place.
+fn drop_frames_for(frames: &mut Vec<(Place, Frame)>, place: Place)
+    ensures { frames.new.items ≡ frames_beside place frames.old.items }
+{
+    frames.retain(|queued| queued.0 != place);
+}
 
 impl<R: Clock + Eprint> SystemBackend<'_, R> {
     /// Tells why the logs lack something, if they do.
     pub(crate) fn tell_behind(&mut self, config: &Config, fault: Option<Fault>)
-        ensures { store_of self.new ≡ lost_if (is_some fault) (store_of self.old) }
+        ensures store { store_of self.new ≡ lost_if (is_some fault) (store_of self.old) }
+        ensures outbound { outbound_of self.new ≡ outbound_of self.old }
+        ensures queue { self.new.queue ≡ self.old.queue }
     {
         if let Some(fault) = fault {
             self.commit_state.lose();
@@ -30,34 +39,42 @@ impl<R: Clock + Eprint> SystemBackend<'_, R> {
 }
 
 impl<R: AllocGlobal + Clock + Eprint> SystemBackend<'_, R> {
-    /// Puts the frames for the disk into the logs, and returns those for peers.
+    /// Puts the frames for the disk into the logs, and returns those for peers. Nothing is allocated for these.
     pub(crate) fn log_frames(
         &mut self,
         config: &Config,
         frames: Vec<(Place, Frame)>,
     ) -> Vec<(Place, Frame)>
+        ensures peers { result.items ≡ for_peers (disk_of self.old.commit_state) frames.items }
+        ensures outbound { outbound_of self.new ≡ outbound_of self.old }
         ensures logged { IfSome (disk_of self.old.commit_state) (λ disk. IsLogged (frames_for disk frames.items) (store_of self.old) (store_of self.new)) }
         ensures goes_on { GoesOn self.old.commit_state self.new.commit_state }
     {
         let Some(disk) = self.commit_state.disk() else {
             return frames;
         };
-        let alloc = self.rt.alloc();
-        let count = frames.len();
-        let Ok(Parted { own, others }) = split_by_peer(alloc, disk, frames) else {
-            self.commit_state.lose();
-            self.tell(config, Fault::UnsentMemory(count));
-            return Vec::new(alloc);
-        };
-        for frame in &own {
-            self.log_frame(config, frame);
+        let mut frames = frames;
+        for queued in &frames {
+            self.log_queued(config, disk, queued);
         }
-        others
+        drop_frames_for(&mut frames, disk);
+        frames
+    }
+
+    /// Puts the version of a frame into the log of its state if the frame is for the disk.
+    fn log_queued(&mut self, config: &Config, disk: Place, queued: &(Place, Frame))
+        ensures logged { IsLogged (frames_for disk (queued.now ∷ [])) (store_of self.old) (store_of self.new) }
+        ensures outbound { outbound_of self.new ≡ outbound_of self.old }
+    {
+        if queued.0 == disk {
+            self.log_frame(config, &queued.1);
+        }
     }
 
     /// Puts a version into the log of its state.
     fn log_frame(&mut self, config: &Config, frame: &Frame)
-        ensures { IsLogged (frame.now ∷ []) (store_of self.old) (store_of self.new) }
+        ensures logged { IsLogged (frame.now ∷ []) (store_of self.old) (store_of self.new) }
+        ensures outbound { outbound_of self.new ≡ outbound_of self.old }
     {
         if let Frame::Delta(part) = frame {
             self.commit_state.add();
@@ -70,6 +87,7 @@ impl<R: AllocGlobal + Clock + Eprint> SystemBackend<'_, R> {
         ensures rows { keeps_logs self.old.commit_state ≡ true → AreLogged (rows_if Sil part.now.key part.now.bytes) (rows_if Nfl part.now.key part.now.bytes)
             (store_of self.old) (store_of self.new) }
         ensures goes_on { GoesOn self.old.commit_state self.new.commit_state }
+        ensures outbound { outbound_of self.new ≡ outbound_of self.old }
     {
         let alloc = self.rt.alloc();
         let rows = part.bytes.as_slice();
@@ -81,7 +99,8 @@ impl<R: AllocGlobal + Clock + Eprint> SystemBackend<'_, R> {
     }
     /// Hands the rows of silences that wait to the disk. If that fails, it is told, and the logs lack something.
     pub(crate) fn commit_silences(&mut self, config: &Config)
-        ensures { HasCommitted self.old.commit_state self.new.commit_state (log_of self.old.silences) (log_of self.old.log) (log_of self.new.silences) (log_of self.new.log) }
+        ensures committed { HasCommitted self.old.commit_state self.new.commit_state (log_of self.old.silences) (log_of self.old.log) (log_of self.new.silences) (log_of self.new.log) }
+        ensures queue { self.new.queue ≡ self.old.queue }
     {
         let committed = self.silences.commit(self.rt.alloc());
         self.tell_behind(config, committed.err().map(Fault::Silences));
@@ -89,7 +108,8 @@ impl<R: AllocGlobal + Clock + Eprint> SystemBackend<'_, R> {
 
     /// Hands the rows of the log that wait to the disk. If that fails, it is told, and the logs lack something.
     pub(crate) fn commit_log(&mut self, config: &Config)
-        ensures { HasCommitted self.old.commit_state self.new.commit_state (log_of self.old.log) (log_of self.old.silences) (log_of self.new.log) (log_of self.new.silences) }
+        ensures committed { HasCommitted self.old.commit_state self.new.commit_state (log_of self.old.log) (log_of self.old.silences) (log_of self.new.log) (log_of self.new.silences) }
+        ensures queue { self.new.queue ≡ self.old.queue }
     {
         let committed = self.log.commit(self.rt.alloc());
         self.tell_behind(config, committed.err().map(Fault::Log));

@@ -15,7 +15,8 @@ use std::time::Instant;
 impl<R: AllocGlobal + Clock + Eprint + Files<File = File>> SystemBackend<'_, R> {
     /// Saves the silences, and then the log, while everybody waits. Returns the first fault; each is told.
     pub(crate) fn save(&mut self, instance: &Instance) -> Option<Fault>
-        ensures { HasSaved result (store_of self.old) (store_of self.new) }
+        ensures saved { HasSaved result (store_of self.old) (store_of self.new) }
+        ensures queue { self.new.queue ≡ self.old.queue }
     {
         self.give_up_compaction();
         let silences = self.save_silences(instance);
@@ -38,6 +39,7 @@ impl<R: AllocGlobal + Clock + Eprint + Files<File = File>> SystemBackend<'_, R> 
         ensures anew { IfNone result (IsBegunAnew (log_of self.new.silences)) }
         ensures commit_state { self.new.commit_state ≡ self.old.commit_state }
         ensures log { log_of self.new.log ≡ log_of self.old.log }
+        ensures queue { self.new.queue ≡ self.old.queue }
     {
         let most = self.options.most_bytes;
         self.count_save_begun(SavedState::Silences);
@@ -60,6 +62,7 @@ impl<R: AllocGlobal + Clock + Eprint + Files<File = File>> SystemBackend<'_, R> 
         ensures anew { IfNone result (IsBegunAnew (log_of self.new.log)) }
         ensures commit_state { self.new.commit_state ≡ self.old.commit_state }
         ensures silences { log_of self.new.silences ≡ log_of self.old.silences }
+        ensures queue { self.new.queue ≡ self.old.queue }
     {
         let most = self.options.most_bytes;
         self.count_save_begun(SavedState::Log);
@@ -78,7 +81,9 @@ impl<R: AllocGlobal + Clock + Eprint + Files<File = File>> SystemBackend<'_, R> 
     }
 
     /// Saves both states: at once or, if logs are kept, after the duties and while the member serves.
-    pub(crate) fn save_in_turn(&mut self, instance: &Instance) {
+    pub(crate) fn save_in_turn(&mut self, instance: &Instance)
+        ensures { self.new.queue ≡ self.old.queue }
+    {
         if self.commit_state.is_on() {
             self.want_both();
         } else {
@@ -88,7 +93,8 @@ impl<R: AllocGlobal + Clock + Eprint + Files<File = File>> SystemBackend<'_, R> 
 
     /// Saves both states if the logs lack something, unless the last such save was less than a second ago.
     pub(crate) fn save_behind(&mut self, instance: &Instance)
-        ensures { MaySave (store_of self.old) (store_of self.new) }
+        ensures saved { MaySave (store_of self.old) (store_of self.new) }
+        ensures queue { self.new.queue ≡ self.old.queue }
     {
         if !self.commit_state.is_behind() {
             return;

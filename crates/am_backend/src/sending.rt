@@ -1,12 +1,13 @@
 //! The frames that wait for peers.
 
-ghost use Rattle.std.specs.Prelude.{IfSome};
+ghost use Rattle.std.specs.Prelude.{◌≡◌, ◌⊎◌, IfSome, length};
 ghost use Rattle.am_peers.specs.Queues.{frames_for};
 ghost use Rattle.am_backend.specs.CommitStates.{disk_of};
+ghost use Rattle.am_backend.specs.Outbound.{IsTextFor, for_peers, left_out, outbound_of, with_queued};
 ghost use Rattle.am_backend.specs.Stores.{GoesOn, IsLogged, store_of};
 
 use crate::system_backend::SystemBackend;
-use am_diagnostics::Fault;
+use am_diagnostics::{Diagnostic, Fault};
 use am_gossip::Frame;
 use am_instance::{Config, Place};
 use am_options::Options;
@@ -34,7 +35,9 @@ impl<R: AllocGlobal> SystemBackend<'_, R> {
         peer: Place,
         from: Option<Sequence>,
         frames: &[Frame],
-    ) -> Option<Vec<u8>> {
+    ) -> Option<Vec<u8>>
+        ensures { IfSome result (λ bytes. IsTextFor self.now.lock config.now peer from frames.now bytes.items) }
+    {
         let alloc = self.rt.alloc();
         let Some(lock) = self.lock else {
             return frames_text(alloc, frames).ok();
@@ -52,10 +55,25 @@ impl<R: AllocGlobal + Clock + Eprint> SystemBackend<'_, R> {
     pub(crate) fn queue_frames(&mut self, config: &Config, frames: Vec<(Place, Frame)>)
         ensures logged { IfSome (disk_of self.old.commit_state) (λ disk. IsLogged (frames_for disk frames.items) (store_of self.old) (store_of self.new)) }
         ensures goes_on { GoesOn self.old.commit_state self.new.commit_state }
+        ensures queued { let peers = for_peers (disk_of self.old.commit_state) frames.items in
+            (outbound_of self.new ≡ with_queued peers (outbound_of self.old)) ⊎ (outbound_of self.new ≡ left_out (length peers) (outbound_of self.old)) }
     {
         let mut frames = self.log_frames(config, frames);
         if self.queue.append(&mut frames).is_err() {
-            self.tell(config, Fault::UnsentMemory(frames.len()));
+            self.tell_left_out(config, None, frames.len());
         }
+    }
+
+    /// Counts frames that aren't sent for want of memory, and prints how many.
+    pub(crate) fn tell_left_out(&mut self, config: &Config, peer: Option<Place>, count: usize)
+        ensures store { store_of self.new ≡ store_of self.old }
+        ensures outbound { outbound_of self.new ≡ left_out count (outbound_of self.old) }
+        ensures lock { self.new.lock ≡ self.old.lock }
+    {
+        let unsent = self.figures.unsent_memory;
+        self.figures.unsent_memory = unsent.saturating_add(count as u64);
+        let fault = Fault::UnsentMemory(count);
+        self.lines
+            .tell(self.rt, config.members(), Diagnostic { fault, peer });
     }
 }

@@ -4,10 +4,13 @@ ghost use Rattle.std.specs.Prelude.{◌≡◌, Result};
 ghost use Rattle.am_instance.specs.OneStep.{IsStep};
 ghost use Rattle.am_instance.specs.declared.reply.Outcome.{Outcome};
 ghost use Rattle.am_gossip.specs.declared.refusals.StepError.{StepError};
+ghost use Rattle.am_backend.specs.CommitStates.{disk_of};
+ghost use Rattle.am_backend.specs.Outbound.{IsQueued, IsSentOn, outbound_of};
 ghost use Rattle.am_backend.specs.Stores.{IsFollowed, store_of};
 
 use crate::commit_state::CommitState;
 use crate::compaction::Compacting;
+use crate::counting::count_unsent;
 use crate::room::Room;
 use am_diagnostics::{Advance, Diagnostic, DiagnosticPrinter, Fault, Watch};
 use am_gossip::Frame;
@@ -97,20 +100,25 @@ pub fn place_of(config: &Config, name: Option<&str>) -> Option<Place> {
 impl<R: Clock + Eprint> SystemBackend<'_, R> {
     /// Prints a fault.
     pub(crate) fn tell(&mut self, config: &Config, fault: Fault)
-        ensures { store_of self.new ≡ store_of self.old }
+        ensures store { store_of self.new ≡ store_of self.old }
+        ensures outbound { outbound_of self.new ≡ outbound_of self.old }
+        ensures queue { self.new.queue ≡ self.old.queue }
     {
         let told = Diagnostic { fault, peer: None };
         self.lines.tell(self.rt, config.members(), told);
     }
 
     /// Prints how many lines were left out of each kind.
-    pub(crate) fn settle_lines(&mut self, config: &Config) {
+    pub(crate) fn settle_lines(&mut self, config: &Config)
+        ensures { self.new.queue ≡ self.old.queue }
+    {
         self.lines.settle_all(self.rt, config.members());
     }
 
     /// Prints how many frames are not sent.
     fn tell_unsent(&mut self, config: &Config, unsent: Unsent)
-        ensures { store_of self.new ≡ store_of self.old }
+        ensures store { store_of self.new ≡ store_of self.old }
+        ensures outbound { outbound_of self.new ≡ outbound_of self.old }
     {
         if unsent.memory > 0 {
             self.tell(config, Fault::UnsentMemory(unsent.memory));
@@ -123,7 +131,9 @@ impl<R: Clock + Eprint> SystemBackend<'_, R> {
 
 impl<R: Clock + Eprint> SystemBackend<'_, R> {
     /// Checks whether what the clock says, as the time since 1970, went far ahead, unless the clock is trusted.
-    pub(crate) fn look_far(&mut self, instance: &Instance, since_1970: Duration) {
+    pub(crate) fn look_far(&mut self, instance: &Instance, since_1970: Duration)
+        ensures { self.new.queue ≡ self.old.queue }
+    {
         if self.options.trusts_clock {
             return;
         }
@@ -138,20 +148,22 @@ impl<R: Clock + Eprint> SystemBackend<'_, R> {
 impl<R: AllocGlobal + Clock + Eprint> SystemBackend<'_, R> {
     /// Follows up a step: its frames go out.
     pub(crate) fn follow_step(&mut self, config: &Config, outbox: FrameSender)
-        ensures { IsFollowed outbox (store_of self.old) (store_of self.new) }
+        ensures followed { IsFollowed outbox (store_of self.old) (store_of self.new) }
+        ensures queued { IsQueued (disk_of self.old.commit_state) outbox (outbound_of self.old) (outbound_of self.new) }
     {
         let FrameSender { frames, unsent } = outbox;
         if unsent.memory > 0 || unsent.limit > 0 {
             self.commit_state.lose();
         }
-        self.figures.unsent(unsent.memory, unsent.limit);
+        count_unsent(&mut self.figures, unsent);
         self.tell_unsent(config, unsent);
         self.queue_frames(config, frames);
     }
 
     /// Makes a step of its own at a moment, and returns whether the step was made.
     pub(crate) fn step(&mut self, instance: &mut Instance, event: Event, now: Moment) -> bool
-        ensures { (answer : Result Outcome StepError) × IsStep instance.old event now answer instance.new }
+        ensures { (answer : Result Outcome StepError) × IsStep instance.old event now answer instance.new
+            × IsSentOn (disk_of self.old.commit_state) answer (outbound_of self.old) (outbound_of self.new) }
     {
         match instance.step(event, now) {
             Ok(outcome) => {

@@ -1,6 +1,6 @@
 //! A member: its instance, and the handler of the loop's calls.
 
-ghost use Rattle.std.specs.Prelude.{◌≡◌, ◌↔◌, ◌⊎◌, ◌≤◌, ℕ, List, IfSome, IsTrue, ⊤, length};
+ghost use Rattle.std.specs.Prelude.{◌≡◌, ◌↔◌, ◌⊎◌, ◌≤◌, ℕ, Bool, false, List, IfSome, IsTrue, ⊤, length};
 ghost use Rattle.am_server.specs.Answered.{ByItself, ForPages, IsAnswered};
 ghost use Rattle.am_server.specs.Talks.{IsGivenOn, Lasts, pending_in, talk_of};
 ghost use Rattle.am_http.specs.Sessions.{SaysEnd, Spoken, name_of, over as ended_under};
@@ -25,9 +25,12 @@ pub struct Member<'a, A> {
     pub handler: A,
 }
 
-/// What handles the calls of the loop for a member. Each method is a call of [`Service`], and only one that is handed the instance
+/// Handler of the loop's calls for a member. Each method is a call of [`Service`], and only one that is handed the instance
 /// to be changed makes steps of it.
 pub trait Handler {
+    /// True if something was done since the last commit that is to be committed.
+    ghost uncommitted: { Self → Bool };
+
     /// The relation between the handler before and after it gave these bytes for a peer.
     ghost offers: { Self → ℕ → List ℕ → Self → Type 0 };
 
@@ -56,12 +59,16 @@ pub trait Handler {
     fn resume(&mut self, instance: &mut Instance, connection: &mut ConnectionState)
         ensures { IsTakenUp (talk_of connection.old).waiting instance.old (talk_of connection.old) instance.new (talk_of connection.new) };
 
-    fn has_uncommitted(&self) -> bool;
+    fn has_uncommitted(&self) -> bool
+        ensures { result ≡ uncommitted self.now };
 
-    fn commit(&mut self, instance: &Instance);
+    fn commit(&mut self, instance: &Instance)
+        ensures { uncommitted self.new ≡ false };
 
     fn release(&mut self, connection: &mut ConnectionState)
-        ensures { Lasts (talk_of connection.old) (talk_of connection.new) };
+        requires { uncommitted self.old ≡ false }
+        ensures lasts { Lasts (talk_of connection.old) (talk_of connection.new) }
+        ensures committed { uncommitted self.new ≡ false };
 
     /// Returns the moment for which the reply of a connection waits, if one does.
     fn due(&self, connection: &ConnectionState) -> Option<Instant>;
@@ -79,13 +86,16 @@ pub trait Handler {
         ensures { talk_of connection.new ≡ talk_of connection.old };
 
     fn outgoing(&mut self, config: &Config) -> Option<PeerBytes>
-        ensures { IfSome result (λ it. offers self.old it.peer it.bytes.items self.new) };
+        ensures offered { IfSome result (λ it. offers self.old it.peer it.bytes.items self.new) }
+        ensures committed { IfSome result (λ it. uncommitted self.old ≡ false) };
 
-    fn question(&mut self, instance: &Instance) -> Option<PeerBytes>;
+    fn question(&mut self, instance: &Instance) -> Option<PeerBytes>
+        ensures { IfSome result (λ it. uncommitted self.old ≡ false) };
 
     fn answered(&mut self, peer: usize, answer: Vec<u8>);
 
-    fn more(&mut self, instance: &Instance, peer: usize, answer: &[u8]) -> Option<Vec<u8>>;
+    fn more(&mut self, instance: &Instance, peer: usize, answer: &[u8]) -> Option<Vec<u8>>
+        requires { uncommitted self.old ≡ false };
 
     fn lost(&mut self, config: &Config, peer: usize, fault: LinkFault);
 
@@ -109,6 +119,8 @@ impl<A: Handler> Service for Member<'_, A> {
     ghost is_held_back = { λ _ _. ⊤ };
 
     ghost due = { λ _ _. ⊤ };
+
+    ghost uncommitted = { λ member. A.uncommitted member.handler };
 
     ghost loses = { λ member _ _ member'. IsSameMember member member' };
 

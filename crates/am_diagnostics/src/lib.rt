@@ -1,4 +1,4 @@
-//! What the program prints on standard error: the line, the sentence and the exit status of each fault, and lines at a bounded
+//! The program's standard error: the line, the sentence and the exit status of each fault, and lines at a bounded
 //! rate; the clock and signals.
 #![tactic(auto)]
 

@@ -4,8 +4,10 @@
 mod ahead;
 mod answering;
 mod deferring;
+mod keeping;
 pub mod laws;
 mod pattern_compilation;
+mod pattern_set;
 mod sender;
 mod session_answer;
 mod steps;

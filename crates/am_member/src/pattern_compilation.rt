@@ -1,12 +1,13 @@
 //! The patterns of a request, which are compiled one at a time before it is answered.
 
-ghost use Rattle.std.specs.Prelude.{◌≡◌, ◌≢◌, ◌≤◌, ◌⊎◌, [], IfOk, IfSome};
+ghost use Rattle.std.specs.Prelude.{◌≡◌, ◌≢◌, ◌≤◌, ◌<◌, ◌+◌, ◌⊎◌, ◌↔◌, [], Ok, IfOk, IfSome, IsTrue};
 ghost use Rattle.am_api_silences.specs.Table.{refused_line};
 ghost use Rattle.am_http.specs.Lines.{line_of, line_seen};
 ghost use Rattle.am_http.specs.declared.cause.Cause.TheVariants as causes;
 ghost use Rattle.am_matcher.specs.Sizes.{size_of_all};
 ghost use Rattle.am_silence.specs.declared.error.SilenceError.TheVariants as errors;
 
+use crate::keeping::{Keeping, keep};
 use am_api_silences::patterns_of;
 use am_http::{Cause, Refusal, Request};
 use am_matcher::{Dialect, PatternCache};
@@ -16,6 +17,9 @@ use std::marker::Model;
 
 /// The maximum number of bytes that the compiled patterns of one request take, as they are counted for patterns that are kept.
 pub const MOST_PATTERN_BYTES: usize = 17 << 20;
+
+/// The maximum number of bytes that are counted for all patterns of silences that are kept.
+const MOST_KEPT_BYTES: usize = 128 << 20;
 
 /// The progress of a request's patterns.
 #[derive(Clone, Copy, PartialEq, Eq)]
@@ -38,6 +42,18 @@ pub struct PatternCompilation {
     /// The bytes that are counted for those patterns.
     spent: usize,
     patterns: PatternCache,
+    room: Room,
+}
+
+/// The room for a request's patterns among those of silences.
+#[derive(Clone, Copy, PartialEq, Eq)]
+enum Room {
+    /// The patterns are those of a list, or one of them is broken, so none is to be kept.
+    Needless,
+    /// The patterns are those of a post.
+    Wanted,
+    /// Patterns of silences that have ended were dropped for those of the post.
+    Made,
 }
 
 // (so that crates above cite one drop, and don't prove those of all that is inside)
@@ -50,6 +66,7 @@ impl Drop for PatternCompilation {
             next: _,
             spent: _,
             patterns: _,
+            room: _,
         } = self;
     }
 }
@@ -82,13 +99,19 @@ impl PatternCompilation {
         if left.is_empty() {
             return Ok(None);
         }
+        let is_list = request.method.as_str() == "GET";
         Ok(Some(PatternCompilation {
             dialect,
-            is_list: request.method.as_str() == "GET",
+            is_list,
             left,
             next: 0,
             spent: 0,
             patterns: PatternCache::new(alloc),
+            room: if is_list {
+                Room::Needless
+            } else {
+                Room::Wanted
+            },
         }))
     }
 
@@ -118,11 +141,12 @@ impl PatternCompilation {
         // (all that is kept was counted as spent)
         let kept = self.patterns.size();
         self.spent = kept.max(self.spent.saturating_add(prepared.bytes));
-        self.next = if prepared.is_broken {
-            self.left.len()
+        if prepared.is_broken {
+            self.room = Room::Needless;
+            self.next = self.left.len();
         } else {
-            self.next.saturating_add(1)
-        };
+            self.next = self.next.saturating_add(1);
+        }
         Ok(prepared.bytes > 0)
     }
 
@@ -150,6 +174,51 @@ impl PatternCompilation {
         }
     }
 
+    /// Returns whether the patterns are those of a post that isn't refused for a broken one.
+    pub(crate) fn is_to_be_kept(&self) -> bool {
+        self.room != Room::Needless
+    }
+
+    /// Returns whether the patterns fit beside these, whether or not they are among them.
+    fn fits_beside(&self, patterns: &PatternCache) -> bool
+        ensures { IsTrue result ↔ (size_of_all patterns.now + size_of_all self.now ≤ 134_217_728) }
+    {
+        patterns.size() + self.patterns.size() <= MOST_KEPT_BYTES
+    }
+
+    /// Returns whether patterns of silences that have ended are to be dropped from these, since there might not be room. It asks once.
+    pub(crate) fn asks_for_room(&mut self, patterns: &PatternCache) -> bool {
+        if self.room == Room::Made || self.fits_beside(patterns) {
+            return false;
+        }
+        self.room = Room::Made;
+        true
+    }
+
+    /// Returns whether room was asked for.
+    pub(crate) fn has_asked(&self) -> bool {
+        self.room == Room::Made
+    }
+
+    /// Keeps the patterns beside others, unless there is too little room. Those that are kept already take none.
+    ///
+    /// # Errors
+    ///
+    /// [`AllocError`] if memory runs out.
+    pub fn keep_in(&self, patterns: &mut PatternCache) -> Result<Judged, AllocError>
+        // PROMISE: A post is refused for too many patterns only if, with those that are kept, they take more than 128 MiB.
+        ensures full { result ≡ Ok Judged.TooMuch → 134_217_728 < size_of_all patterns.old + size_of_all self.now }
+    {
+        let fits = self.fits_beside(patterns);
+        for pattern in &self.left {
+            let keeping = keep(patterns, self.dialect, pattern.as_str())?;
+            if keeping == Keeping::Full && !fits {
+                return Ok(Judged::TooMuch);
+            }
+        }
+        Ok(Judged::Done)
+    }
+
     /// Returns the patterns that were compiled.
     pub fn into_patterns(self) -> PatternCache
         ensures { result ≡ self }
@@ -161,6 +230,7 @@ impl PatternCompilation {
             next: _,
             spent: _,
             patterns,
+            room: _,
         } = self;
         patterns
     }

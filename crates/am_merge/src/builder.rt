@@ -3,7 +3,7 @@
 ghost use Rattle.std.specs.Prelude.{◌≡◌, ◌++◌, ◌∷◌, [], length, IfOk, OnOk, OnErr};
 ghost use Rattle.am_merge.specs.Views.{HoldsBest};
 
-use crate::bulk::{Listing, file, lay, listing_of};
+use crate::bulk::{Listing, build, listing_of, push};
 use crate::held::Held;
 use crate::store::empty_store;
 use am_version_order::Version;
@@ -67,7 +67,7 @@ impl<V: Version> HeldBuilder<V> {
         ensures err { OnErr result (self.new ≡ self.old) }
     {
         let _content = version.canonical();
-        lay(&mut self.listing, version)
+        push(&mut self.listing, version)
     }
 
     /// Builds the map of the greatest version of each key.
@@ -80,7 +80,7 @@ impl<V: Version> HeldBuilder<V> {
         ensures { IfOk result (HoldsBest V.seen self) }
     {
         let HeldBuilder { listing, alloc } = self;
-        let store = file(listing, alloc)?;
+        let store = build(listing, alloc)?;
         Ok(Held { store, alloc })
     }
 }

@@ -73,10 +73,10 @@ fn entries_of<V: Version>(
 /// # Errors
 ///
 /// [`AllocError`] if memory runs out. The versions are unchanged then.
-pub fn lay<V: Version>(listing: &mut Listing<V>, version: V) -> Result<(), AllocError>
+pub fn push<V: Version>(listing: &mut Listing<V>, version: V) -> Result<(), AllocError>
     requires { IsListing V.seen V.head_of V.bucket_of listing.old }
     ensures listing { IsListing V.seen V.head_of V.bucket_of listing.new }
-    ensures laid { OnOk result (versions_in listing.new ≡ versions_in listing.old ++ version ∷ []) }
+    ensures pushed { OnOk result (versions_in listing.new ≡ versions_in listing.old ++ version ∷ []) }
     ensures err { OnErr result (versions_in listing.new ≡ versions_in listing.old) }
 {
     listing.table.reserve(1)?;
@@ -87,7 +87,7 @@ pub fn lay<V: Version>(listing: &mut Listing<V>, version: V) -> Result<(), Alloc
 }
 
 /// Returns the store of the greatest version of each key.
-pub fn file<V: Version>(listing: Listing<V>, alloc: Global) -> Result<Store<V>, AllocError>
+pub fn build<V: Version>(listing: Listing<V>, alloc: Global) -> Result<Store<V>, AllocError>
     requires { IsListing V.seen V.head_of V.bucket_of listing }
     ensures store { IfOk result (IsStore V.seen V.head_of V.Key.cmp V.bucket_of) }
     ensures best { IfOk result (λ store. HoldsBest V.seen (versions_in listing) (versions store)) }
@@ -96,9 +96,9 @@ pub fn file<V: Version>(listing: Listing<V>, alloc: Global) -> Result<Store<V>, 
     let parted = best_first(&table, entries, alloc)?;
     remove_all(&mut table, parted.ties);
     Ok(Store {
-        keys: file_keys(parted.firsts.as_slice(), alloc)?,
-        expiries: file_expiries(&table, alloc)?,
-        buckets: file_buckets(&table, parted.firsts, alloc)?,
+        keys: build_keys(parted.firsts.as_slice(), alloc)?,
+        expiries: build_expiries(&table, alloc)?,
+        buckets: build_buckets(&table, parted.firsts, alloc)?,
         table,
         last: Cursor {
             block: 0,
@@ -143,7 +143,7 @@ fn remove_all<V: Version>(table: &mut Slab<V>, gone: Vec<BucketEntry>)
 }
 
 /// Returns the index by key of entries that are in its order.
-fn file_keys(list: &[BucketEntry], alloc: Global) -> Result<Blocks<KeyEntry>, AllocError>
+fn build_keys(list: &[BucketEntry], alloc: Global) -> Result<Blocks<KeyEntry>, AllocError>
     ensures { IfOk result (λ keys. entries keys ≡ map (λ e. e.key) list.now) }
 {
     let mut keys = Vec::with_capacity(alloc, list.len())?;
@@ -154,7 +154,7 @@ fn file_keys(list: &[BucketEntry], alloc: Global) -> Result<Blocks<KeyEntry>, Al
 }
 
 /// Returns the index by expiry of a table.
-fn file_expiries<V: Version>(
+fn build_expiries<V: Version>(
     table: &Slab<V>,
     alloc: Global,
 ) -> Result<Blocks<ExpiryEntry>, AllocError>
@@ -178,7 +178,7 @@ fn expiries_of<V: Version>(table: &Slab<V>, alloc: Global) -> Result<Vec<ExpiryE
 }
 
 /// Returns the index by bucket of a table, from its entries in the order of the keys.
-fn file_buckets<V: Version>(
+fn build_buckets<V: Version>(
     table: &Slab<V>,
     mut list: Vec<BucketEntry>,
     alloc: Global,

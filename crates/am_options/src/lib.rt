@@ -1,4 +1,4 @@
-//! What the program is asked to do: its command line, the jobs and options that it names, a member's options as text; the version.
+//! The command line: the jobs and options that it names, a member's options as text; the version.
 #![tactic(auto)]
 
 mod job;

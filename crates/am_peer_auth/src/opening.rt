@@ -6,7 +6,7 @@ ghost use Rattle.am_peer_auth.specs.Sequences.{after};
 ghost use Rattle.am_peer_auth.specs.Summings.{Covers, CoversIn};
 
 use crate::mac::SUM;
-use crate::seal::{Lock, SealError, open_frame};
+use crate::seal::{Origin, SealError, open_frame};
 use crate::sequence::Sequence;
 use crate::summing::{Summing, sum_so_far};
 use am_gossip::Frame;
@@ -98,15 +98,13 @@ impl Waiting {
 fn summed(
     alloc: Global,
     summing: Option<Summing>,
-    lock: Lock<'_>,
-    sender: &str,
-    place: Sequence,
+    origin: Origin<'_>,
     text: &[u8],
 ) -> Option<Summing>
     requires covers { IfSome summing (λ s. Covers s text.now) }
     ensures covers { IfSome result (λ s. Covers s text.now) }
 {
-    match sum_so_far(alloc, summing, lock, sender, place, text) {
+    match sum_so_far(alloc, summing, origin, text) {
         Ok(summing) => Some(summing),
         Err(_) => None,
     }
@@ -124,19 +122,12 @@ fn summed_within(summing: Option<Summing>, size: usize) -> Option<Summing>
     }
 }
 
-/// Returns the front of sealed bytes, at a place in the connection. `summing` covers the beginning of its text, if it is there.
-fn front_of(
-    alloc: Global,
-    lock: Lock<'_>,
-    sender: &str,
-    place: Sequence,
-    bytes: &[u8],
-    summing: Option<Summing>,
-) -> Front
+/// Returns the front of sealed bytes of this origin. `summing` covers the beginning of its text, if it is there.
+fn front_of(alloc: Global, origin: Origin<'_>, bytes: &[u8], summing: Option<Summing>) -> Front
     requires covers { IfSome summing (CoversIn bytes.now) }
-    ensures { StandsFirst lock.entry sender.now place bytes.now result }
+    ensures { StandsFirst origin.entry.lock origin.entry.sender.now origin.entry.place bytes.now result }
 {
-    let Some(next) = place.next() else {
+    let Some(next) = origin.place.next() else {
         return Front::Refused(SealError::Number);
     };
     let Some((sum, behind)) = bytes.split_first_chunk::<SUM>() else {
@@ -150,10 +141,10 @@ fn front_of(
         return Front::Refused(SealError::Length);
     }
     if behind.len() < size {
-        return Front::Waits(summed(alloc, summing, lock, sender, place, behind));
+        return Front::Waits(summed(alloc, summing, origin, behind));
     }
     let summing = summed_within(summing, size);
-    match open_frame(alloc, lock, sender, place, summing, sum, &behind[..size]) {
+    match open_frame(alloc, origin, summing, sum, &behind[..size]) {
         Ok(frame) => Front::Taken {
             frame,
             len: HEAD + size,
@@ -173,7 +164,7 @@ struct AllOpened {
     summing: Option<Summing>,
 }
 
-/// Returns the frames at the front of sealed bytes, from a place in the connection on, and the reason why none is taken after them.
+/// Returns the frames at the front of sealed bytes, the first of this origin, and the reason why none is taken after them.
 /// `summing` covers the beginning of the first one's text, if it is there.
 ///
 /// # Errors
@@ -181,24 +172,26 @@ struct AllOpened {
 /// Returns [`AllocError`] if memory runs out.
 fn open_all(
     alloc: Global,
-    lock: Lock<'_>,
-    sender: &str,
-    place: Sequence,
+    origin: Origin<'_>,
     bytes: &[u8],
     summing: Option<Summing>,
 ) -> Result<AllOpened, AllocError>
     requires covers { IfSome summing (CoversIn bytes.now) }
-    ensures opened { IfOk result (λ x. Opens lock.entry sender.now place bytes.now x.opened.frames.items (ended (drop x.used bytes.now) x.opened.fault)) }
-    ensures counted { IfOk result (λ x. x.opened.next ≡ after (length x.opened.frames.items) place) }
+    ensures opened { IfOk result (λ x. Opens origin.entry.lock origin.entry.sender.now origin.entry.place bytes.now x.opened.frames.items (ended (drop x.used bytes.now) x.opened.fault)) }
+    ensures counted { IfOk result (λ x. x.opened.next ≡ after (length x.opened.frames.items) origin.entry.place) }
     ensures within { IfOk result (λ x. x.used ≤ length bytes.now) }
     ensures summed { IfOk result (λ x. IfSome x.summing (CoversIn (drop x.used bytes.now))) }
 {
     let mut frames = Vec::new(alloc);
     let mut used = 0;
-    let mut reached = place;
+    let mut reached = origin.place;
     let mut known = summing;
     let (fault, summing) = loop {
-        match front_of(alloc, lock, sender, reached, &bytes[used..], known.take()) {
+        let at = Origin {
+            place: reached,
+            ..origin
+        };
+        match front_of(alloc, at, &bytes[used..], known.take()) {
             Front::Taken { frame, len, next } => {
                 frames.push(frame)?;
                 used += len;
@@ -234,19 +227,17 @@ fn rest_from(alloc: Global, bytes: Vec<u8>, used: usize) -> Result<Vec<u8>, Allo
 /// Opens the waiting bytes with a piece after them, and leaves the bytes that wait then.
 fn open_on(
     alloc: Global,
-    lock: Lock<'_>,
-    sender: &str,
-    place: Sequence,
+    origin: Origin<'_>,
     waiting: &mut Waiting,
     piece: &[u8],
 ) -> Result<Opened, AllocError>
-    ensures opened { IfOk result (λ opened. Opens lock.entry sender.now place (waiting.old ++ piece.now) opened.frames.items (ended waiting.new
+    ensures opened { IfOk result (λ opened. Opens origin.entry.lock origin.entry.sender.now origin.entry.place (waiting.old ++ piece.now) opened.frames.items (ended waiting.new
         opened.fault)) }
-    ensures counted { IfOk result (λ opened. opened.next ≡ after (length opened.frames.items) place) }
+    ensures counted { IfOk result (λ opened. opened.next ≡ after (length opened.frames.items) origin.entry.place) }
 {
     let waited = mem::replace(waiting, Waiting::new(alloc));
     let Waiting { bytes, summing } = waited.followed_by(piece)?;
-    let all = open_all(alloc, lock, sender, place, &bytes, summing)?;
+    let all = open_all(alloc, origin, &bytes, summing)?;
     *waiting = Waiting {
         bytes: rest_from(alloc, bytes, all.used)?,
         summing: all.summing,
@@ -254,29 +245,22 @@ fn open_on(
     Ok(all.opened)
 }
 
-/// Takes the next piece of a sealed stream, after the waiting beginning of a frame, from a place in the connection on. Returns the
-/// frames with correct sums that end in it, and the reason why none is taken after them.
+/// Takes the next piece of a sealed stream, after the waiting beginning of a frame of this origin. Returns the frames with correct
+/// sums that end in it, and the reason why none is taken after them.
 ///
 /// The places of the cuts between pieces make no difference. Only the bytes of an incomplete frame wait, and they are summed as they
 /// come: so a long frame takes no longer at its end than at any other piece, but for the reading of its text.
-pub fn open_piece(
-    alloc: Global,
-    lock: Lock<'_>,
-    sender: &str,
-    place: Sequence,
-    waiting: &mut Waiting,
-    piece: &[u8],
-) -> Opened
+pub fn open_piece(alloc: Global, origin: Origin<'_>, waiting: &mut Waiting, piece: &[u8]) -> Opened
     // PROMISE: Of a connection just the frames are taken whose sums are right for its challenge, each at the number behind that of the one before.
-    ensures opens { Opens lock.entry sender.now place (waiting.old ++ piece.now) result.frames.items (ended waiting.new result.fault) }
-    ensures next { result.next ≡ after (length result.frames.items) place }
+    ensures opens { Opens origin.entry.lock origin.entry.sender.now origin.entry.place (waiting.old ++ piece.now) result.frames.items (ended waiting.new result.fault) }
+    ensures next { result.next ≡ after (length result.frames.items) origin.entry.place }
 {
-    match open_on(alloc, lock, sender, place, waiting, piece) {
+    match open_on(alloc, origin, waiting, piece) {
         Ok(opened) => opened,
         Err(_) => Opened {
             frames: Vec::new(alloc),
             fault: Some(SealError::Memory),
-            next: place,
+            next: origin.place,
         },
     }
 }

@@ -19,6 +19,14 @@ pub struct Lock<'a> {
     pub name: &'a str,
 }
 
+/// The origin of a sealed frame, as the receiver knows it: its sender, its place in the connection, and the lock that opens it.
+#[derive(Clone, Copy)]
+pub struct Origin<'a> {
+    pub lock: Lock<'a>,
+    pub sender: &'a str,
+    pub place: Sequence,
+}
+
 /// The reason for not taking a sealed frame. It is printed as its name.
 #[derive(Clone, Copy, Debug, PartialEq, Eq, Error)]
 pub enum SealError {
@@ -94,8 +102,7 @@ fn only_frame(alloc: Global, text: &[u8]) -> Result<Frame, SealError>
     }
 }
 
-/// Returns the frame that stands after a sum, from a sender, at a place in a connection. What `summing` covers of its text isn't
-/// summed again.
+/// Returns the frame of this origin that stands after a sum. What `summing` covers of its text isn't summed again.
 ///
 /// # Errors
 ///
@@ -103,21 +110,18 @@ fn only_frame(alloc: Global, text: &[u8]) -> Result<Frame, SealError>
 /// and [`SealError::Memory`] if memory runs out.
 pub fn open_frame(
     alloc: Global,
-    lock: Lock<'_>,
-    sender: &str,
-    place: Sequence,
+    origin: Origin<'_>,
     summing: Option<Summing>,
     sum: &[u8; SUM],
     text: &[u8],
 ) -> Result<Frame, SealError>
     requires covers { IfSome summing (λ s. Covers s text.now) }
-
     // PROMISE: A frame is taken only if its sum is right for the challenge of its connection, its number there, its sender, its addressee and its bytes.
-    ensures right { IfOk result (λ _. IsRight lock.entry sender.now place sum.now text.now) }
+    ensures right { IfOk result (λ _. IsRight origin.entry.lock origin.entry.sender.now origin.entry.place sum.now text.now) }
     ensures frame { IfOk result (λ frame. IsOnly text.now frame) }
-    ensures refused { IfErr result (IsUntaken lock.entry sender.now place sum.now text.now) }
+    ensures refused { IfErr result (IsUntaken origin.entry.lock origin.entry.sender.now origin.entry.place sum.now text.now) }
 {
-    let correct = whole_sum(alloc, summing, lock, sender, place, text)?;
+    let correct = whole_sum(alloc, summing, origin, text)?;
     if !are_same(sum, &correct) {
         return Err(SealError::Sum);
     }

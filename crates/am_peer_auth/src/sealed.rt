@@ -6,7 +6,7 @@ ghost use Rattle.am_peer_auth.specs.Authenticators.{Greets, IsFailed, IsGreeted,
 use crate::fault::AuthFault;
 use crate::opening::{Opened, Waiting, open_piece};
 use crate::passing::{AuthState, Heard, Sealing, turn_back, wait};
-use crate::seal::Lock;
+use crate::seal::{Lock, Origin};
 use crate::sequence::{CHALLENGE, Sequence};
 use am_gossip::{FrameError, read_hello};
 use am_http::session::{Session, SessionOutput};
@@ -59,7 +59,12 @@ pub fn unseal(
     let Some(sender) = session.name() else {
         return turn_back(alloc, session, AuthFault::Unsealed);
     };
-    let opened = open_piece(alloc, lock, sender, place, &mut waiting, piece);
+    let origin = Origin {
+        lock,
+        sender,
+        place,
+    };
+    let opened = open_piece(alloc, origin, &mut waiting, piece);
     keep(session, opened, out, waiting)
 }
 
@@ -80,8 +85,12 @@ fn greeted(
         return (Heard { said, fault: None }, AuthState::Closed);
     }
     let mut waiting = Waiting::new(alloc);
-    let place = Sequence::new(challenge);
-    let opened = open_piece(alloc, lock, name, place, &mut waiting, behind);
+    let origin = Origin {
+        lock,
+        sender: name,
+        place: Sequence::new(challenge),
+    };
+    let opened = open_piece(alloc, origin, &mut waiting, behind);
     keep(session, opened, 0, waiting)
 }
 

@@ -5,7 +5,7 @@ ghost use Rattle.am_peer_auth.specs.Seals.{message_front, seal_sum};
 ghost use Rattle.am_peer_auth.specs.Summings.{Covers, IsBegun, IsSumOf};
 
 use crate::mac::{Mac, SUM};
-use crate::seal::{Lock, sum_of};
+use crate::seal::{Origin, sum_of};
 use crate::sequence::Sequence;
 use std::alloc::{AllocError, Global};
 
@@ -77,8 +77,8 @@ impl Summing {
     }
 }
 
-/// Returns the sum of a text so far, from a sender, at a place in a connection. It goes on with `summing` if that is a sum of the
-/// same message, and otherwise begins anew.
+/// Returns the sum of a text of this origin so far. It goes on with `summing` if that is a sum of the same message, and otherwise
+/// begins anew.
 ///
 /// # Errors
 ///
@@ -86,14 +86,17 @@ impl Summing {
 pub fn sum_so_far(
     alloc: Global,
     summing: Option<Summing>,
-    lock: Lock<'_>,
-    sender: &str,
-    place: Sequence,
+    origin: Origin<'_>,
     text: &[u8],
 ) -> Result<Summing, AllocError>
     requires covers { IfSome summing (λ s. Covers s text.now) }
-    ensures sum { IfOk result (λ s. IsSumOf s lock.entry.secret.now (message_front place sender.now lock.entry.name.now) text.now) }
+    ensures sum { IfOk result (λ s. IsSumOf s origin.entry.lock.secret.now (message_front origin.entry.place origin.entry.sender.now origin.entry.lock.name.now) text.now) }
 {
+    let Origin {
+        lock,
+        sender,
+        place,
+    } = origin;
     let front = front_of_message(alloc, place, sender, lock.name)?;
     let mut summing = begun_for(alloc, summing, lock.secret, front)?;
     summing.sum_rest(text);
@@ -117,8 +120,7 @@ fn begun_for(
     }
 }
 
-/// Returns the correct sum of a frame's whole text, from a sender, at a place in a connection. What `summing` covers of the text
-/// isn't summed again.
+/// Returns the correct sum of a frame's whole text of this origin. What `summing` covers of the text isn't summed again.
 ///
 /// # Errors
 ///
@@ -127,17 +129,20 @@ fn begun_for(
 pub fn whole_sum(
     alloc: Global,
     summing: Option<Summing>,
-    lock: Lock<'_>,
-    sender: &str,
-    place: Sequence,
+    origin: Origin<'_>,
     text: &[u8],
 ) -> Result<[u8; SUM], AllocError>
     requires covers { IfSome summing (λ s. Covers s text.now) }
-    ensures sum { IfOk result (λ sum. sum ≡ seal_sum lock.entry.secret.now place sender.now lock.entry.name.now text.now) }
+    ensures sum { IfOk result (λ sum. sum ≡ seal_sum origin.entry.lock.secret.now origin.entry.place origin.entry.sender.now origin.entry.lock.name.now text.now) }
 {
     if summing.is_none() {
+        let Origin {
+            lock,
+            sender,
+            place,
+        } = origin;
         return Ok(sum_of(lock.secret, place, sender, lock.name, text));
     }
-    let summing = sum_so_far(alloc, summing, lock, sender, place, text)?;
+    let summing = sum_so_far(alloc, summing, origin, text)?;
     Ok(summing.mac.finalize())
 }

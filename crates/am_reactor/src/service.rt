@@ -1,6 +1,6 @@
 //! The services that a loop runs.
 
-ghost use Rattle.std.specs.Prelude.{◌≡◌, ◌↔◌, ℕ, ◌<◌, ◌≤◌, Bool, List, [], Option, MatchOption, IsTrue, length, take, drop};
+ghost use Rattle.std.specs.Prelude.{◌≡◌, ◌↔◌, ℕ, ◌<◌, ◌≤◌, Bool, false, List, [], Option, MatchOption, IfSome, IsTrue, length, take, drop};
 ghost use Rattle.std.specs.Option.{option_map};
 ghost use Rattle.std.specs.declared.time.Instant.{Instant};
 ghost use Rattle.am_reactor.specs.declared.fault.LinkFault.{LinkFault};
@@ -49,6 +49,9 @@ pub trait Service {
 
     /// States what [`Service::due`] answers: the moment for which a reply of a session waits.
     ghost due: { Self.Session → Option Instant → Type 0 };
+
+    /// True if something was done since the last commit that the service has to make sure of.
+    ghost uncommitted: { Self → Bool };
 
     /// Relates the service to what it is once what waited for a peer is lost.
     ghost loses: { Self → ℕ → LinkFault → Self → Type 0 };
@@ -107,11 +110,13 @@ pub trait Service {
         ensures { does self.old session.old Resumed self.new session.new };
 
     /// Returns whether something was done since the last commit that the service has to make sure of.
-    fn has_uncommitted(&self) -> bool;
+    fn has_uncommitted(&self) -> bool
+        ensures { result ≡ uncommitted self.now };
 
     /// Makes sure of all that was done so far. It is called once in a turn of the loop if there is something uncommitted.
     fn commit(&mut self)
-        ensures { acts self.old self.new };
+        ensures acted { acts self.old self.new }
+        ensures committed { uncommitted self.new ≡ false };
 
     /// Returns whether a reply of the session waits for the next commit.
     fn is_held_back(&self, session: &Self::Session) -> bool
@@ -119,7 +124,10 @@ pub trait Service {
 
     /// Releases the reply of the session after the commit for which it waited: it goes out from now on.
     fn release(&mut self, session: &mut Self::Session)
-        ensures { does self.old session.old Released self.new session.new };
+        // PROMISE: A reply that waits for a commit is released only after a commit, and before anything else is done that is to be committed.
+        requires committed { uncommitted self.old ≡ false }
+        ensures did { does self.old session.old Released self.new session.new }
+        ensures committed { uncommitted self.new ≡ false };
 
     /// Returns the moment for which the reply of a session waits, if one does. It is asked in each turn, and the moment may be
     /// earlier than the last answer. If something expensive waits to be done for the session, too, a stretch of that is done
@@ -160,21 +168,26 @@ pub trait Service {
     /// connection.
     fn unread(&self, session: &Self::Session) -> usize;
 
-    /// Returns what goes to a peer next. It is asked after each call that may bring something, until there is nothing.
+    /// Returns what goes to a peer next, once all that was done before is committed. It is asked after each call that may bring
+    /// something, until there is nothing.
     fn outgoing(&mut self) -> Option<PeerBytes>
-        ensures { MatchOption result (acts self.old self.new) (λ it. offers self.old it.peer it.bytes.items self.new) };
+        // PROMISE: Bytes are given for a peer only once all that was done before is committed.
+        ensures committed { IfSome result (λ it. uncommitted self.old ≡ false) }
+        ensures offered { MatchOption result (acts self.old self.new) (λ it. offers self.old it.peer it.bytes.items self.new) };
 
     /// Returns what goes to a peer next over the link that is open to it, behind all that went out; the link's time begins anew
-    /// then. It is asked once all bytes of a link went out and as many came back over it as are awaited, which are the `answer`. If
-    /// there is nothing, the link is closed.
+    /// then. It is asked once all bytes of a link went out and as many came back over it as are awaited, which are the `answer`, and
+    /// all that was done before is committed. If there is nothing, the link is closed.
     fn more(&mut self, peer: usize, answer: &[u8]) -> Option<Vec<u8>>
+        requires committed { uncommitted self.old ≡ false }
         ensures { gives self.old peer answer.now (option_map (λ bytes. bytes.items) result) self.new };
 
-    /// Returns what a peer is asked next, over a connection of its own: after these bytes went out, the loop reads until the peer
-    /// ends its stream. It is called in each turn of the loop, until there is nothing. A question to a peer that hasn't answered
-    /// yet is lost.
+    /// Returns what a peer is asked next, once all that was done before is committed, over a connection of its own: after these
+    /// bytes went out, the loop reads until the peer ends its stream. It is called in each turn of the loop, until there is nothing.
+    /// A question to a peer that hasn't answered yet is lost.
     fn question(&mut self) -> Option<PeerBytes>
-        ensures { MatchOption result (acts self.old self.new) (λ it. asks self.old it.peer it.bytes.items self.new) };
+        ensures committed { IfSome result (λ it. uncommitted self.old ≡ false) }
+        ensures asked { MatchOption result (acts self.old self.new) (λ it. asks self.old it.peer it.bytes.items self.new) };
 
     /// Takes the answer of a peer, which took all that it was asked, sent back these bytes, perhaps none, and ended its stream.
     fn answered(&mut self, peer: usize, answer: Vec<u8>)

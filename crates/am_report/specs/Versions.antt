@@ -34,7 +34,7 @@ more_of_silence format m greatest = if format.is_long then long_silence format.h
 abbrev pub begins_entry : LogKey → List ℕ
 begins_entry key = codes "nfl " ++ key_words key
 
--- UPDATED EXPIRES FIRING RESOLVED, in any manner
+-- UPDATED EXPIRES FIRING RESOLVED, in any format
 unfoldable pub told_entry : Format → LogMesh → List ℕ
 told_entry format m =
     moment_text m.entry.timestamp ++ codes " " ++ moment_text m.expires_at ++ codes " "

@@ -1,8 +1,8 @@
-//! The manner in which lines tell differences.
+//! The format of lines that tell differences.
 
 use am_version_order::Moment;
 
-/// The manner in which the lines of differences tell versions.
+/// The format in which the lines of differences tell versions.
 #[derive(Clone, Copy)]
 pub struct Format {
     /// The moment of the states that are shown.

@@ -7,8 +7,7 @@ use Rattle.am_schedule.specs.declared.form.Verb.TheVariants as verbs
 use Rattle.am_schedule.specs.declared.form.VersionForm.TheVariants as versions
 use Rattle.am_schedule.specs.declared.form.LineForm.TheVariants as lines
 use Rattle.am_schedule.specs.declared.form.Form.TheVariants.{Cluster, Version, Other}
-use Rattle.am_schedule.specs.Words.{word_at}
-use Rattle.am_schedule.specs.Places.{has_word}
+use Rattle.am_schedule.specs.Words.{word_at, has_word}
 use Rattle.am_schedule.specs.Rows.{Row, has_count, is_line, event_row, verb_word, silence_row, log_row, stop_row, save_row, lose_row, timely_row, frames_row}
 use Rattle.am_schedule.specs.Forms.{form_in, has_verb, verb_in}
 use Rattle.am_schedule.specs.Laws.{OneForm, OneVerb}

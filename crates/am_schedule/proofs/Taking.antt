@@ -15,8 +15,7 @@ use Rattle.am_schedule.specs.declared.form.Form.TheVariants.{Cluster, Version, O
 use Rattle.am_schedule.specs.declared.step.VersionLine.{VersionLine}
 use Rattle.am_schedule.specs.declared.step.Line.{Line}
 use Rattle.am_schedule.specs.declared.reader.Reader.{Reader}
-use Rattle.am_schedule.specs.Words.{word_at, words_of}
-use Rattle.am_schedule.specs.Places.{has_word}
+use Rattle.am_schedule.specs.Words.{word_at, words_of, has_word}
 use Rattle.am_schedule.specs.Tables.{value_in}
 use Rattle.am_schedule.specs.Forms.{verb_in, form_in, has_line_form}
 use Rattle.am_schedule.specs.Labels.{is_label}

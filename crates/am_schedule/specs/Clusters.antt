@@ -7,9 +7,9 @@ use Rattle.am_schedule.specs.declared.error.FaultKind.{FaultKind}
 use Rattle.am_schedule.specs.declared.error.FaultKind.TheVariants.{Cluster}
 use Rattle.am_schedule.specs.declared.cluster.ClusterLine.{ClusterLine}
 use Rattle.am_schedule.specs.Readings.{◌>>=◌, or_fault}
-use Rattle.am_schedule.specs.Numbers.{seconds_in}
 use Rattle.am_schedule.specs.Lists.{are_new}
-use Rattle.am_schedule.specs.Places.{read_at, has_word}
+use Rattle.am_schedule.specs.Words.{has_word, word_at}
+use Rattle.am_schedule.specs.Slots.{interval, value_at}
 
 -- a member's name has 1 to 255 bytes, and is none of the words that may stand in a name's place
 unfoldable pub is_name : List ℕ → Bool
@@ -28,8 +28,8 @@ as_cluster (Err kind) = Err Cluster
 -- the numbers and the 1 to 16 names of a cluster line
 unfoldable pub cluster_parts : List (List ℕ) → Result ClusterLine FaultKind
 cluster_parts words = do
-  retention ← as_cluster (read_at seconds_in 1 words)
-  peer_timeout ← as_cluster (read_at seconds_in 2 words)
+  retention ← as_cluster (value_at [] interval (word_at 1 words))
+  peer_timeout ← as_cluster (value_at [] interval (word_at 2 words))
   names ← or_fault Cluster (names_in (drop 3 words))
   Ok (record { names = names; retention = retention; peer_timeout = peer_timeout })
 

@@ -6,7 +6,7 @@ use Rattle.am_schedule.specs.declared.form.LineForm.{LineForm}
 use Rattle.am_schedule.specs.declared.form.LineForm.TheVariants as lines
 use Rattle.am_schedule.specs.declared.form.Form.{Form}
 use Rattle.am_schedule.specs.declared.form.Form.TheVariants.{Cluster, Version, Other}
-use Rattle.am_schedule.specs.Places.{has_word}
+use Rattle.am_schedule.specs.Words.{has_word}
 use Rattle.am_schedule.specs.Rows.{has_count, is_line, event_row, verb_word, all_verbs, silence_row, log_row, stop_row}
 use Rattle.am_schedule.specs.Rows.{save_row, lose_row, timely_row, frames_row}
 

@@ -4,7 +4,6 @@ pub mod Numbers
 pub mod Times
 pub mod Tables
 pub mod Lists
-pub mod Places
 pub mod Labels
 pub mod Slots
 pub mod Rows

@@ -16,10 +16,9 @@ use Rattle.am_schedule.specs.declared.step.Action.TheVariants as actions
 use Rattle.am_schedule.specs.declared.step.Line.{Line}
 use Rattle.am_schedule.specs.declared.step.Line.TheVariants as kinds
 use Rattle.am_schedule.specs.Readings.{◌>>=◌}
-use Rattle.am_schedule.specs.Words.{word_at}
+use Rattle.am_schedule.specs.Words.{word_at, has_word}
 use Rattle.am_schedule.specs.Lists.{pairs_in}
 use Rattle.am_schedule.specs.Labels.{versions_in}
-use Rattle.am_schedule.specs.Places.{has_word}
 use Rattle.am_schedule.specs.Slots.{Slot, whole_moment, interval, number, bits, hashes, yes_or_no, member, text}
 use Rattle.am_schedule.specs.Slots.{identifier, ValueOf, value_at}
 

@@ -14,8 +14,7 @@ use Rattle.am_schedule.specs.declared.step.VersionLine.{VersionLine}
 use Rattle.am_schedule.specs.declared.step.Line.{Line}
 use Rattle.am_schedule.specs.declared.schedule.Schedule.{Schedule}
 use Rattle.am_schedule.specs.Readings.{◌>>=◌, or_fault, or_else}
-use Rattle.am_schedule.specs.Words.{words_of, word_at}
-use Rattle.am_schedule.specs.Places.{has_word}
+use Rattle.am_schedule.specs.Words.{words_of, word_at, has_word}
 use Rattle.am_schedule.specs.Forms.{form_in, has_form_by}
 use Rattle.am_schedule.specs.Labels.{is_label}
 use Rattle.am_schedule.specs.VersionLines.{version_in}

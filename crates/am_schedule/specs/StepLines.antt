@@ -13,8 +13,7 @@ use Rattle.am_schedule.specs.declared.step.Line.{Line}
 use Rattle.am_schedule.specs.declared.step.Line.TheVariants as kinds
 use Rattle.am_schedule.specs.declared.form.Verb.{Verb}
 use Rattle.am_schedule.specs.Readings.{◌>>=◌, or_fault}
-use Rattle.am_schedule.specs.Words.{word_at}
-use Rattle.am_schedule.specs.Places.{has_word}
+use Rattle.am_schedule.specs.Words.{word_at, has_word}
 use Rattle.am_schedule.specs.Slots.{moment, number, member, value_at}
 use Rattle.am_schedule.specs.Rows.{by_row, no_version, post_row, group_row, event_row, stop_row, save_row, lose_row, timely_row, frames_row}
 use Rattle.am_schedule.specs.Forms.{verb_in}

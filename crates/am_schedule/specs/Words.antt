@@ -1,6 +1,7 @@
 -- The words of a line.
 use Rattle.std.specs.Prelude.{ℕ, Bool, List, [], length, Option, Result, Ok, Err, nat_le, ◌==◌, if◌then◌else◌, get_or}
 use Rattle.std.specs.List.{slice_split}
+use Rattle.std.specs.Str.{bytes_eq}
 use Rattle.am_schedule.specs.declared.error.FaultKind.{FaultKind}
 use Rattle.am_schedule.specs.declared.error.FaultKind.TheVariants.{Number, Name}
 use Rattle.am_schedule.specs.Readings.{◌>>=◌, or_fault}
@@ -12,6 +13,10 @@ words_of line = slice_split (λ b. b == 32) line
 -- the word at a place, counted from 0, or the empty text after the last word
 unfoldable pub word_at : ℕ → List (List ℕ) → List ℕ
 word_at place words = get_or words place []
+
+-- true if a word stands in a place
+abbrev pub has_word : ℕ → List ℕ → List (List ℕ) → Bool
+has_word place word words = bytes_eq (word_at place words) word
 
 -- a word has at most 1,024 bytes
 abbrev pub is_short : List ℕ → Bool

@@ -1,19 +1,18 @@
 //! The cluster line.
 
-ghost use Rattle.std.specs.Prelude.{◌≡◌, ℕ, ◌≤◌, List, length, map, IsTrue, IfErr};
+ghost use Rattle.std.specs.Prelude.{◌≡◌, ℕ, ◌≤◌, List, [], length, map, IsTrue, IfErr};
 ghost use Rattle.am_schedule.specs.declared.error.FaultKind.TheVariants.{Cluster, Memory};
 ghost use Rattle.am_schedule.specs.Readings.{GivesUnlessMemory, or_fault};
 ghost use Rattle.std.specs.List.{list_any};
 ghost use Rattle.std.specs.Str.{bytes_eq};
-ghost use Rattle.am_schedule.specs.Numbers.{seconds_in};
-ghost use Rattle.am_schedule.specs.Words.{words_of};
-ghost use Rattle.am_schedule.specs.Places.{read_at};
+ghost use Rattle.am_schedule.specs.Words.{word_at, words_of};
+ghost use Rattle.am_schedule.specs.Slots.{interval, value_at};
 ghost use Rattle.am_schedule.specs.Clusters.{is_name, names_in, as_cluster, cluster_parts, has_cluster_form, cluster_in};
 
 use crate::error::FaultKind;
 use crate::items::Items;
-use crate::places::seconds_at;
-use crate::word::{Word, behind, split_words, word_count, word_of};
+use crate::times::seconds;
+use crate::word::{Word, behind, split_words, value_at, word_count, word_of};
 use am_version_order::Interval;
 use std::alloc::Global;
 
@@ -76,9 +75,8 @@ fn cluster_parts(alloc: Global, line: &str) -> Result<ClusterLine, FaultKind>
     let retention = cluster_seconds(line, 1)?;
     let peer_timeout = cluster_seconds(line, 2)?;
     let words = split_words(alloc, line)?;
-    let names = names(alloc, behind(&words, 3))?;
     Ok(ClusterLine {
-        names,
+        names: names(alloc, behind(&words, 3))?,
         retention,
         peer_timeout,
     })
@@ -86,9 +84,11 @@ fn cluster_parts(alloc: Global, line: &str) -> Result<ClusterLine, FaultKind>
 
 /// Reads an interval of the cluster line.
 fn cluster_seconds(line: &str, place: usize) -> Result<Interval, FaultKind>
-    ensures { result ≡ as_cluster (read_at seconds_in place (words_of line.now)) }
+    ensures { result ≡ as_cluster (value_at [] interval (word_at place (words_of line.now))) }
 {
-    seconds_at(line, place).ok().ok_or(FaultKind::Cluster)
+    value_at(line, place, seconds)
+        .ok()
+        .ok_or(FaultKind::Cluster)
 }
 
 /// Reads a line `cluster RETENTION TIMEOUT NAME ..`.

@@ -8,13 +8,12 @@ ghost use Rattle.am_schedule.specs.StepLines.{post_in, group_in, event_in};
 
 use crate::error::FaultKind;
 use crate::form::Verb;
-use crate::lists::pairs;
-use crate::places::{
-    bits_at, hashes_at, member_at, seconds_at, text_at, whole_moment_at, yes_or_no_at,
-};
+use crate::lists::{hashes, member, pairs, yes_or_no};
+use crate::numbers::bits;
 use crate::step::{GroupLine, LineEvent, PostLine, VersionLine};
+use crate::times::{seconds, whole_moment};
 use crate::versions::versions_of;
-use crate::word::{Word, behind, split_words, word_of};
+use crate::word::{Word, behind, split_words, value_at, word_of};
 use std::alloc::Global;
 use std::collections::BTreeMap;
 
@@ -34,19 +33,13 @@ fn id(alloc: Global, word: &str) -> Result<Option<Word>, FaultKind>
 fn post(alloc: Global, line: &str) -> Result<PostLine, FaultKind>
     ensures { GivesUnlessMemory result (post_in (words_of line.now)) }
 {
-    let id = id(alloc, word_of(line, 4))?;
-    let bits = bits_at(line, 5)?;
-    let starts = whole_moment_at(line, 6)?;
-    let ends = whole_moment_at(line, 7)?;
-    let name = text_at(alloc, line, 8)?;
-    let value = text_at(alloc, line, 9)?;
     Ok(PostLine {
-        id,
-        bits,
-        starts,
-        ends,
-        name,
-        value,
+        id: id(alloc, word_of(line, 4))?,
+        bits: value_at(line, 5, bits)?,
+        starts: value_at(line, 6, whole_moment)?,
+        ends: value_at(line, 7, whole_moment)?,
+        name: Word::read(alloc, word_of(line, 8))?,
+        value: Word::read(alloc, word_of(line, 9))?,
     })
 }
 
@@ -55,17 +48,12 @@ fn post(alloc: Global, line: &str) -> Result<PostLine, FaultKind>
 fn group(alloc: Global, line: &str) -> Result<GroupLine, FaultKind>
     ensures { GivesUnlessMemory result (group_in (words_of line.now)) }
 {
-    let group = text_at(alloc, line, 4)?;
-    let receiver = text_at(alloc, line, 5)?;
-    let firing = hashes_at(alloc, line, 6)?;
-    let resolved = hashes_at(alloc, line, 7)?;
-    let repeat = seconds_at(line, 8)?;
     Ok(GroupLine {
-        group,
-        receiver,
-        firing,
-        resolved,
-        repeat,
+        group: Word::read(alloc, word_of(line, 4))?,
+        receiver: Word::read(alloc, word_of(line, 5))?,
+        firing: hashes(alloc, word_of(line, 6))?,
+        resolved: hashes(alloc, word_of(line, 7))?,
+        repeat: value_at(line, 8, seconds)?,
     })
 }
 
@@ -82,7 +70,7 @@ pub(crate) fn event(
 {
     match verb {
         Verb::From => {
-            let peer = member_at(alloc, names, line, 4)?;
+            let peer = member(alloc, names, word_of(line, 4))?;
             let words = split_words(alloc, line)?;
             let versions = versions_of(alloc, versions, behind(&words, 5))?;
             Ok(LineEvent::From { peer, versions })
@@ -92,7 +80,7 @@ pub(crate) fn event(
             Ok(LineEvent::Post(post))
         }
         Verb::Expire => {
-            let id = text_at(alloc, line, 4)?;
+            let id = Word::read(alloc, word_of(line, 4))?;
             Ok(LineEvent::Expire { id })
         }
         Verb::Notified => {
@@ -101,7 +89,7 @@ pub(crate) fn event(
         }
         Verb::Decide => {
             let group = group(alloc, line)?;
-            let resolved_wanted = yes_or_no_at(line, 9)?;
+            let resolved_wanted = value_at(line, 9, yes_or_no)?;
             Ok(LineEvent::Decide {
                 group,
                 resolved_wanted,
@@ -115,7 +103,7 @@ pub(crate) fn event(
         Verb::Show => Ok(LineEvent::Show),
         Verb::Tick => Ok(LineEvent::Tick),
         Verb::Pull => {
-            let peer = member_at(alloc, names, line, 4)?;
+            let peer = member(alloc, names, word_of(line, 4))?;
             Ok(LineEvent::Pull { peer })
         }
         Verb::Start => Ok(LineEvent::Start),

@@ -11,7 +11,6 @@ pub mod laws;
 mod line;
 mod lists;
 mod numbers;
-mod places;
 mod reader;
 mod schedule;
 mod shared;

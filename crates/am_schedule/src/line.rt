@@ -11,9 +11,11 @@ ghost use Rattle.am_schedule.specs.StepLines.{deliver_in, settle_in, member_line
 use crate::error::FaultKind;
 use crate::events::event;
 use crate::form::{LineForm, verb_of};
-use crate::places::{count_at, member_at, moment_at, seconds_at};
+use crate::lists::member;
+use crate::numbers::count;
 use crate::step::{Action, Line, Step, VersionLine};
-use crate::word::{Word, word_count, word_of};
+use crate::times::{moment, seconds};
+use crate::word::{Word, value_at, word_count, word_of};
 use std::alloc::Global;
 use std::collections::BTreeMap;
 
@@ -26,8 +28,8 @@ fn deliver_line(text: &str) -> Result<Line, FaultKind>
     if word_count(text) != 4 {
         return Err(FaultKind::Words);
     }
-    let at = moment_at(text, 1)?;
-    let frame = count_at(text, 3)?;
+    let at = value_at(text, 1, moment)?;
+    let frame = value_at(text, 3, count)?;
     Ok(Line::Step(Step::new(Action::Deliver { at, frame })))
 }
 
@@ -40,7 +42,7 @@ fn settle_line(text: &str) -> Result<Line, FaultKind>
     if word_count(text) != 3 {
         return Err(FaultKind::Words);
     }
-    let at = moment_at(text, 1)?;
+    let at = value_at(text, 1, moment)?;
     Ok(Line::Settle(at))
 }
 
@@ -56,8 +58,8 @@ fn member_line(
     ensures formed { IfErr result (λ kind. kind ≡ Memory → IsTrue (is_some (verb_in (words_of text.now)))) }
 {
     let verb = verb_of(text).ok_or(FaultKind::Words)?;
-    let at = moment_at(text, 1)?;
-    let name = member_at(alloc, names, text, 2)?;
+    let at = value_at(text, 1, moment)?;
+    let name = member(alloc, names, word_of(text, 2))?;
     let event = event(alloc, names, versions, verb, text)?;
     Ok(Line::Step(Step::new(Action::Event { at, name, event })))
 }
@@ -95,20 +97,20 @@ pub(crate) fn line(
     match form {
         LineForm::At => at_line(alloc, names, versions, text),
         LineForm::Stop => {
-            let name = member_at(alloc, names, text, 1)?;
+            let name = member(alloc, names, word_of(text, 1))?;
             Ok(Line::Step(Step::new(Action::Stop { name })))
         }
         LineForm::Save => {
-            let name = member_at(alloc, names, text, 1)?;
+            let name = member(alloc, names, word_of(text, 1))?;
             Ok(Line::Step(Step::new(Action::Save { name })))
         }
         LineForm::Lose => {
-            let frame = count_at(text, 1)?;
+            let frame = value_at(text, 1, count)?;
             Ok(Line::Step(Step::new(Action::Lose { frame })))
         }
         LineForm::Timely => {
-            let spread = seconds_at(text, 1)?;
-            let flight = seconds_at(text, 2)?;
+            let spread = value_at(text, 1, seconds)?;
+            let flight = value_at(text, 2, seconds)?;
             Ok(Line::Timely(spread, flight))
         }
         LineForm::Frames => Ok(Line::Frames),

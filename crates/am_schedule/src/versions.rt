@@ -11,10 +11,12 @@ ghost use Rattle.am_schedule.specs.Labels.{silence_of, log_of, of_one_state, ver
 use crate::error::FaultKind;
 use crate::form::VersionForm;
 use crate::items::Items;
-use crate::places::{hashes_at, text_at, whole_moment_at};
+use crate::lists::hashes;
 use crate::shared::Shared;
 use crate::step::{LogLine, SilenceLine, VersionLine, Versions};
 use crate::table::look_up;
+use crate::times::whole_moment;
+use crate::word::{Word, value_at, word_of};
 use std::alloc::Global;
 use std::collections::BTreeMap;
 
@@ -23,21 +25,14 @@ use std::collections::BTreeMap;
 fn silence_line(alloc: Global, line: &str) -> Result<SilenceLine, FaultKind>
     ensures { GivesUnlessMemory result (silence_in (words_of line.now)) }
 {
-    let id = text_at(alloc, line, 2)?;
-    let updated = whole_moment_at(line, 3)?;
-    let starts = whole_moment_at(line, 4)?;
-    let ends = whole_moment_at(line, 5)?;
-    let expires = whole_moment_at(line, 6)?;
-    let name = text_at(alloc, line, 7)?;
-    let value = text_at(alloc, line, 8)?;
     Ok(SilenceLine {
-        id,
-        updated,
-        starts,
-        ends,
-        expires,
-        name,
-        value,
+        id: Word::read(alloc, word_of(line, 2))?,
+        updated: value_at(line, 3, whole_moment)?,
+        starts: value_at(line, 4, whole_moment)?,
+        ends: value_at(line, 5, whole_moment)?,
+        expires: value_at(line, 6, whole_moment)?,
+        name: Word::read(alloc, word_of(line, 7))?,
+        value: Word::read(alloc, word_of(line, 8))?,
     })
 }
 
@@ -46,19 +41,13 @@ fn silence_line(alloc: Global, line: &str) -> Result<SilenceLine, FaultKind>
 fn log_line(alloc: Global, line: &str) -> Result<LogLine, FaultKind>
     ensures { GivesUnlessMemory result (log_in (words_of line.now)) }
 {
-    let group = text_at(alloc, line, 2)?;
-    let receiver = text_at(alloc, line, 3)?;
-    let updated = whole_moment_at(line, 4)?;
-    let expires = whole_moment_at(line, 5)?;
-    let firing = hashes_at(alloc, line, 6)?;
-    let resolved = hashes_at(alloc, line, 7)?;
     Ok(LogLine {
-        group,
-        receiver,
-        updated,
-        expires,
-        firing,
-        resolved,
+        group: Word::read(alloc, word_of(line, 2))?,
+        receiver: Word::read(alloc, word_of(line, 3))?,
+        updated: value_at(line, 4, whole_moment)?,
+        expires: value_at(line, 5, whole_moment)?,
+        firing: hashes(alloc, word_of(line, 6))?,
+        resolved: hashes(alloc, word_of(line, 7))?,
     })
 }
 

@@ -1,6 +1,7 @@
 //! The words of a line.
 
-ghost use Rattle.std.specs.Prelude.{◌≡◌, ℕ, List, ◌≤◌, ◌<◌, ◌==◌, map, drop, length, IfOk, string_bytes, string_len};
+ghost use Rattle.std.specs.Prelude.{◌≡◌, ℕ, List, Option, ◌≤◌, ◌<◌, ◌==◌, map, drop, length, IfOk, string_bytes, string_len};
+ghost use Rattle.std.specs.Borrow.{Bor};
 ghost use Rattle.std.specs.List.{slice_split};
 ghost use Rattle.am_schedule.specs.Readings.{GivesUnlessMemory};
 ghost use Rattle.am_schedule.specs.Words.{words_of, word_at, text_in, in_place, is_short};
@@ -107,12 +108,19 @@ pub(crate) fn behind<'a>(words: &'a [&'a str], place: usize) -> &'a [&'a str]
     }
 }
 
-/// Returns the value of a word in the place of a number: `Number` if it has none, then `Name` if it is too long.
+/// Returns the value of the word in a place, as `read` reads it: `Number` if it has none, then `Name` if the word is too long.
 #[tactic(auto, unfolding(crate::specs::Words::in_place))]
-pub(crate) fn in_place<T: Copy>(value: Option<T>, word: &str) -> Result<T, FaultKind>
-    ensures { result ≡ in_place value word.now }
+pub(crate) fn value_at<T: Copy, F: Fn(&str) -> Option<T>>(
+    line: &str,
+    place: usize,
+    read: F,
+) -> Result<T, FaultKind>
+    requires { F.IsAlwaysCallable read }
+    ensures { (word : Bor (List ℕ)) × (value : Option T) × F.post read word value × (word.now ≡ word_at place (words_of line.now))
+        × (result ≡ in_place value word.now) }
 {
-    let value = value.ok_or(FaultKind::Number)?;
+    let word = word_of(line, place);
+    let value = read(word).ok_or(FaultKind::Number)?;
     if word.len() > MAX_WORD {
         return Err(FaultKind::Name);
     }

@@ -24,7 +24,7 @@ use Rattle.am_server.proofs.Resting.{stays_same}
 use Rattle.am_server.specs.Calls.{IsProgressOf, WhenTold}
 use Rattle.am_server.specs.Talks.{IsClosed, IsComing, IsLine, IsOwed, IsOwnLine, IsReleased, OwnCause, IsReplyTo, Keeps, KeepsBy, KeepsGone, KeepsIf, Lasts, Owed, Rests, Saying, Stays, Talk, TellsLine, WaitsNoMore, gone_of, own_line, said_next}
 use Rattle.am_server.specs.Talks.Owed.{Line, Reply, Answer, Given, Other}
-use Rattle.am_server.specs.Talks.OwnCause.{IsForeign, NotReady, StateTooLarge, FilterTooLarge, PatternTooLarge, NotKept, OutOfMemory}
+use Rattle.am_server.specs.Talks.OwnCause.{IsForeign, NotReady, StateTooLarge, FilterTooLarge, PatternTooLarge, TooManyPatterns, NotKept, OutOfMemory}
 use Rattle.am_silence.specs.declared.error.SilenceError.TheVariants.{BadPattern}
 use Rattle.am_http.specs.declared.request.Request.{Request}
 use Rattle.am_server.specs.declared.connection_state.CallProgress.{CallProgress}
@@ -82,6 +82,7 @@ own_whole NotReady = refl
 own_whole StateTooLarge = refl
 own_whole FilterTooLarge = refl
 own_whole PatternTooLarge = refl
+own_whole TooManyPatterns = refl
 own_whole NotKept = refl
 own_whole OutOfMemory = refl
 

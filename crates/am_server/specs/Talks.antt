@@ -59,14 +59,15 @@ said_next reply (Out other written) = Out other written
 said_next reply _ = Out reply 0
 
 -- why a member answers a line in place of a step's reply: the request names a host or an origin that isn't the member's; it
--- waited for the first pull, and waits no longer; there is no room for its post; its patterns take too much, in a filter or in a
--- post; what it changed isn't kept on disk; or memory ran out
+-- waited for the first pull, and waits no longer; there is no room for its post; its patterns take too much, in a filter, in a post,
+-- or in a post beside those of the silences that are held; what it changed isn't kept on disk; or memory ran out
 pub data OwnCause : Type 0 where
   IsForeign : Foreign → OwnCause
   NotReady : OwnCause
   StateTooLarge : OwnCause
   FilterTooLarge : OwnCause
   PatternTooLarge : OwnCause
+  TooManyPatterns : OwnCause
   NotKept : OwnCause
   OutOfMemory : OwnCause
 
@@ -77,6 +78,7 @@ own_line NotReady = line 503 (codes "not ready")
 own_line StateTooLarge = line 500 (codes "state too large")
 own_line FilterTooLarge = line_of BadFilter
 own_line PatternTooLarge = refused_line BadPattern
+own_line TooManyPatterns = line 400 (codes "too many patterns")
 own_line NotKept = line 500 (codes "held, but not kept on disk")
 own_line OutOfMemory = line_of Memory
 

@@ -17,7 +17,7 @@ pub use connection_state::{
 };
 pub use counting::{RequestRecord, StateCount, asked_of_itself, request_of};
 pub use member_service::{MemberService, run};
-pub use refusals::{out_of_memory, patterns_too_large, state_too_large};
+pub use refusals::{out_of_memory, patterns_too_large, state_too_large, too_many_patterns};
 pub use room::{frame_bytes, log_said, post_bytes, request_bytes, silences_said};
 pub use state_transfer::{StateTransfer, TransferKind};
 pub use timers::{Intervals, Timers};

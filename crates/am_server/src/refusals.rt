@@ -33,3 +33,10 @@ pub fn patterns_too_large(compilation: &PatternCompilation) -> Refusal
 {
     compilation.refusal()
 }
+
+/// Returns the refusal of a post whose patterns can't be kept beside those of the silences that are held.
+pub fn too_many_patterns() -> Refusal
+    ensures { IsOwnLine (line_seen result) }
+{
+    Refusal::new(400, "too many patterns")
+}

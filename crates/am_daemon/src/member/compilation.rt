@@ -1,5 +1,5 @@
 //! Requests whose patterns are compiled before they are answered, one in each turn of the loop; and posts that there is no room
-//! for.
+//! for, or none for their patterns.
 
 ghost use Rattle.std.specs.Prelude.{◌≡◌, IfErr, IfOk, IfSome, IsTrue};
 ghost use Rattle.am_http.specs.Lines.{line_seen};
@@ -15,6 +15,7 @@ use am_instance::Instance;
 use am_member::{Judged, PatternCompilation};
 use am_server::{
     ConnectionState, is_call, out_of_memory, patterns_too_large, post_bytes, state_too_large,
+    too_many_patterns,
 };
 use std::alloc::{AllocError, Global};
 
@@ -33,22 +34,6 @@ fn judging_of(
             request,
         ),
         _ => Ok(None),
-    }
-}
-
-/// Compiles the next pattern of a request, and returns whether none is left.
-///
-/// # Errors
-///
-/// The [`Refusal`] of the request.
-fn is_judged(compilation: &mut PatternCompilation) -> Result<bool, Refusal>
-    ensures { IfErr result (λ refusal. IsOwnLine (line_seen refusal)) }
-{
-    match compilation.resume() {
-        Ok(Judged::More) => Ok(false),
-        Ok(Judged::Done) => Ok(true),
-        Ok(Judged::TooMuch) => Err(patterns_too_large(compilation)),
-        Err(_) => Err(out_of_memory()),
     }
 }
 
@@ -105,6 +90,50 @@ impl<U: Backend> ServerState<'_, U> {
         }
     }
 
+    /// Compiles the next pattern of a request, and returns whether none is left. Those of a post are kept then.
+    ///
+    /// # Errors
+    ///
+    /// The [`Refusal`] of the request.
+    fn is_compiled(
+        &mut self,
+        instance: &mut Instance,
+        compilation: &mut PatternCompilation,
+    ) -> Result<bool, Refusal>
+        ensures same { instance.new ≡ instance.old }
+        ensures refused { IfErr result (λ refusal. IsOwnLine (line_seen refusal)) }
+    {
+        match compilation.resume() {
+            Ok(Judged::More) => Ok(false),
+            Ok(Judged::Done) => self.is_kept(instance, compilation),
+            Ok(Judged::TooMuch) => Err(patterns_too_large(compilation)),
+            Err(_) => Err(out_of_memory()),
+        }
+    }
+
+    /// Keeps the patterns of a post beside those of the silences that are held, which are compiled first, some in each turn. Returns
+    /// whether that is done.
+    ///
+    /// # Errors
+    ///
+    /// The [`Refusal`] of the request.
+    fn is_kept(
+        &mut self,
+        instance: &mut Instance,
+        compilation: &mut PatternCompilation,
+    ) -> Result<bool, Refusal>
+        ensures same { instance.new ≡ instance.old }
+        ensures refused { IfErr result (λ refusal. IsOwnLine (line_seen refusal)) }
+    {
+        let now = self.backend.next_moment(instance.last());
+        match self.ahead.keep(instance, compilation, now) {
+            Ok(Judged::More) => Ok(false),
+            Ok(Judged::Done) => Ok(true),
+            Ok(Judged::TooMuch) => Err(too_many_patterns()),
+            Err(_) => Err(out_of_memory()),
+        }
+    }
+
     /// Compiles the next pattern of a request. If none is left, the request is answered.
     pub(super) fn resume_compilation(
         &mut self,
@@ -116,7 +145,7 @@ impl<U: Backend> ServerState<'_, U> {
         ensures { IsRequest (spoken said) → IsAnswered (spoken said) instance.old (talk_of connection.old) instance.new (talk_of connection.new) }
     {
         let mut compilation = compilation;
-        match is_judged(&mut compilation) {
+        match self.is_compiled(instance, &mut compilation) {
             Ok(true) => self.answer_by(instance, connection, said, compilation),
             Ok(false) => connection.judge_later(said, compilation),
             Err(refusal) => connection.refuse(self.alloc, &refusal),

@@ -103,11 +103,6 @@ fn count_end(figures: &mut Metrics, account: &RequestRecord, status: &[u8], now:
     }
 }
 
-/// Returns whether a group is to be notified, for the reason that is given.
-pub fn is_to_notify(why: Option<Why>) -> bool {
-    matches!(why, Some(Why::Notify(_) | Why::Unjudged))
-}
-
 /// Counts the step by which something was decided. Where all alerts are muted, there is none.
 pub fn count_decided(figures: &mut Metrics, why: Option<Why>) {
     if matches!(why, Some(Why::Notify(_) | Why::Unjudged | Why::Skip)) {

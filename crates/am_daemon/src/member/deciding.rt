@@ -19,7 +19,7 @@ ghost use Rattle.am_daemon.specs.Calling.{Follows, GivesOrWaits, IsCalled, IsPut
 ghost use Rattle.am_backend.specs.CommitStates.{came, uncommitted};
 ghost use Rattle.am_backend.specs.Stores.{IsFollowed};
 
-use super::counting::{count_decided, count_decision, is_to_notify};
+use super::counting::{count_decided, count_decision};
 use super::server_state::ServerState;
 use super::telling::time_between;
 use am_api_decisions::{
@@ -83,8 +83,12 @@ pub enum Called {
     Made(ReplyBuilder, u64),
 }
 
-/// Returns the number of alerts that are held against this many silences between two looks at the clock.
-fn stretch_over(silences: usize) -> usize {
+/// Returns the number of alerts that are held against this many silences between two looks at the clock: one if some patterns are
+/// compiled for each alert.
+fn stretch_over(ahead: &PatternsAhead, silences: usize) -> usize {
+    if ahead.is_short() {
+        return 1;
+    }
     (STRETCH / silences.max(BESIDE)).max(1)
 }
 
@@ -149,7 +153,7 @@ fn ask_on<U: Backend>(
         return Ok(Reached { deciding, now });
     }
     let most = match searches_for(instance, &deciding) {
-        Searches::Short => stretch_over(instance.silences().len()),
+        Searches::Short => stretch_over(ahead, instance.silences().len()),
         Searches::Long => 1,
         Searches::TooLong => return Ok(Reached { deciding, now }),
     };
@@ -502,11 +506,10 @@ impl<U: Backend> ServerState<'_, U> {
     ) -> Called
         ensures { GivesOrWaits verdict.reply unheard result }
     {
+        let is_notified = verdict.is_notified();
         let Verdict { reply, why } = verdict;
         match (unheard, self.span()) {
-            (Some(request), Some(span)) if is_to_notify(why) => {
-                self.wait_for_exchanges(request, span)
-            }
+            (Some(request), Some(span)) if is_notified => { self.wait_for_exchanges(request, span) }
             _ => {
                 count_decision(self.backend.figures(), why);
                 let outbox = FrameSender::new(self.alloc);

@@ -1,8 +1,9 @@
 //! The exchanges with the Alertmanagers beside a member: it takes what they answer, a stretch in each turn of the loop, and
 //! sends them what they lack.
 
-ghost use Rattle.std.specs.Prelude.{Some, option_map};
+ghost use Rattle.std.specs.Prelude.{◌≡◌, false, Some, IfSome, option_map};
 ghost use Rattle.am_alertmanager.specs.Comings.{frame_in};
+ghost use Rattle.am_backend.specs.CommitStates.{uncommitted};
 ghost use Rattle.am_server.specs.Answered.{ByItself, IsStepOfFrame};
 
 use super::links::link_to;
@@ -199,7 +200,9 @@ impl<U: Backend> Server<'_, U> {
     }
 
     /// Returns the next question or message for a replica. A message goes out only after what it tells is committed.
-    pub(super) fn next_question(&mut self, instance: &Instance) -> Option<PeerBytes> {
+    pub(super) fn next_question(&mut self, instance: &Instance) -> Option<PeerBytes>
+        ensures { IfSome result (λ it. uncommitted (U.store_of self.old.state.backend).commit_state ≡ false) }
+    {
         if self.state.backend.commit_state().has_changes() {
             return None;
         }

@@ -2,7 +2,7 @@
 
 ghost use Rattle.std.specs.Prelude.{◌≡◌, false};
 ghost use Rattle.am_server.specs.Talks.{IsReleased, Lasts, talk_of};
-ghost use Rattle.am_backend.specs.CommitStates.{kept, uncommitted};
+ghost use Rattle.am_backend.specs.CommitStates.{kept, uncommitted as uncommitted_in};
 ghost use Rattle.am_backend.specs.Stores.{IsKept};
 
 use super::counting::{count_broken, count_where_done};
@@ -38,8 +38,10 @@ fn fault_of(broken: Broken, is_over: bool) -> Option<Fault> {
 }
 
 impl<U: Backend> Handler for Server<'_, U> {
+    ghost uncommitted = { λ server. uncommitted_in (U.store_of server.state.backend).commit_state };
+
     // (this says nothing about the bytes, only that all that came before them was committed)
-    ghost offers = { λ server peer bytes server'. uncommitted (U.store_of server.state.backend).commit_state ≡ false };
+    ghost offers = { λ server peer bytes server'. uncommitted_in (U.store_of server.state.backend).commit_state ≡ false };
 
     fn begin(&mut self, entrance: Entrance) -> ConnectionState {
         self.state.backend.figures().begin();
@@ -92,9 +94,7 @@ impl<U: Backend> Handler for Server<'_, U> {
         self.state.resume(instance, connection);
     }
 
-    fn has_uncommitted(&self) -> bool
-        ensures { result ≡ uncommitted (U.store_of self.now.state.backend).commit_state }
-    {
+    fn has_uncommitted(&self) -> bool {
         self.state.backend.commit_state().has_changes()
     }
 
@@ -105,6 +105,7 @@ impl<U: Backend> Handler for Server<'_, U> {
     }
 
     fn release(&mut self, connection: &mut ConnectionState)
+        ensures same { self.new ≡ self.old }
         ensures lasts { Lasts (talk_of connection.old) (talk_of connection.new) }
         // PROMISE: A reply that says that something changed goes out after a commit only if the commit has kept everything, and otherwise a line with status 500 does.
         ensures kept { IsReleased (kept (U.store_of self.old.state.backend).commit_state) connection.old.work (talk_of connection.new).saying }

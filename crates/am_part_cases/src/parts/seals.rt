@@ -4,7 +4,7 @@ use crate::common::{Case, CaseFault, cut};
 use crate::parts::frames::print_frame;
 use crate::parts::requests;
 use am_peer_auth::{
-    CHALLENGE, Lock, Opened, SealError, Sequence, Waiting, hmac_sha256, open_piece, sum_of,
+    CHALLENGE, Lock, Opened, Origin, SealError, Sequence, Waiting, hmac_sha256, open_piece, sum_of,
 };
 
 /// Answers cases of seals: `hmac KEY | MESSAGE`, `seal SECRET | CHALLENGE | NUMBER | SENDER | ADDRESSEE | TEXT`, and `unseal
@@ -68,14 +68,12 @@ fn unseal(case: &Case, rest: &str) {
     let mut waiting = Waiting::new(case.alloc);
     for piece in pieces.split('|') {
         let piece = case.bytes(piece.trim());
-        let opened = open_piece(
-            case.alloc,
+        let origin = Origin {
             lock,
-            sender.trim(),
+            sender: sender.trim(),
             place,
-            &mut waiting,
-            piece.as_slice(),
-        );
+        };
+        let opened = open_piece(case.alloc, origin, &mut waiting, piece.as_slice());
         say_opened(case, &opened, waiting.len());
         place = opened.next;
     }

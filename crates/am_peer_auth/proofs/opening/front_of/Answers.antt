@@ -7,13 +7,13 @@ pub returns-in-Ok : goal.returns-in-Ok
 returns-in-Ok c =
     let one = c.in-Some-split_first_chunk.ensures.cases in
     let two = c.in-Some-split_first_chunk-2.ensures.cases in
-    taken_there _ _ _ _ _ _ one.0 one.1 one.2 two.0 two.1 two.2 c.from_be_bytes-size.ensures c.args.lock c.args.sender.now c.args.place c.in-Some.next c.in-Ok.frame (omega arith) (omega arith) c.in-Ok.ensures.right c.in-Ok.ensures.frame c.in-Some.ensures.next
+    taken_there _ _ _ _ _ _ one.0 one.1 one.2 two.0 two.1 two.2 c.from_be_bytes-size.ensures c.args.origin.lock c.args.origin.sender.now c.args.origin.place c.in-Some.next c.in-Ok.frame (omega arith) (omega arith) c.in-Ok.ensures.right c.in-Ok.ensures.frame c.in-Some.ensures.next
 
 pub returns-in-Err : goal.returns-in-Err
 returns-in-Err c =
     let one = c.in-Some-split_first_chunk.ensures.cases in
     let two = c.in-Some-split_first_chunk-2.ensures.cases in
-    refused_there _ _ _ _ _ _ one.0 one.1 one.2 two.0 two.1 two.2 c.from_be_bytes-size.ensures c.args.lock c.args.sender.now c.args.place c.in-Err.error (omega arith) (omega arith) c.in-Err.ensures.refused
+    refused_there _ _ _ _ _ _ one.0 one.1 one.2 two.0 two.1 two.2 c.from_be_bytes-size.ensures c.args.origin.lock c.args.origin.sender.now c.args.origin.place c.in-Err.error (omega arith) (omega arith) c.in-Err.ensures.refused
 
 pub returns-then-size-gt-MOST_TEXT : goal.returns-then-size-gt-MOST_TEXT
 returns-then-size-gt-MOST_TEXT c =

@@ -7,8 +7,11 @@ returns-in-Ok-Going-Idle-clause-moved g c = inr (inl (c.is_open.ensures.open (cc
 pub returns-in-Ok-Going-Busy-clause-moved : goal.returns-in-Ok-Going-Busy-clause-moved
 returns-in-Ok-Going-Busy-clause-moved g c = inr (inl (c.is_open.ensures.open (cc), record { mid = c.advance.new.self; open_ = c.advance.ensures.open; went = c.advance.ensures.out; next = inl (refl, refl, c.in-Ok-Going-Busy.ensures.heard) }))
 
-pub returns-in-Ok-Done-clause-moved : goal.returns-in-Ok-Done-clause-moved
-returns-in-Ok-Done-clause-moved g c = inr (inl (
+pub returns-then-has_uncommitted-clause-moved : goal.returns-then-has_uncommitted-clause-moved
+returns-then-has_uncommitted-clause-moved g c = inr (inl (c.is_open.ensures.open (cc), record { mid = c.advance.new.self; open_ = c.advance.ensures.open; went = c.advance.ensures.out; next = inl (refl, refl, c.in-Ok-Done.ensures.heard) }))
+
+pub returns-else-has_uncommitted-clause-moved : goal.returns-else-has_uncommitted-clause-moved
+returns-else-has_uncommitted-clause-moved g c = inr (inl (
   c.is_open.ensures.open (cc),
   record {
     mid = c.advance.new.self;

@@ -1,11 +1,5 @@
-use Rattle.std.proofs.Common.{refl}
-use Rattle.am_reactor.proofs.Peering.{loops_act, loops_apart, loops_same}
+use Rattle.am_reactor.proofs.Histories.{acts_once}
 use Rattle.am_reactor.proofs.turn.commit.Goals as goal
 
-pub loop-init : goal.loop-init
-loop-init g c = loops_act _ _ _ _ _ _ _ _ _ _ _ _ _ _ _ _ c.commit.ensures
-
-pub loop-preserved : goal.loop-preserved
-loop-preserved g c first begun loops =
-    c.visit.ensures first begun (loops_apart _ _ _ _ _ _ _ _ _ _ _ _ _ _ _ _ _ c.release.ensures.led first begun
-    (loops_same _ _ _ _ _ _ _ _ _ _ _ _ _ _ _ _ _ _ c.pop_held_back.ensures refl refl first begun (c.loop.invariant first begun loops)))
+pub returns-then-has_uncommitted-clause-acted : goal.returns-then-has_uncommitted-clause-acted
+returns-then-has_uncommitted-clause-acted g c = acts_once _ _ _ c.commit.ensures.acted

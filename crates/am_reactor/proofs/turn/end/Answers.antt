@@ -5,4 +5,4 @@ pub returns : goal.returns
 returns g c first begun loops =
     c.resume.ensures first begun (loops_over _ _ _ _ _ _ _ _ _ _ _ _ _ _ _ _ _ c.expire-3.ensures first begun
     (loops_moves _ _ _ _ _ _ _ _ _ _ _ _ _ _ _ _ _ c.expire-2.ensures first begun (loops_apart _ _ _ _ _ _ _ _ _ _ _ _ _ _ _ _ _ c.expire.ensures first begun
-    (c.hurry_all.ensures first begun (c.take_up_due.ensures first begun loops)))))
+    (c.abandon_late_waits.ensures first begun (c.take_up_due.ensures first begun loops)))))

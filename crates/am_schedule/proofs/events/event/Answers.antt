@@ -23,11 +23,3 @@ pub returns-in_err-group-in-Decide : goal.returns-in_err-group-in-Decide
 returns-in_err-group-in-Decide c =
     let p = err_from_is_err_and c.from_residual-in_err-group-in-Decide.result c.from_residual-in_err-group-in-Decide.ensures.1 in
     rw (c.in-Decide.is, event_by, p.1, p.2) (λ other. rw (c.in_err-group-in-Decide.ensures other) refl)
-
-pub returns-in_ok-resolved_wanted-in-Decide : goal.returns-in_ok-resolved_wanted-in-Decide
-returns-in_ok-resolved_wanted-in-Decide c = rw (c.in-Decide.is, event_by, c.in_ok-group-in-Decide.ensures, ← c.in_ok-resolved_wanted-in-Decide.ensures) refl
-
-pub returns-in_err-resolved_wanted-in-Decide : goal.returns-in_err-resolved_wanted-in-Decide
-returns-in_err-resolved_wanted-in-Decide c =
-    let p = err_from_is_err_and c.from_residual-in_err-resolved_wanted-in-Decide.result c.from_residual-in_err-resolved_wanted-in-Decide.ensures.1 in
-    rw (c.in-Decide.is, event_by, p.1, p.2) (λ other. rw (c.in_ok-group-in-Decide.ensures, ← c.in_err-resolved_wanted-in-Decide.ensures) refl)

@@ -6,7 +6,7 @@ use Rattle.am_merge.specs.Stores.{IsBucketIndex}
 use Rattle.am_merge.proofs.Keys.{key_order as order_of_keys}
 use Rattle.am_merge.proofs.Totals.{number_total, place_total}
 use Rattle.am_merge.proofs.Filed.{buckets_filed}
-use Rattle.am_merge.proofs.bulk.file_buckets.Goals as goal
+use Rattle.am_merge.proofs.bulk.build_buckets.Goals as goal
 
 pub sort-requires : goal.sort-requires
 sort-requires g c = number_total

@@ -3,7 +3,7 @@ use Rattle.am_merge.specs.declared.bulk.Listing.{Listing}
 use Rattle.am_merge.specs.declared.entry.BucketEntry.{BucketEntry}
 use Rattle.am_merge.specs.Buckets.{bucket_entry}
 use Rattle.am_merge.proofs.Listings.{changes_vacant, listing_moved, listing_put, listing_versions, slots_kept, versions_moved}
-use Rattle.am_merge.proofs.bulk.lay.Goals as goal
+use Rattle.am_merge.proofs.bulk.push.Goals as goal
 
 pub returns-in_err-push-clause-listing : goal.returns-in_err-push-clause-listing
 returns-in_err-push-clause-listing g c =
@@ -24,8 +24,8 @@ returns-clause-listing g c =
     c.in_ok-push.ensures.items ∙ ap (λ (e : BucketEntry). old.entries.items ++ e ∷ []) c.entry_of-entry.ensures in
     listing_put g.V.Version.seen g.V.Version.head_of g.V.Version.bucket_of roomy new slot v listing c.vacant_key.ensures.vacant changes more c.insert_reserved.ensures.len
 
-pub returns-clause-laid : goal.returns-clause-laid
-returns-clause-laid g c =
+pub returns-clause-pushed : goal.returns-clause-pushed
+returns-clause-pushed g c =
     let old = c.args.listing.now in
     let roomy : Listing g.row.V.Denot = record old { table = c.reserve.new.self } in
     let new : Listing g.row.V.Denot = record { table = c.insert_reserved.new.self; entries = c.push.new.self } in

@@ -4,7 +4,7 @@ use Rattle.slab.specs.Slab.{get}
 use Rattle.am_merge.specs.Stores.{IsExpiryIndex}
 use Rattle.am_merge.proofs.Totals.{time_total}
 use Rattle.am_merge.proofs.Filed.{expiries_filed}
-use Rattle.am_merge.proofs.bulk.file_expiries.Goals as goal
+use Rattle.am_merge.proofs.bulk.build_expiries.Goals as goal
 
 pub sort-requires : goal.sort-requires
 sort-requires g c = time_total

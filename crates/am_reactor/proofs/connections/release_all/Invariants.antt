@@ -1,0 +1,8 @@
+use Rattle.std.proofs.Common.{◌≡◌, false}
+use Rattle.am_reactor.specs.History.{LeadsOn, lines}
+use Rattle.am_reactor.proofs.connections.release_all.Given as goal
+
+abbrev pub invariant-loop : goal.invariant-loop
+invariant-loop g l = (g.S.Service.uncommitted l.service ≡ false)
+    × LeadsOn g.S.Service.does g.S.Service.begins g.S.Service.acts g.S.Service.pending g.C.Stream.arrived g.C.Stream.gone
+    l.fn.service (lines l.fn.connections.table) l.service (lines l.connections.table)
