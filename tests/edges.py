@@ -1012,11 +1012,11 @@ def test_all_patterns(folder):
     member = alone("p", folder, ["--time-limit", str(PATIENCE), "--retention", "3600"])
     taken, _, longest = meanwhile(member, lambda: put_until_full(member))
     check("some are taken", 8 <= len(taken) <= 60, len(taken))
-    check("nobody waits for long beside posts", longest < 0.5, longest)
+    check("nobody waits for long beside posts", longest < 1, longest)
     found, took, longest = meanwhile(member, lambda: decided_on(member, 30))
     compare("a decision over all", found, (200, "First"))
-    check("is made soon", took < 2, took)
-    check("nobody waits for long beside it", longest < 0.5, longest)
+    check("is made soon", took < 5, took)
+    check("nobody waits for long beside it", longest < 1, longest)
     compare("another post", put_large(member, "x"), TOO_MANY)
     compare("one with a pattern that is there", put_large(member, 0)[0], 200)
     compare("one in the place of another", put_large(member, 1, id=taken[1], comment="again")[0], 200)
@@ -1031,7 +1031,7 @@ def test_all_patterns(folder):
     member = alone("p", folder, ["--time-limit", str(PATIENCE), "--retention", "3600"])
     (found, took, longest) = meanwhile(member, lambda: put_large(member, "x"))
     compare("a post after a start", found, TOO_MANY)
-    check("nobody waits for long beside it", longest < 0.5, longest)
+    check("nobody waits for long beside it", longest < 1, longest)
     compare("the stop", (member.stop(), member.lines[1:]), (0, []))
 
 
