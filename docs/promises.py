@@ -108,7 +108,7 @@ TAIL = """## Only tested
 You have to trust the toolchain, the C library, the statements of the kit's crates and the disk. You also have to trust that nobody can make an HMAC without its key, or foresee the system's random bytes. Nobody promises that there is enough memory, or that a frame arrives. No contract says
 
 - that `Memory` is answered only if an allocation was refused, and `Read` only if a read failed;
-- which patterns `regex` finds too big, so that `hazard_of` may call any pattern refused; or which ones are compiled before a step; which searches are too long for a decision or a list (`Deciding::longest_value`, `ReplyBuilder::is_too_dear`; tests/turns.py, tests/edges.py);
+- which patterns `regex` finds too big, so that `hazard_of` may call any pattern refused; or which ones are compiled before a step; that a post's patterns are kept, or that one for whose patterns there is no room is refused (`keep_in` says only that none is refused while they fit; tests/edges.py); which searches are too long for a decision or a list (`Deciding::longest_value`, `ReplyBuilder::is_too_dear`; tests/turns.py, tests/edges.py);
 - that a pattern of RE2 and its translation match the same texts (cases/re2.txt, recorded from Go);
 - that the frames of a connection's pieces are those of all its bytes together: `connection` says it piece by piece;
 - that an unfinished head of over 64 fields is refused at once;
