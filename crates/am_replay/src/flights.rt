@@ -1,31 +1,24 @@
 //! Frames in flight.
 
-ghost use Rattle.std.specs.Prelude.{◌≡◌, ◌++◌, [], OnOk, slice_get, string_bytes, unwrap_or};
+ghost use Rattle.std.specs.Prelude.{◌≡◌, ◌++◌, OnOk, string_bytes};
 ghost use Rattle.std.specs.List.{flat_map};
 ghost use Rattle.am_replay.specs.Texts.{flight_text, name_at};
 
 use crate::line::OutputLine;
 use crate::output::tell;
 use am_cluster::{Cluster, Flight};
-use am_instance::{Config, Place};
+use am_instance::Place;
 use std::alloc::AllocError;
-
-/// Returns the name of the member at a place in a configuration. There must be such a member.
-fn name_in(config: &Config, place: Place) -> &str
-    ensures { result.now ≡ unwrap_or (slice_get config.now.members place) [] }
-{
-    match config.members().get(place as usize) {
-        Some(name) => name.as_str(),
-        None => "",
-    }
-}
 
 /// Returns the name of the member at a place. There must be such a member.
 fn name_at(cluster: &Cluster, place: Place) -> &str
     ensures { result.now ≡ name_at cluster.now place }
 {
-    match cluster.instance(0) {
-        Some(instance) => name_in(instance.config(), place),
+    let Some(instance) = cluster.instance(0) else {
+        return "";
+    };
+    match instance.config().members().get(place as usize) {
+        Some(name) => name.as_str(),
         None => "",
     }
 }

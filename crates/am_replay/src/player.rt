@@ -1,24 +1,21 @@
 //! The player of schedules.
 
 ghost use Rattle.std.specs.Prelude.{◌≡◌, ◌++◌, ℕ, [], IfOk, IfErr, OnOk, string_bytes};
-ghost use Rattle.std.specs.Option.{option_copied};
 ghost use Rattle.am_cluster.specs.Beginnings.{AreNewborn};
 ghost use Rattle.am_schedule.specs.declared.step.Line.TheVariants as kinds;
 ghost use Rattle.am_replay.specs.declared.error.ReplayError.TheVariants.{Memory};
-ghost use Rattle.am_replay.specs.declared.refusal.Refusal.TheVariants as refusals;
 ghost use Rattle.am_replay.specs.Lines.{Plays};
 ghost use Rattle.am_replay.specs.Playing.{IsOutput, PlaysAll, Reaches, StopsPlaying};
-ghost use Rattle.am_replay.specs.Texts.{Prints, settle_refusal, settle_text};
 
 use crate::error::ReplayError;
 use crate::flights::tell_flights;
 use crate::line::OutputLine;
 use crate::observer::{LineAnswer, Observer};
 use crate::output::{tell, tell_refusal};
-use crate::refusal::Refusal;
-use crate::replies::{tell_answer, tell_refused};
+use crate::refusal::{settle_refusal, step_refusal};
+use crate::replies::{owner_of, tell_answer};
 use crate::reports::tell_reports;
-use am_cluster::{Cluster, SettleError};
+use am_cluster::Cluster;
 use am_schedule::{Line, Schedule, Step, Word};
 use am_version_order::Moment;
 use am_wire::Text;
@@ -38,38 +35,7 @@ fn play_step(
             tell_answer(out, step.action(), &reply)?;
             Ok(LineAnswer::of_reply(&reply))
         }
-        Err(error) => tell_refused(out, step.action(), error),
-    }
-}
-
-/// Returns the kind of a settle's refusal, or `None` if memory ran out.
-fn refusal_of(error: SettleError) -> Option<Refusal>
-    ensures { result ≡ settle_refusal error }
-{
-    match error {
-        SettleError::Stopped => Some(Refusal::Stopped),
-        SettleError::MomentBack => Some(Refusal::MomentBack),
-        SettleError::Memory => None,
-    }
-}
-
-/// Appends the output of a settle.
-///
-/// # Errors
-///
-/// [`AllocError`], also if the settle was refused because memory ran out.
-fn tell_settled(
-    out: &mut String,
-    settled: Result<(), SettleError>,
-) -> Result<LineAnswer, AllocError>
-    ensures { OnOk result (Prints (settle_text settled) (string_bytes out.old) (string_bytes out.new)) }
-{
-    match settled {
-        Ok(()) => {
-            tell(out, &OutputLine::Settled)?;
-            Ok(LineAnswer::Nothing)
-        }
-        Err(error) => tell_refusal(out, None, refusal_of(error)),
+        Err(error) => tell_refusal(out, owner_of(step.action()), step_refusal(error)),
     }
 }
 
@@ -82,8 +48,13 @@ fn play_settle(
 ) -> Result<LineAnswer, AllocError>
     ensures { OnOk result (Plays cluster.old (kinds.Settle now) number cluster.new (string_bytes out.old) (string_bytes out.new)) }
 {
-    let settled = cluster.settle(now, number);
-    tell_settled(out, settled)
+    match cluster.settle(now, number) {
+        Ok(()) => {
+            tell(out, &OutputLine::Settled)?;
+            Ok(LineAnswer::Nothing)
+        }
+        Err(error) => tell_refusal(out, None, settle_refusal(error)),
+    }
 }
 
 /// Plays a line, and appends its output.

@@ -1,5 +1,9 @@
 //! The reasons why a step of a schedule is refused.
 
+ghost use Rattle.std.specs.Prelude.{◌≡◌};
+ghost use Rattle.am_replay.specs.Texts.{settle_refusal, step_refusal};
+
+use am_cluster::{ClusterError, SettleError};
 use am_silence::SilenceError;
 
 /// The kind of a refusal.
@@ -31,7 +35,6 @@ pub enum Refusal {
 }
 
 impl From<SilenceError> for Refusal {
-    ghost use Rattle.std.specs.Prelude.{◌≡◌};
     ghost use Rattle.am_replay.specs.Refusals.{kind_of};
 
     ghost from_gives = { λ error refusal. refusal ≡ kind_of error };
@@ -51,5 +54,30 @@ impl From<SilenceError> for Refusal {
             SilenceError::TooLarge => Refusal::TooLarge,
             SilenceError::Memory => Refusal::Memory,
         }
+    }
+}
+
+/// Returns the kind of a step's refusal, or `None` if memory ran out.
+pub fn step_refusal(error: ClusterError) -> Option<Refusal>
+    ensures { result ≡ step_refusal error }
+{
+    match error {
+        ClusterError::NoFrame => Some(Refusal::NoFrame),
+        ClusterError::Running => Some(Refusal::Running),
+        ClusterError::Stopped => Some(Refusal::Stopped),
+        ClusterError::MomentBack { .. } => Some(Refusal::MomentBack),
+        ClusterError::UnknownPeer => Some(Refusal::UnknownPeer),
+        ClusterError::Memory => None,
+    }
+}
+
+/// Returns the kind of a settle's refusal, or `None` if memory ran out.
+pub fn settle_refusal(error: SettleError) -> Option<Refusal>
+    ensures { result ≡ settle_refusal error }
+{
+    match error {
+        SettleError::Stopped => Some(Refusal::Stopped),
+        SettleError::MomentBack => Some(Refusal::MomentBack),
+        SettleError::Memory => None,
     }
 }

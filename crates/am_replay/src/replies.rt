@@ -2,16 +2,12 @@
 
 ghost use Rattle.std.specs.Prelude.{◌≡◌, ◌++◌, OnOk, string_bytes};
 ghost use Rattle.std.specs.Option.{option_copied};
-ghost use Rattle.am_replay.specs.Texts.{Prints, answer_text, ended_text, muted_text, owner_of, refused_text};
-ghost use Rattle.am_replay.specs.Texts.{reply_text, step_refusal};
+ghost use Rattle.am_replay.specs.Texts.{answer_text, ended_text, owner_of, reply_text};
 
 use crate::line::OutputLine;
-use crate::observer::LineAnswer;
-use crate::output::{tell, tell_refusal};
+use crate::output::tell;
 use crate::refusal::Refusal;
-use am_cluster::ClusterError;
 use am_instance::Reply;
-use am_matcher::Mutes;
 use am_report::append_shown;
 use am_schedule::{Action, LineEvent};
 use std::alloc::AllocError;
@@ -33,19 +29,6 @@ fn tell_ended(out: &mut String, name: &str, event: &LineEvent) -> Result<(), All
     }
 }
 
-/// Appends the silences that mute a label set, and those that are broken.
-#[tactic(auto, unfolding(crate::specs::Printed::line_text))]
-fn tell_mutes(out: &mut String, name: &str, mutes: &Mutes) -> Result<(), AllocError>
-    ensures { OnOk result (string_bytes out.new ≡ string_bytes out.old ++ muted_text name.now mutes.now) }
-{
-    let line = OutputLine::Muted {
-        name,
-        ids: mutes.ids.as_slice(),
-        broken: mutes.broken.as_slice(),
-    };
-    tell(out, &line)
-}
-
 /// Appends the output for the reply to an event, by the member with this name.
 #[tactic(auto, unfolding(crate::specs::Printed::line_text))]
 fn tell_reply(
@@ -56,40 +39,33 @@ fn tell_reply(
 ) -> Result<(), AllocError>
     ensures { OnOk result (string_bytes out.new ≡ string_bytes out.old ++ reply_text name.now event.now reply.now) }
 {
-    match reply {
-        Reply::Posted(id) => tell(
-            out,
-            &OutputLine::Posted {
-                name,
-                id: id.as_str(),
-            },
-        ),
-        Reply::Deleted => tell_ended(out, name, event),
-        Reply::Refused(error) => tell(
-            out,
-            &OutputLine::Refused {
-                name: Some(name),
-                refusal: Refusal::from(*error),
-            },
-        ),
-        Reply::Logged(changed) => tell(
-            out,
-            &OutputLine::Logged {
-                name,
-                changed: *changed,
-            },
-        ),
-        Reply::Decided(decision) => tell(
-            out,
-            &OutputLine::Decided {
-                name,
-                decision: *decision,
-            },
-        ),
-        Reply::Muted(mutes) => tell_mutes(out, name, mutes),
-        Reply::Shown { silences, log } => append_shown(out, silences, log, Some(name)),
-        Reply::Silences(_) | Reply::Silence(..) | Reply::Nothing => Ok(()),
-    }
+    let line = match reply {
+        Reply::Posted(id) => OutputLine::Posted {
+            name,
+            id: id.as_str(),
+        },
+        Reply::Deleted => return tell_ended(out, name, event),
+        Reply::Refused(error) => OutputLine::Refused {
+            name: Some(name),
+            refusal: Refusal::from(*error),
+        },
+        Reply::Logged(changed) => OutputLine::Logged {
+            name,
+            changed: *changed,
+        },
+        Reply::Decided(decision) => OutputLine::Decided {
+            name,
+            decision: *decision,
+        },
+        Reply::Muted(mutes) => OutputLine::Muted {
+            name,
+            ids: mutes.ids.as_slice(),
+            broken: mutes.broken.as_slice(),
+        },
+        Reply::Shown { silences, log } => return append_shown(out, silences, log, Some(name)),
+        Reply::Silences(_) | Reply::Silence(..) | Reply::Nothing => return Ok(()),
+    };
+    tell(out, &line)
 }
 
 /// Appends the output of a step that was answered.
@@ -104,7 +80,7 @@ pub fn tell_answer(out: &mut String, action: &Action, reply: &Reply) -> Result<(
 }
 
 /// Returns the name of the member that a step names.
-fn owner_of(action: &Action) -> Option<&str>
+pub fn owner_of(action: &Action) -> Option<&str>
     ensures { option_copied result ≡ owner_of action.now }
 {
     match action {
@@ -113,33 +89,4 @@ fn owner_of(action: &Action) -> Option<&str>
         }
         Action::Deliver { .. } | Action::Lose { .. } => None,
     }
-}
-
-/// Returns the kind of a refusal, or `None` if memory ran out.
-fn refusal_of(error: ClusterError) -> Option<Refusal>
-    ensures { result ≡ step_refusal error }
-{
-    match error {
-        ClusterError::NoFrame => Some(Refusal::NoFrame),
-        ClusterError::Running => Some(Refusal::Running),
-        ClusterError::Stopped => Some(Refusal::Stopped),
-        ClusterError::MomentBack { .. } => Some(Refusal::MomentBack),
-        ClusterError::UnknownPeer => Some(Refusal::UnknownPeer),
-        ClusterError::Memory => None,
-    }
-}
-
-/// Appends that a step was refused, and returns that answer.
-///
-/// # Errors
-///
-/// [`AllocError`], also if the step was refused because memory ran out.
-pub fn tell_refused(
-    out: &mut String,
-    action: &Action,
-    error: ClusterError,
-) -> Result<LineAnswer, AllocError>
-    ensures { OnOk result (Prints (refused_text (owner_of action.now) (step_refusal error)) (string_bytes out.old) (string_bytes out.new)) }
-{
-    tell_refusal(out, owner_of(action), refusal_of(error))
 }
