@@ -47,6 +47,7 @@ ANCHORS = {
     "load": ("am_snapshot::what_is_saved_is_loaded", "loaded"),
     "log": ("am_store::Journal::commit", "acknowledged"),
     "save": ("am_store::a_crash_leaves_the_old_file_or_the_new_one", "saved"),
+    "anew": ("am_store::a_crash_leaves_the_old_file_or_the_one_written_anew", "rewritten"),
     "life": ("am_daemon::live", "lived"),
     "kept": ("am_daemon::Server::release", "kept"),
     "commits": ("am_reactor::Service::release", "committed"),
@@ -79,23 +80,23 @@ A silence that is posted to a member meets these clauses, in this order. `am_dae
 1. `am_instance::Instance::step`: which frames the step sends to which peers, in order.
 2. `am_backend::Backend::follow`, queued: they wait behind those that waited, or are counted as not sent.
 3. `am_backend::Backend::next_frames`, taken: all that wait for a peer are taken out, in order, each once. `am_backend::Backend::text_of`, text: their bytes are the text of just these, sealed if members have a secret (`am_peer_auth::sealed_text`).
-4. `am_reactor::Service::outgoing`, committed: nothing is given for a peer before it is committed.
+4. `am_reactor::Service::outgoing`, committed: nothing is given for a peer before it is committed. `am_daemon::Server::outgoing`, offered: just the text of the frames that are taken out for a peer is given for that peer; or, where members have a secret, these are put by for it, behind those before, and a link is opened; rested: nothing is given only once no frame waits. `am_daemon::Server::more`: behind the peer's challenge goes the text of just the frames that were put by for it, or of a part of all that is held.
 5. `am_reactor::run`, peered: just what is given for a peer leaves over the link to it, in order, each byte once, or is told lost.
 6. At the other end a frame is fed, passes and is heard as a request is (steps 1 to 3 above; `am_gossip::Feeder::feed`), and is one step (step 5), of the place of its sender.
 
-That each step's frames are handed to `follow`, each step's reply to `reply`, and what `text_of` makes to the link of that peer, no clause says: one reads it in am_daemon.
+That each step's frames are handed to `follow`, and each step's reply to `reply`, no clause says, nor which part of all that is held is next, and that frames are dropped only where too many bytes are put by or memory ran out: one reads it in am_daemon. The loop's clauses have what is given for a peer, but not when nothing is: rested is one of the handler's call.
 """
 
 TAIL = """## Only tested
 
 - **That definitions mean what people want**: [cases/](CASES.md), worked out by hand.
 - **That the loop** is fair, keeps deadlines, closes the right connection, hands on an answer once the peer ends, and counts unfinished bytes, and that replies come: tests/upkeep.py, tests/edges.py. Members under faults of network, process and disk: tests/chaos.py.
-- **That with `--log`** what a save puts into a file is what the logs lack, and that a start reads both logs, so that members with logs are durable: tests/disk.py.
+- **That with `--log`** a new log stands before a file is written anew, that what is appended to it between the stretches, which is another file, changes nothing there (the laws speak of the calls of the rewriting alone), that a rewriting stops where the old log can't be removed, that what is put into a file is what the logs lack, and that a start reads both logs, so that members with logs are durable: tests/disk.py.
 - **A member's turns, figures, readiness and first pull**, that a decision is broken off at its limit and not before, and that it gives each step the right moment: tests/turns.py, tests/operations.py, tests/three_members.py, tests/machines.py.
 - **That pages go out**, and only once if nothing fails: tests/pages.py; with real Alertmanagers, if one is installed, tests/real_shims.py.
 - **Command lines, what is read from a path, a server or logs, the counts of `diff --prometheus`, what `mend` does in turn, pictures' layout, the page for people**: tests/command_line.py, live_sources.py, log_sources.py, gossip.py, pictures.py, page.py (with chromium).
 - **Secrets, Alertmanagers, and pages about a member**: tests/machines.py, tests/gossip.py, tests/beside.py. They see
-  - that a member uses its secret, gives each connection a random challenge of its own, and seals by the one that it was given; that what is sealed can be opened; that each listener hears what it should;
+  - that a member uses its secret, and gives each connection a random challenge of its own; that what is sealed can be opened; that each listener hears what it should;
   - that a member beside Alertmanagers asks them and sends to them, and answers `notify:true` only when each has been asked since the question;
   - that `push` and `mend` send the rows that they made of what they read;
   - that a page about the member, and the list of the recent alerts, is the one that was asked for.
@@ -108,7 +109,7 @@ TAIL = """## Only tested
 You have to trust the toolchain, the C library, the statements of the kit's crates and the disk. You also have to trust that nobody can make an HMAC without its key, or foresee the system's random bytes. Nobody promises that there is enough memory, or that a frame arrives. No contract says
 
 - that `Memory` is answered only if an allocation was refused, and `Read` only if a read failed;
-- which patterns `regex` finds too big, so that `hazard_of` may call any pattern refused; or which ones are compiled before a step; that a post's patterns are kept, or that one for whose patterns there is no room is refused (`keep_in` says only that none is refused while they fit; tests/edges.py); which searches are too long for a decision or a list (`Deciding::longest_value`, `ReplyBuilder::is_too_dear`; tests/turns.py, tests/edges.py);
+- which patterns `regex` finds too big, so that `hazard_of` may call any pattern refused; or which ones are compiled before a step; that a post's patterns are kept, or that one for whose patterns there is no room is refused (`keep_in` says only that none is refused while they fit; tests/edges.py); which searches are too long for a decision or a list (`Deciding::longest_value`, `PatternsAhead::steps_beyond`, `ReplyBuilder::is_too_dear`; tests/turns.py, tests/edges.py);
 - that a pattern of RE2 and its translation match the same texts (cases/re2.txt, recorded from Go);
 - that the frames of a connection's pieces are those of all its bytes together: `connection` says it piece by piece;
 - that an unfinished head of over 64 fields is refused at once;

@@ -7,7 +7,7 @@ PROGRAM is crates/am_tool/out/am_tool if it isn't given; ./am_tool and rt ci bui
 themselves, and half of them keep logs, by a draw that is made again at some starts. What one sends to a peer goes through a
 proxy, which may lose, delay, repeat, reorder and cut it; members are killed, frozen, stopped by signals and started again, and
 their disks are full at times; silent, slow and broken clients are there all along, and now and then hundreds at once, floods of
-frames of two bytes, and pages of other sites. In the end the network is healed and all members run, and then all have to show
+frames of two bytes, pages of other sites, and requests that take long, of clients that may not wait for the reply. In the end the network is healed and all members run, and then all have to show
 the same: what was acknowledged and surely held by a member that lives, or stands in its files, and nothing that nobody made.
 Then all are stopped, and their files have to hold just that.
 
@@ -38,9 +38,10 @@ import socket
 import tempfile
 import threading
 import time
+from urllib.parse import quote
 
 from lib import members
-from lib.api import NOT_KEPT, NOT_READY, REFUSALS, moment, request
+from lib.api import NOT_KEPT, NOT_READY, REFUSALS, moment, request, silence
 from lib.error_lines import FLAWS
 from lib.ledger import Ledger, now, shown, versions_of
 from lib.members import LIMITED, PATIENCE, bytes_of, free_ports, outcome, parted, received, run
@@ -94,6 +95,22 @@ OPENINGS = [
     b"\0\1a",
     b"\0\1b\1\x50\x0a",
     b"\0\1q\4\0",
+]
+
+# Requests that take long: patterns that are large, and decisions about many alerts, or about a long label. None changes anything.
+LARGE = ["(.?){8000}", *(rf"\pL{{300}}{number}" for number in range(20))]
+ALERTS = [{"status": "firing", "labels": {"job": f"job {number}", "host": "h" * 200}} for number in range(200)]
+LONG = [{"status": "firing", "labels": {"job": "ab" * 400_000}}]
+MATCHERS = [{"name": "job", "value": it, "isRegex": True, "isEqual": True} for it in LARGE]
+DEAR = [
+    *(request("GET", "/api/v2/silences?filter=" + quote(f'job=~"{it}"')) for it in ("(.?){8000}", "client.*")),
+    request("GET", "/api/v2/silences?" + "&".join("filter=" + quote(f'job=~"{it}"') for it in LARGE)),
+    request("POST", "/api/v2/silences", json.dumps({**silence("x"), "matchers": MATCHERS}).encode()),
+    *(
+        request("POST", f"/v1/decide{query}", json.dumps({"groupKey": "dear", "receiver": "team", "alerts": alerts}).encode())
+        for query in ("", "?wait=false")
+        for alerts in (ALERTS, LONG)
+    ),
 ]
 
 # The reply to a page of another site.
@@ -587,10 +604,11 @@ class Round:
                         self.ledger.taken(member, generation, data)
 
     def pester(self):
-        """Hundreds of silent clients at once, floods of frames that ask for something, and pages of other sites."""
+        """Hundreds of silent clients at once, floods of frames that ask for something, pages of other sites, and requests that take
+        long."""
         draw = random.Random(f"{self.seed} pests")
         while not self.is_over.wait(draw.uniform(0.2, 1.5)):
-            act = draw.choice([self.crowd, self.flood, self.page])
+            act = draw.choice([self.crowd, self.flood, self.page, self.dear])
             self.acts[act.__name__] += 1
             with contextlib.suppress(OSError):
                 act(draw, draw.choice(self.members))
@@ -607,6 +625,12 @@ class Round:
             stream.sendall(greeting(peer) + draw.choice([EMPTY_PUSH, TICK]) * FLOOD)
             stream.shutdown(socket.SHUT_WR)
             stream.recv(1)
+
+    def dear(self, draw, member):
+        with socket.create_connection(("127.0.0.1", member.port), timeout=TIME_LIMIT) as stream:
+            stream.sendall(draw.choice(DEAR))
+            if draw.random() < 0.5:
+                received(stream)
 
     def page(self, _, member):
         begun, post = time.monotonic(), request("POST", "/api/v2/silences", b'{"comment": "of a page"}', "pages.example")

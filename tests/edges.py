@@ -986,9 +986,20 @@ def put_until_full(member):
     return taken
 
 
-def decided_on(member, count):
-    """What comes of a question about so many alerts, none of which is muted."""
-    alerts = [{"status": "firing", "labels": {"alertname": f"a{number}"}} for number in range(count)]
+def bring_large(member, numbers):
+    """A peer brings silences with such patterns."""
+    now = int(time.time())
+    times = f"{now}..{now + 7200} updated {now} expires {now + 9000}"
+    say = lambda number: versions.silence(f"p{number} alertname=~{large(number)} {times}".replace("\\", "\\\\"))
+    row = b"".join(delimited(say(number)) for number in numbers)
+    before = len(ids(member))
+    compare("a Push", member.send(greeting("p") + frame(PUSH, part("sil", row))), b"")
+    check("is taken", eventually(lambda: len(ids(member)) == before + len(numbers)))
+
+
+def decided_on(member, count, **more):
+    """What comes of a question about so many alerts, none of which is muted, with some more labels."""
+    alerts = [{"status": "firing", "labels": {"alertname": f"a{number}", **more}} for number in range(count)]
     body = json.dumps({"groupKey": "g", "receiver": "r", "alerts": alerts}).encode()
     status, answer = member.ask("POST", "/v1/decide?wait=false", body)
     return status, json.loads(answer).get("reason")
@@ -1009,14 +1020,17 @@ def meanwhile(member, work):
 
 def test_all_patterns(folder):
     """The patterns of all silences that haven't ended are bounded where one is posted, so a decision compiles none of them anew."""
-    member = alone("p", folder, ["--time-limit", str(PATIENCE), "--retention", "3600"])
+    options = ["--time-limit", str(PATIENCE), "--retention", "3600", "--decide-limit", "600"]
+    member = with_peer("q", folder, options)
+    reply, one = took(lambda: put_large(member, 0))
+    compare("one is taken", reply[0], 200)
     taken, _, longest = meanwhile(member, lambda: put_until_full(member))
     check("some are taken", 8 <= len(taken) <= 60, len(taken))
-    check("nobody waits for long beside posts", longest < 1, longest)
-    found, took, longest = meanwhile(member, lambda: decided_on(member, 30))
+    check("nobody waits for long beside posts", longest <= ONE_TURN * one, (longest, one))
+    found, seconds, longest = meanwhile(member, lambda: decided_on(member, 30))
     compare("a decision over all", found, (200, "First"))
-    check("is made soon", took < 5, took)
-    check("nobody waits for long beside it", longest < 1, longest)
+    check("is made soon", seconds <= ONE_TURN * one, (seconds, one))
+    check("nobody waits for long beside it", longest <= ONE_TURN * one, (longest, one))
     compare("another post", put_large(member, "x"), TOO_MANY)
     compare("one with a pattern that is there", put_large(member, 0)[0], 200)
     compare("one in the place of another", put_large(member, 1, id=taken[1], comment="again")[0], 200)
@@ -1027,12 +1041,21 @@ def test_all_patterns(folder):
         compare("an end", member.ask("DELETE", f"/api/v2/silence/{it}")[0], 200)
     compare("there is room again", [put_large(member, it)[0] for it in "yz"], [200, 200])
     compare("but not for one more", put_large(member, "x"), TOO_MANY)
-    compare("the stop", (member.stop(), member.lines[1:]), (0, []))
-    member = alone("p", folder, ["--time-limit", str(PATIENCE), "--retention", "3600"])
-    (found, took, longest) = meanwhile(member, lambda: put_large(member, "x"))
+    compare("the stop", (member.stop(), faults(member)), (0, []))
+    member = with_peer("q", folder, options)
+    found, _, longest = meanwhile(member, lambda: put_large(member, "x"))
     compare("a post after a start", found, TOO_MANY)
-    check("nobody waits for long beside it", longest < 1, longest)
-    compare("the stop", (member.stop(), member.lines[1:]), (0, []))
+    check("nobody waits for long beside it", longest <= ONE_TURN * one, (longest, one))
+    for numbers, count, more, reason in [
+        (["more"], 3, {}, "First"),
+        (["most"], 1, {"long": "ab" * 450_000}, "Unjudged"),
+        (range(100, 140), 30, {}, "Unjudged"),
+    ]:
+        bring_large(member, numbers)
+        found, _, longest = meanwhile(member, lambda: decided_on(member, count, **more))
+        compare("a decision beside patterns that don't fit", found, (200, reason))
+        check("nobody waits for long beside it", longest <= ONE_TURN * one, (longest, one))
+    compare("the stop", (member.stop(), faults(member)), (0, []))
 
 
 LONG_FILTER = f"{LIST}?filter=" + quote('job=~"(.?){8000}"')

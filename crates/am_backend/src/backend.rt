@@ -208,6 +208,11 @@ pub trait Backend {
         ensures outbound { outbound self.new ≡ outbound self.old }
         ensures lock { sealed_by self.new ≡ sealed_by self.old };
 
+    /// Counts that everything has gone out that was given for the link to a peer.
+    fn count_all_out(&mut self, peer: usize)
+        ensures outbound { outbound self.new ≡ outbound self.old }
+        ensures lock { sealed_by self.new ≡ sealed_by self.old };
+
     /// Saves both states, now that nobody is served any more, be it because the listener failed. Returns the fault with which the
     /// member ends: that of the listener, or else the reason why a state isn't saved, which is told.
     fn end(&mut self, instance: &Instance, failed: Option<Fault>) -> Option<Fault>
@@ -419,6 +424,10 @@ impl<R: AllocGlobal + Clock + Eprint + Files<File = File>> Backend for SystemBac
     fn drop_frames(&mut self, peer: usize, count: usize, fault: LinkFault) {
         self.figures.heard.hand_on(peer, count as u64);
         self.figures.heard.lose(peer, cause_of(fault));
+    }
+
+    fn count_all_out(&mut self, peer: usize) {
+        self.figures.heard.all_out(peer);
     }
 
     fn end(&mut self, instance: &Instance, failed: Option<Fault>) -> Option<Fault> {

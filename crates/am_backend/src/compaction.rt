@@ -225,26 +225,26 @@ impl<R: AllocGlobal + Clock + Eprint + Files<File = File>> SystemBackend<'_, R> 
         }
     }
 
-    fn compact_silences(&mut self, instance: &Instance, left: Compaction<Text>, now: Instant)
+    fn compact_silences(&mut self, instance: &Instance, mut left: Compaction<Text>, now: Instant)
         ensures { self.new.queue ≡ self.old.queue }
     {
         let most = self.options.most_bytes;
         let held = instance.silences();
-        match compact(self.rt, &mut self.silences, left, held, most) {
-            Ok(Some(left)) => self.compacting.resume(CompactionWork::Silences(left)),
-            Ok(None) => self.count_save_done(SavedState::Silences),
+        match compact(self.rt, &mut self.silences, &mut left, held, most) {
+            Ok(true) => self.compacting.resume(CompactionWork::Silences(left)),
+            Ok(false) => self.count_save_done(SavedState::Silences),
             Err(fault) => self.fail_silences(instance.config(), fault, now),
         }
     }
 
-    fn compact_log(&mut self, instance: &Instance, left: Compaction<LogKey>, now: Instant)
+    fn compact_log(&mut self, instance: &Instance, mut left: Compaction<LogKey>, now: Instant)
         ensures { self.new.queue ≡ self.old.queue }
     {
         let most = self.options.most_bytes;
         let held = instance.log();
-        match compact(self.rt, &mut self.log, left, held, most) {
-            Ok(Some(left)) => self.compacting.resume(CompactionWork::Log(left)),
-            Ok(None) => self.count_save_done(SavedState::Log),
+        match compact(self.rt, &mut self.log, &mut left, held, most) {
+            Ok(true) => self.compacting.resume(CompactionWork::Log(left)),
+            Ok(false) => self.count_save_done(SavedState::Log),
             Err(fault) => self.fail_log(instance.config(), fault, now),
         }
     }

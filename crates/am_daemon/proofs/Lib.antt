@@ -1,4 +1,5 @@
 pub mod Answering
 pub mod Calling
 pub mod Comings
+pub mod Offers
 pub mod Resuming

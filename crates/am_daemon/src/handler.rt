@@ -1,10 +1,12 @@
 //! A member: its instance, and the handler of the loop's calls.
 
-ghost use Rattle.std.specs.Prelude.{◌≡◌, ◌↔◌, ◌⊎◌, ◌≤◌, ℕ, Bool, false, List, IfSome, IsTrue, ⊤, length};
+ghost use Rattle.std.specs.Prelude.{◌≡◌, ◌↔◌, ◌⊎◌, ◌≤◌, ℕ, Bool, false, List, Option, IfNone, IfSome, IsTrue, ⊤, length};
+ghost use Rattle.std.specs.Option.{option_map};
 ghost use Rattle.am_server.specs.Answered.{ByItself, ForPages, IsAnswered};
 ghost use Rattle.am_server.specs.Talks.{IsGivenOn, Lasts, pending_in, talk_of};
 ghost use Rattle.am_http.specs.Sessions.{SaysEnd, Spoken, name_of, over as ended_under};
 ghost use Rattle.am_server.specs.Talking.{Does, IsLetIn, IsScreened, IsTakenUp, fresh_talk};
+ghost use Rattle.am_instance.specs.Configs.{Settings};
 ghost use Rattle.am_daemon.specs.Members.{IsSameMember};
 
 use am_instance::{Config, Instance};
@@ -33,6 +35,13 @@ pub trait Handler {
 
     /// The relation between the handler before and after it gave these bytes for a peer.
     ghost offers: { Self → ℕ → List ℕ → Self → Type 0 };
+
+    /// The relation between the handler before and after it gave nothing for a peer, though all was committed.
+    ghost rests: { Self → Self → Type 0 };
+
+    /// The relation between the handler before and after it was asked for more for a peer that had answered with the first bytes,
+    /// and gave the others or none, with this configuration.
+    ghost gives: { Settings → Self → ℕ → List ℕ → Option (List ℕ) → Self → Type 0 };
 
     fn begin(&mut self, entrance: Entrance) -> ConnectionState
         ensures { talk_of result ≡ fresh_talk };
@@ -87,6 +96,7 @@ pub trait Handler {
 
     fn outgoing(&mut self, config: &Config) -> Option<PeerBytes>
         ensures offered { IfSome result (λ it. offers self.old it.peer it.bytes.items self.new) }
+        ensures rested { IfNone result (uncommitted self.old ≡ false → rests self.old self.new) }
         ensures committed { IfSome result (λ it. uncommitted self.old ≡ false) };
 
     fn question(&mut self, instance: &Instance) -> Option<PeerBytes>
@@ -95,7 +105,8 @@ pub trait Handler {
     fn answered(&mut self, peer: usize, answer: Vec<u8>);
 
     fn more(&mut self, instance: &Instance, peer: usize, answer: &[u8]) -> Option<Vec<u8>>
-        requires { uncommitted self.old ≡ false };
+        requires { uncommitted self.old ≡ false }
+        ensures { gives instance.now.config self.old peer answer.now (option_map (λ bytes. bytes.items) result) self.new };
 
     fn lost(&mut self, config: &Config, peer: usize, fault: LinkFault);
 
@@ -124,7 +135,8 @@ impl<A: Handler> Service for Member<'_, A> {
 
     ghost loses = { λ member _ _ member'. IsSameMember member member' };
 
-    ghost gives = { λ member _ _ _ member'. IsSameMember member member' };
+    ghost gives = { λ member peer answer bytes member'. IsSameMember member member'
+        × A.gives member.instance.config member.handler peer answer bytes member'.handler };
 
     ghost answers = { λ member _ _ member'. IsSameMember member member' };
 
@@ -270,7 +282,7 @@ impl<'a, A: Handler> MemberService for Member<'a, A> {
     ghost acts_alone = { λ member member' call.
         let alone = acts_alone member.instance member'.instance (call_alone (λ m. m.instance) ⟦<Member<'a, A> as Service>⟧.acts ⟦<Member<'a, A> as Service>⟧.loses ⟦<Member<'a, A> as Service>⟧.answers
         ⟦<Member<'a, A> as Service>⟧.gives ⟦<Member<'a, A> as Service>⟧.offers ⟦<Member<'a, A> as Service>⟧.asks (λ _ _ acts. acts.1) (λ _ _ _ _ same. same.1)
-        (λ _ _ _ _ same. same.1) (λ _ _ _ _ _ same. same.1) (λ _ _ _ _ offered. offered.0.1) (λ _ _ _ _ same. same.1) member member' call) in
+        (λ _ _ _ _ same. same.1) (λ _ _ _ _ _ given. given.0.1) (λ _ _ _ _ offered. offered.0.1) (λ _ _ _ _ same. same.1) member member' call) in
         record { deeds = alone.0; own = alone.1; life = alone.2 } };
 
     ghost does_for_one = { λ member connection deed member' connection' does number standings passed turns accord.

@@ -7,6 +7,7 @@ ghost use Rattle.std.specs.Prelude.{◌≡◌};
 use crate::keeping::{Keeping, keep};
 use crate::pattern_compilation::{Judged, PatternCompilation};
 use crate::pattern_set::PatternSet;
+use crate::unkept::Unkept;
 use am_instance::Instance;
 use am_matcher::{Dialect, PatternCache};
 use am_merge::Iter;
@@ -25,10 +26,6 @@ const BESIDE_TEXT: usize = 64;
 /// The number of bytes, as they are counted for what is kept, after whose compiling a stretch ends: a few simple patterns.
 const ENOUGH_BYTES: usize = 64 << 10;
 
-/// The number of bytes of silences that may come before all are looked at again. The patterns of fewer are compiled when an alert is
-/// held against them.
-const MOST_NEW_BYTES: u64 = 16 << 10;
-
 /// The stage of a pass over the silences.
 #[derive(Drop)]
 enum Pass {
@@ -36,12 +33,12 @@ enum Pass {
     Due,
     /// Those from an identifier on weren't looked at, and the others have these patterns.
     Looking(PatternSet, Text),
-    /// All were looked at. Their patterns from one on, or all of them, aren't compiled.
-    Compiling(PatternSet, Option<Text>),
-    /// All patterns are compiled.
-    Whole,
-    /// All patterns are compiled that there is room or memory for.
-    Short,
+    /// All were looked at. Their patterns from one on, or all of them, aren't compiled; of the others, there is no room for some.
+    Compiling(PatternSet, Option<Text>, Unkept),
+    /// All patterns are compiled, and there is no room for some.
+    Over(Unkept),
+    /// There was no memory to go on.
+    Failed,
 }
 
 /// The progress of compiling the patterns of the silences that an instance holds. In each pass over the silences, the patterns of those
@@ -49,8 +46,8 @@ enum Pass {
 #[derive(Drop)]
 pub struct PatternsAhead {
     pass: Pass,
-    /// The number of bytes of silences that came since the first of all silences was looked at.
-    came: u64,
+    /// True if silences came since the first of all silences was looked at.
+    has_new: bool,
 }
 
 impl PatternsAhead {
@@ -58,49 +55,56 @@ impl PatternsAhead {
     pub fn new() -> PatternsAhead {
         PatternsAhead {
             pass: Pass::Due,
-            came: 0,
+            has_new: false,
         }
     }
 
-    /// Notes that silences of at most this many bytes come. If many came, all are looked at again, once those that are left were.
-    pub fn note(&mut self, bytes: u64) {
-        self.came = self.came.saturating_add(bytes);
+    /// Notes that silences come whose patterns may not be kept. All are looked at again, once those that are left were.
+    pub fn note(&mut self) {
+        self.has_new = true;
     }
 
-    /// Returns whether there is no room or no memory for some of the patterns, as far as they were looked at.
-    pub fn is_short(&self) -> bool {
-        matches!(&self.pass, Pass::Short)
+    /// Returns the number of steps of a search that take as long as compiling, for one alert, the patterns that there is no room for
+    /// and searching for them in a text of `length` bytes, at most; or the largest number if that isn't known.
+    pub fn steps_beyond(&self, length: usize) -> usize {
+        match &self.pass {
+            Pass::Over(unkept) => unkept.steps(length),
+            _ => usize::MAX,
+        }
     }
 
     /// Compiles some of the patterns that weren't looked at yet, of silences that haven't ended at `now`, and returns whether none is
-    /// left. If no more are kept, or memory runs out, the rest are left to the steps that need them; so are the patterns that come
-    /// meanwhile, until the next call, since whoever waits would otherwise wait for as long as silences come.
+    /// left. Those that there is no room for are left to the steps that need them. If memory runs out, or the patterns are too many,
+    /// so are the rest.
     pub fn resume(&mut self, instance: &mut Instance, now: Moment) -> bool
         ensures same { instance.new ≡ instance.old }
     {
-        if self.is_over() {
-            if self.came <= MOST_NEW_BYTES {
-                return true;
-            }
-            self.pass = Pass::Due;
-        }
-        if matches!(&self.pass, Pass::Due) {
-            self.came = 0;
-        }
+        let pass = self.next_pass();
         let alloc = instance.silences().allocator();
         let mut patterns = instance.swap_patterns(PatternCache::new(alloc));
-        let pass = mem::replace(&mut self.pass, Pass::Short);
         self.pass = match go_on(alloc, &mut patterns, instance, pass, now) {
             Ok(pass) => pass,
-            Err(_) => Pass::Short,
+            Err(_) => Pass::Failed,
         };
         let _ = instance.swap_patterns(patterns);
         self.is_over()
     }
 
+    /// Takes the pass that is to go on: a new one if silences came since the last one began, or if that one failed.
+    fn next_pass(&mut self) -> Pass {
+        match mem::replace(&mut self.pass, Pass::Failed) {
+            Pass::Over(unkept) if !self.has_new => Pass::Over(unkept),
+            Pass::Due | Pass::Over(_) | Pass::Failed => {
+                self.has_new = false;
+                Pass::Due
+            }
+            under_way => under_way,
+        }
+    }
+
     /// Returns whether no pass is under way or due.
     fn is_over(&self) -> bool {
-        matches!(&self.pass, Pass::Whole | Pass::Short)
+        matches!(&self.pass, Pass::Over(_) | Pass::Failed)
     }
 
     /// Keeps the compiled patterns of a post. After a start, and if they might not fit, the patterns of silences that have ended are
@@ -156,8 +160,9 @@ fn go_on(
         Pass::Looking(found, id) => {
             look_on(alloc, patterns, found, silences.iter_from(&id), now)
         }
-        Pass::Compiling(found, next) => {
-            compile_on(alloc, patterns, instance.config().dialect(), found, next)
+        Pass::Compiling(found, next, unkept) => {
+            let dialect = instance.config().dialect();
+            compile_on(alloc, patterns, dialect, found, next, unkept)
         }
         over => Ok(over),
     }
@@ -176,7 +181,12 @@ fn look_on(
         Some(id) => Ok(Pass::Looking(found, id)),
         None => {
             found.drop_others(patterns);
-            Ok(Pass::Compiling(found, None))
+            let unkept = if found.is_too_large() {
+                Unkept::unknown()
+            } else {
+                Unkept::none()
+            };
+            Ok(Pass::Compiling(found, None, unkept))
         }
     }
 }
@@ -231,43 +241,48 @@ fn compile_on(
     dialect: Dialect,
     found: PatternSet,
     next: Option<Text>,
+    unkept: Unkept,
 ) -> Result<Pass, AllocError> {
-    match compile(alloc, patterns, dialect, found.iter_from(&next))? {
-        Reached::Next(pattern) => Ok(Pass::Compiling(found, Some(pattern))),
-        Reached::End => Ok(Pass::Whole),
-        Reached::Full => Ok(Pass::Short),
+    let mut unkept = unkept;
+    match compile(
+        alloc,
+        patterns,
+        dialect,
+        found.iter_from(&next),
+        &mut unkept,
+    )? {
+        Some(pattern) => Ok(Pass::Compiling(found, Some(pattern), unkept)),
+        None => Ok(Pass::Over(unkept)),
     }
 }
 
-/// The end of a stretch in which patterns are compiled.
-#[derive(Drop)]
-enum Reached {
-    /// The patterns from one on are left.
-    Next(Text),
-    /// None is left.
-    End,
-    /// There is no room for one.
-    Full,
-}
-
-/// Compiles patterns, which silences have, until enough were compiled or looked at.
+/// Compiles patterns, which silences have, until enough were compiled or looked at, and counts those that there is no room for.
+/// Returns the next one that is to be compiled, if there is one and not too many have been counted.
 fn compile(
     alloc: Global,
     patterns: &mut PatternCache,
     dialect: Dialect,
     silences: Iter<'_, MeshSilence>,
-) -> Result<Reached, AllocError> {
+    unkept: &mut Unkept,
+) -> Result<Option<Text>, AllocError> {
     let (mut looked, mut bytes) = (0usize, 0usize);
     for version in silences {
+        if unkept.are_too_many() {
+            break;
+        }
         if looked >= ENOUGH_LOOKED || bytes > ENOUGH_BYTES {
-            return Ok(Reached::Next(version.key().try_clone(alloc)?));
+            return Ok(Some(version.key().try_clone(alloc)?));
         }
         let pattern = version.key().as_str();
         looked = looked.saturating_add(pattern.len().saturating_add(BESIDE_TEXT));
-        match keep(patterns, dialect, pattern)? {
-            Keeping::Kept(more) => bytes = bytes.saturating_add(more),
-            Keeping::Full => return Ok(Reached::Full),
-        }
+        let compiled = match keep(patterns, dialect, pattern)? {
+            Keeping::Kept(more) => more,
+            Keeping::Full(more) => {
+                unkept.add(more);
+                more
+            }
+        };
+        bytes = bytes.saturating_add(compiled);
     }
-    Ok(Reached::End)
+    Ok(None)
 }

@@ -8,8 +8,8 @@ use std::alloc::AllocError;
 pub enum Keeping {
     /// It is kept. This many bytes were counted for it, which are 0 if it was kept before.
     Kept(usize),
-    /// There is no room for it.
-    Full,
+    /// There is no room for it. This many bytes were counted for it.
+    Full(usize),
 }
 
 /// Compiles a pattern and keeps it if there is room, unless it is kept.
@@ -21,7 +21,7 @@ pub fn keep(
     let before = patterns.size();
     let prepared = patterns.prepare_in(dialect, pattern)?;
     if prepared.bytes > 0 && patterns.size() <= before {
-        Ok(Keeping::Full)
+        Ok(Keeping::Full(prepared.bytes))
     } else {
         Ok(Keeping::Kept(prepared.bytes))
     }

@@ -11,6 +11,7 @@ mod pattern_set;
 mod sender;
 mod session_answer;
 mod steps;
+mod unkept;
 
 pub use ahead::PatternsAhead;
 pub use answering::{apply_session_output, is_list_request};

@@ -212,7 +212,7 @@ impl PatternCompilation {
         let fits = self.fits_beside(patterns);
         for pattern in &self.left {
             let keeping = keep(patterns, self.dialect, pattern.as_str())?;
-            if keeping == Keeping::Full && !fits {
+            if matches!(keeping, Keeping::Full(_)) && !fits {
                 return Ok(Judged::TooMuch);
             }
         }

@@ -27,7 +27,7 @@ one_cut (a ∷ before) (b ∷ other) name last p q e =
 uncut : (path before name : List ℕ) → HasNoSlash path → IsCut path before name → ⊥
 uncut path before name none cut = slash_inside before name (subst HasNoSlash cut.parts none)
 
-one_directory : (path a b : List ℕ) → IsDirectoryOf path a → IsDirectoryOf path b → a ≡ b
+pub one_directory : (path a b : List ℕ) → IsDirectoryOf path a → IsDirectoryOf path b → a ≡ b
 one_directory path a b (inl p) (inl q) = p.1 ∙ sym q.1
 one_directory path a b (inl p) (inr q) = absurd (uncut path q.0 q.1 p.0 q.2)
 one_directory path a b (inr p) (inl q) = absurd (uncut path p.0 p.1 q.0 p.2)
@@ -36,7 +36,7 @@ one_directory path a b (inr p) (inr q) =
     p.3 ∙ ap (λ (l : List ℕ). if length l == 0 then codes "/" else l) same ∙ sym q.3
 
 -- ---- the new file
-apart : (path : List ℕ) → path ≢ beside path
+pub apart : (path : List ℕ) → path ≢ beside path
 apart path e = omega (arith, ap length e, length-append path (codes ".new"))
 
 synced_as : (disk : Disk) (left : Remains) (bytes : List ℕ) → MayLeave disk left → disk.synced disk.created ≡ Some bytes → left.bytes disk.created ≡ bytes
@@ -66,7 +66,7 @@ right_after [] disk new left same may = subst (λ (d : Disk). MayLeave d left) s
 right_after (event ∷ calls) disk new left runs may = inr (runs.0, runs.1, right_after calls runs.0 new left runs.2 may)
 
 -- the call did its work or nothing
-removing : (name : List ℕ) (done : Bool) (disk next : Disk) → Changes (Remove name, done) disk next → MayDo (Remove name) disk next
+pub removing : (name : List ℕ) (done : Bool) (disk next : Disk) → Changes (Remove name, done) disk next → MayDo (Remove name) disk next
 removing name true disk next does = inr does
 removing name false disk next may = may
 
@@ -113,28 +113,29 @@ module _ (path row : List ℕ) where
       ∙ directory_stays (beside path) disk a (removing (beside path) stood disk a remove) in
       subst (λ (x : Disk). Keeps x path (Some row)) (sym last) (at_rest directory e f settle (one_directory path directory disk.directory other its ∙ sym stays) placed)
 
--- ---- whatever a crash leaves, Q holds of what is at the path
-module _ (path row : List ℕ) (Q : Option (List ℕ) → Type 0) where
+-- ---- whatever a crash leaves, Q holds of what is at the path, and at another one
+module _ (path row other : List ℕ) (aside : other ≢ beside path) (Q : Option (List ℕ) → Option (List ℕ) → Type 0) where
   abbrev pub Safe : Disk → Type 0
-  Safe disk = (left : Remains) → MayLeave disk left → Q (bytes_at left path)
+  Safe disk = (left : Remains) → MayLeave disk left → Q (bytes_at left path) (bytes_at left other)
 
   -- ---- what a call does
-  -- another moment, with the same at the path
-  more : (disk : Disk) (names : Names) (file : ℕ) → names path ≡ disk.names path → Safe disk → Safe (record (with_names disk names) { created = file })
-  more disk names file same safe left may = elim may.names [
+  -- another moment, with the same at both paths
+  more : (disk : Disk) (names : Names) (file : ℕ) → names path ≡ disk.names path → names other ≡ disk.names other → Safe disk → Safe (record (with_names disk names) { created = file })
+  more disk names file same there safe left may = elim may.names [
     | inl now ↦
-        subst Q (ap (λ (o : Option ℕ). option_map left.bytes o) (sym (ap (λ (n : Names). n path) now ∙ same)))
-        (safe (record { names = disk.names; bytes = left.bytes }) (record { names = inl refl; files = may.files }))
+        subst (λ (found : Option (List ℕ)). Q found (bytes_at left other)) (ap (λ (o : Option ℕ). option_map left.bytes o) (sym (ap (λ (n : Names). n path) now ∙ same)))
+        (subst (λ (found : Option (List ℕ)). Q (option_map left.bytes (disk.names path)) found) (ap (λ (o : Option ℕ). option_map left.bytes o) (sym (ap (λ (n : Names). n other) now ∙ there)))
+        (safe (record { names = disk.names; bytes = left.bytes }) (record { names = inl refl; files = may.files })))
     | inr before ↦ safe left (record { names = before; files = may.files })
   ]
 
-  removed : (disk next : Disk) → MayDo (Remove (beside path)) disk next → Safe disk → Safe next
-  removed disk next (inl same) safe = subst Safe (sym same) safe
-  removed disk next (inr does) safe = subst Safe (sym does.3) (more disk does.0 disk.created (does.2 path (apart path)) safe)
+  pub removed : (name : List ℕ) → path ≢ name → other ≢ name → (disk next : Disk) → MayDo (Remove name) disk next → Safe disk → Safe next
+  removed name a b disk next (inl same) safe = subst Safe (sym same) safe
+  removed name a b disk next (inr does) safe = subst Safe (sym does.3) (more disk does.0 disk.created (does.2 path a) (does.2 other b) safe)
 
   made : (disk next : Disk) → MayDo (Make (beside path)) disk next → Safe disk → Safe next
   made disk next (inl same) safe = subst Safe (sym same) safe
-  made disk next (inr does) safe = subst Safe (sym does.5) (more disk does.0 does.1 (does.4 path (apart path)) safe)
+  made disk next (inr does) safe = subst Safe (sym does.5) (more disk does.0 does.1 (does.4 path (apart path)) (does.4 other aside) safe)
 
   permitted : (disk next : Disk) → MayDo (Permit path) disk next → next ≡ disk
   permitted disk next (inl same) = same
@@ -145,22 +146,22 @@ module _ (path row : List ℕ) (Q : Option (List ℕ) → Type 0) where
     names = may.names;
     files = λ file. elim (cases_eq file disk.created) [
       | inl same ↦ subst (λ (o : Option (List ℕ)). IfSome o (λ b. left.bytes file ≡ b)) (sym (ap disk.synced same ∙ none)) tt
-      | inr other ↦
-          subst (λ (test : Bool). IfSome (if test then Some row else disk.synced file) (λ b. left.bytes file ≡ b)) (ne_eqb file disk.created other) (may.files file)
+      | inr unlike ↦
+          subst (λ (test : Bool). IfSome (if test then Some row else disk.synced file) (λ b. left.bytes file ≡ b)) (ne_eqb file disk.created unlike) (may.files file)
     ];
   }))
 
-  settled : (directory : List ℕ) (disk next : Disk) → Does (SyncDirectory directory) disk next → Safe disk → Safe next
+  pub settled : (directory : List ℕ) (disk next : Disk) → Does (SyncDirectory directory) disk next → Safe disk → Safe next
   settled directory disk next (inr elsewhere) safe = subst Safe (sym elsewhere.1) safe
   settled directory disk next (inl here) safe = subst Safe (sym here.1) (λ left may. safe left (record {
     names = ⊎_elim (λ now. inl now) (λ none. absurd none) may.names;
     files = may.files;
   }))
 
-  module _ (new : Q (Some row)) where
+  module _ (new : (there : Option (List ℕ)) → Q (Some row) there) where
     renamed : (disk next : Disk) → Does (Rename (beside path) path) disk next → Whole path row disk → Safe disk → Safe next
     renamed disk next does file safe = subst Safe (sym does.3) (λ left may. elim may.names [
-      | inl now ↦ subst Q (sym (at_file (with_names disk does.0) left path row may (ap (λ (n : Names). n path) now ∙ does.1 ∙ file.0) file.1)) new
+      | inl now ↦ subst (λ (found : Option (List ℕ)). Q found (bytes_at left other)) (sym (at_file (with_names disk does.0) left path row may (ap (λ (n : Names). n path) now ∙ does.1 ∙ file.0) file.1)) (new (bytes_at left other))
       | inr before ↦ safe left (record { names = before; files = may.files })
     ])
 
@@ -171,17 +172,21 @@ module _ (path row : List ℕ) (Q : Option (List ℕ) → Type 0) where
     -- ---- a crash during calls
     module _ (left : Remains) where
       abbrev Fine : Type 0
-      Fine = Q (bytes_at left path)
+      Fine = Q (bytes_at left path) (bytes_at left other)
 
       -- it comes during the first one, or later
       either : (call : Call) (done : Bool) (events : List Event) (disk : Disk) → ((next : Disk) → MayDo call disk next → Safe next)
           → ((next : Disk) → Changes (call, done) disk next → MayLeaveDuring events next left → Fine) → MayLeaveDuring ((call, done) ∷ events) disk left → Fine
       either call done events disk during later may = ⊎_elim (λ it. during it.0 it.1 left it.2) (λ it. later it.0 it.1 it.2) may
 
+      removes_at : (name : List ℕ) → path ≢ name → other ≢ name → (done : Bool) (events : List Event) (disk : Disk) → Safe disk
+          → ((next : Disk) → Safe next → MayLeaveDuring events next left → Fine) → MayLeaveDuring ((Remove name, done) ∷ events) disk left → Fine
+      removes_at name a b done events disk safe goes_on = either (Remove name) done events disk (λ next may. removed name a b disk next may safe)
+          (λ next changes. goes_on next (removed name a b disk next (removing name done disk next changes) safe))
+
       removes : (done : Bool) (events : List Event) (disk : Disk) → Safe disk → ((next : Disk) → Safe next → MayLeaveDuring events next left → Fine)
           → MayLeaveDuring ((Remove (beside path), done) ∷ events) disk left → Fine
-      removes done events disk safe goes_on = either (Remove (beside path)) done events disk (λ next may. removed disk next may safe)
-          (λ next changes. goes_on next (removed disk next (removing (beside path) done disk next changes) safe))
+      removes = removes_at (beside path) (apart path) aside
 
       ends : (disk : Disk) → Safe disk → (done : Bool) → MayLeaveDuring ((Remove (beside path), done) ∷ []) disk left → Fine
       ends disk safe done = removes done [] disk safe (λ next still. still left)
@@ -247,3 +252,11 @@ module _ (path row : List ℕ) (Q : Option (List ℕ) → Type 0) where
           either (Make (beside path)) false [] a (λ next may. made a next may safe_a) (λ next may. made a next may safe_a left))
       is_stopped (Unreplaced lack) stood done disk safe = begins stood (replacing_until lack path row ++ (Remove (beside path), done) ∷ []) disk safe (lacks lack done)
       is_stopped (Unsettled directory) stood done disk safe = begins stood (replacing path row ++ (SyncDirectory directory, false) ∷ []) disk safe (replaces directory false)
+
+      -- ---- the end of another file, at a path that isn't this one
+      pub ends_other : (name : List ℕ) → path ≢ name → other ≢ name → (done : Bool) (disk : Disk) → Safe disk → MayLeaveDuring ((Remove name, done) ∷ []) disk left → Fine
+      ends_other name a b done disk safe = removes_at name a b done [] disk safe (λ next still. still left)
+
+      pub ends_for_good : (name : List ℕ) → path ≢ name → other ≢ name → (ended : Bool) (directory : List ℕ) (done : Bool) (disk : Disk) → Safe disk
+          → MayLeaveDuring ((Remove name, ended) ∷ (SyncDirectory directory, done) ∷ []) disk left → Fine
+      ends_for_good name a b ended directory done disk safe = removes_at name a b ended ((SyncDirectory directory, done) ∷ []) disk safe (settles directory done)

@@ -7,6 +7,9 @@ mod Kept
 mod Moments
 mod ReadingLemmas
 mod Standing
+mod RewriteCrashes
+mod RewriteRows
+mod Rewrites
 mod UnsyncedSaves
 pub mod Appended
 pub mod Joining

@@ -46,6 +46,10 @@ pub record MayLeave (disk : Disk) (left : Remains) : Type 0 where
 abbrev pub Keeps : Disk → List ℕ → Option (List ℕ) → Type 0
 Keeps disk path bytes = (left : Remains) → MayLeave disk left → bytes_at left path ≡ bytes
 
+-- whatever a crash leaves, a file is at the path
+abbrev pub Stays : Disk → List ℕ → Type 0
+Stays disk path = (left : Remains) → MayLeave disk left → bytes_at left path ≢ None
+
 -- ---- what a call does
 -- other names are as they were
 abbrev pub SameBut : List ℕ → Names → Names → Type 0

@@ -2,6 +2,7 @@ pub mod Calls
 pub mod Crashes
 pub mod Faults
 pub mod Opening
+pub mod Rewrites
 pub mod Saves
 pub mod UnsyncedSaves
 pub mod Batches

@@ -1,5 +1,7 @@
 //! The files that stand beside a state's file.
 
+ghost use Rattle.std.specs.Prelude.{◌≡◌, ◌++◌, string_bytes, IfOk, IfErr};
+
 use crate::file_fault::FileFault;
 use crate::saving::directory_of;
 use crate::system::sync_directory;
@@ -26,7 +28,10 @@ pub const LOCK: &str = ".lock";
 /// # Errors
 ///
 /// [`SnapshotError::Memory`] alone.
-pub fn beside(alloc: Global, path: &str, ending: &str) -> Result<String, FileFault> {
+pub fn beside(alloc: Global, path: &str, ending: &str) -> Result<String, FileFault>
+    ensures name { IfOk result (λ name. string_bytes name ≡ path.now ++ ending.now) }
+    ensures memory { IfErr result (λ fault. fault ≡ FileFault.Snapshot SnapshotError.Memory) }
+{
     match format!(in alloc; "{path}{ending}") {
         Ok(name) => Ok(name),
         Err(_) => Err(FileFault::Snapshot(SnapshotError::Memory)),

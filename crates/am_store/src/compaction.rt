@@ -11,7 +11,7 @@
 //!    leaves F, L and M, or G, L and M. Either way the join has the last version of each key that F, L or M has, since what came
 //!    after its piece was written is in M. A version that is neither in F nor in G had expired and left the map: then, if L or M
 //!    has an older version of its key, it is there too, after that one.
-//! 3. L goes only once G's name is on the disk, so no crash leaves F without L.
+//! 3. L goes only once G's name is on the disk, so no crash leaves F without L (laws.rt has the theorem).
 //! 4. If that is undone, L is back beside G and M, as in 2, or beside the file that M became, which is renamed onto L's name
 //!    first. L is whole then: a file that has lost its name is made shorter only once the disk has the directory without that
 //!    name, and no name leads to it after that, whatever crash comes. The same holds for F.
@@ -21,194 +21,174 @@
 //!
 //! If the logs lack something, the compaction ends and G is removed: then a save of the whole state is due.
 
-use crate::beside::{NEW, beside};
-use crate::file_fault::FileFault;
-use crate::spent::opened_to_go;
-use crate::state::StateFile;
-use crate::system::new_file;
-use am_merge::{Held, Iter};
-use am_snapshot::{RowPiece, SnapshotError, row_piece};
-use am_version_order::Version;
-use std::fs::{self, File};
-use std::io::Write;
-use std::rt::Files;
+ghost use Rattle.std.specs.Prelude.{◌≡◌, ℕ, List, [], false, Ok, IfOk, IfErr, OnOk};
+ghost use Rattle.am_store.specs.declared.stages.CompactionStage.TheVariants as stages;
+ghost use Rattle.am_store.specs.Rewrites.{Advances, Follows, IsRewritten, IsUnderWay, StopsRewriting, calls_of, is_left_at, path_of, stage_of, with_piece};
 
-/// The most bytes in a stretch, unless one version alone has more.
-const MOST_OF_STRETCH: usize = 262_144;
+use crate::beside::{OLD_LOG, beside};
+use crate::disk::Disk;
+use crate::disk_calls::Record;
+use crate::file_fault::FileFault;
+use crate::rewriting::{
+    end_log, hand_over, make_new, put_in_place, settle, settle_end, write_stretch,
+};
+use crate::spent::opened_to_go;
+use crate::stages::{CompactionStage, WholeNewFile};
+use crate::state::StateFile;
+use crate::system::{SystemDisk, SystemFile};
+use am_merge::Held;
+use am_version_order::Version;
+use std::fs::File;
+use std::mem;
+use std::rt::Files;
 
 /// The progress of writing a file anew.
 #[derive(Drop)]
 pub struct Compaction<K> {
-    stage: CompactionStage<K>,
-    /// The number of bytes written so far.
-    written: u64,
-}
-
-/// The next step of a compaction.
-#[derive(Drop)]
-enum CompactionStage<K> {
-    /// The bytes of files that lost their names the last time are given back.
-    GiveBack,
-    /// The new file is made.
-    Make,
-    /// The versions from a key on, or all of them, are written into the new file.
-    Write(File, Option<K>),
-    /// The new file is whole, and is handed to the disk.
-    HandOver(File),
-    /// The new file takes the place of the old one.
-    Rename,
-    /// The directory is handed to the disk, without a name for the file that was replaced.
-    Settle(Option<File>),
-    /// The old log is removed.
-    EndLog,
-    /// The directory is handed to the disk, without a name for the old log.
-    SettleEnd(Option<File>),
+    stage: CompactionStage<K, SystemFile<File>>,
+    /// The calls so far.
+    calls: Record,
 }
 
 impl<K: Drop> Compaction<K> {
     /// Begins a compaction with nothing written yet. [`StateFile::part_logs`] has to have begun a new log before.
-    pub fn new() -> Compaction<K> {
+    pub fn new() -> Compaction<K>
+        ensures calls { calls_of result ≡ [] }
+        ensures stage { stage_of result ≡ stages.GiveBack }
+    {
         Compaction {
             stage: CompactionStage::GiveBack,
-            written: 0,
+            calls: Record::new(),
         }
-    }
-
-    /// Returns the compaction whose next step is `stage`, with `written` bytes written so far.
-    fn at(stage: CompactionStage<K>, written: u64) -> Option<Compaction<K>> {
-        Some(Compaction { stage, written })
     }
 }
 
-/// Takes the next step, and returns what is left to do. `held` is the state as it is now, and the file has at most `most` bytes.
+/// Takes the next step, and returns whether anything is left to do. `held` is the state as it is now, and the file has at most
+/// `most` bytes.
 ///
 /// # Errors
 ///
 /// The reason why the file isn't written anew, which ends the compaction. The old file stands as it was, or the new one does if
-/// the directory couldn't be handed to the disk or the old log couldn't be removed; the logs have what they had.
+/// the directory couldn't be synced to the disk or the old log couldn't be removed; the logs have what they had.
 pub fn compact<V: Version, R: Files<File = File> + AllocGlobal>(
     rt: &R,
     file: &mut StateFile,
-    compaction: Compaction<V::Key>,
+    compaction: &mut Compaction<V::Key>,
     held: &Held<V>,
     most: u32,
-) -> Result<Option<Compaction<V::Key>>, FileFault>
+) -> Result<bool, FileFault>
 where
     V::Key: Drop,
+    ensures path { path_of file.new ≡ path_of file.old }
+    ensures left { IfOk result (λ is_left. is_left ≡ is_left_at (stage_of compaction.new)) }
+    // PROMISE: Each step of writing a file anew is the one that follows.
+    ensures next { OnOk result (Follows (stage_of compaction.old) (stage_of compaction.new)) }
+    // PROMISE: It makes just the calls of its stage, and one that writes adds one piece of the state as it is then.
+    ensures come { (maps : List (List V)) → IsUnderWay V.seen V.Key.cmp (path_of file.old) most maps compaction.old →
+        OnOk result (IsUnderWay V.seen V.Key.cmp (path_of file.old) most (with_piece (stage_of compaction.old) held.now maps) compaction.new) }
+    // PROMISE: A file that is written anew in stretches has a piece of each state that it was written from, in order, and its calls are those of a save and then of the end of the old log.
+    ensures done { (maps : List (List V)) → IsUnderWay V.seen V.Key.cmp (path_of file.old) most maps compaction.old → result ≡ Ok false →
+        IsRewritten V.seen V.Key.cmp (path_of file.old) most (with_piece (stage_of compaction.old) held.now maps) (calls_of compaction.new) }
+    // PROMISE: If that fails, its own new file is removed and nothing else, unless the new file has taken its place.
+    ensures stopped { (maps : List (List V)) → IsUnderWay V.seen V.Key.cmp (path_of file.old) most maps compaction.old →
+        IfErr result (StopsRewriting V.seen V.Key.cmp (path_of file.old) most held.now maps (calls_of compaction.new)) }
 {
-    let Compaction { stage, written } = compaction;
-    let done = match stage {
-        CompactionStage::Write(new, from) => write_stretch(
-            rt,
-            new,
-            left_of(held, from.as_ref()),
-            written,
-            most,
-        ),
-        other => resume(rt, file, other, written),
-    };
-    if done.is_err() {
-        file.drop_new(rt);
-    }
-    done
-}
-
-/// Returns the versions from a key on, or all of them.
-fn left_of<'a, V: Version>(held: &'a Held<V>, from: Option<&V::Key>) -> Iter<'a, V> {
-    match from {
-        Some(key) => held.iter_from(key),
-        None => held.iter(),
+    let mut disk = SystemDisk::after(rt, mem::replace(&mut compaction.calls, Record::new()));
+    let stage = mem::replace(&mut compaction.stage, CompactionStage::Done);
+    let done = resume(rt, &mut disk, file, stage, held, most);
+    compaction.calls = disk.into_calls();
+    match done {
+        Ok(stage) => {
+            let is_left = !matches!(stage, CompactionStage::Done);
+            compaction.stage = stage;
+            Ok(is_left)
+        }
+        Err(fault) => Err(fault),
     }
 }
 
-/// Writes the first of these versions after the `written` bytes, and hands them to the disk.
-fn write_stretch<V: Version, R: AllocGlobal>(
+/// Takes the next step, and returns the one after it.
+fn resume<V: Version, R: Files<File = File> + AllocGlobal, D: Disk>(
     rt: &R,
-    mut new: File,
-    left: Iter<'_, V>,
-    written: u64,
-    most: u32,
-) -> Result<Option<Compaction<V::Key>>, FileFault>
-where
-    V::Key: Drop,
-{
-    let Ok(RowPiece { row, next }) = row_piece(rt.alloc(), left, MOST_OF_STRETCH) else {
-        return Err(FileFault::Snapshot(SnapshotError::Memory));
-    };
-    let written = with_more(written, row.as_slice(), most)?;
-    write_down(&mut new, row.as_slice())?;
-    let stage = match next {
-        Some(key) => CompactionStage::Write(new, Some(key)),
-        None => CompactionStage::HandOver(new),
-    };
-    Ok(Compaction::at(stage, written))
-}
-
-/// Returns the number of bytes with this row added, and refuses more than `most`.
-fn with_more(written: u64, row: &[u8], most: u32) -> Result<u64, FileFault> {
-    let written = written.saturating_add(row.len() as u64);
-    if written > u64::from(most) {
-        return Err(FileFault::Snapshot(SnapshotError::TooLarge));
-    }
-    Ok(written)
-}
-
-/// Appends bytes to a file, and hands them to the disk.
-fn write_down(file: &mut File, bytes: &[u8]) -> Result<(), FileFault> {
-    file.write_all(bytes)?;
-    file.sync_data()?;
-    Ok(())
-}
-
-/// Takes the next step, other than writing versions, and returns what is left to do.
-fn resume<K: Drop, R: Files<File = File> + AllocGlobal>(
-    rt: &R,
+    disk: &mut D,
     file: &mut StateFile,
-    stage: CompactionStage<K>,
-    written: u64,
-) -> Result<Option<Compaction<K>>, FileFault> {
-    let next = match stage {
-        CompactionStage::GiveBack => {
-            if file.spent.give_back() {
-                CompactionStage::GiveBack
-            } else {
-                CompactionStage::Make
-            }
+    stage: CompactionStage<V::Key, D::File>,
+    held: &Held<V>,
+    most: u32,
+) -> Result<CompactionStage<V::Key, D::File>, FileFault>
+where
+    V::Key: Drop,
+    ensures path { path_of file.new ≡ path_of file.old }
+    ensures advances { Advances V.seen V.Key.cmp (path_of file.old) most D.File.contents held.now stage (D.calls disk.old) result (D.calls disk.new) }
+{
+    match stage {
+        CompactionStage::GiveBack => Ok(give_back(file)),
+        CompactionStage::Make => make_new::<V, D>(disk, rt.alloc(), file.path()),
+        CompactionStage::Write(new, from) => {
+            write_stretch(disk, rt.alloc(), file.path(), new, from, held, most)
         }
-        CompactionStage::Make => CompactionStage::Write(made(rt, file.path())?, None),
-        CompactionStage::Write(new, from) => CompactionStage::Write(new, from),
-        CompactionStage::HandOver(new) => {
-            new.sync_all()?;
-            CompactionStage::Rename
-        }
-        CompactionStage::Rename => {
-            let replaced = opened_to_go(rt, file.path());
-            renamed(rt, file.path())?;
-            file.size = written;
-            CompactionStage::Settle(replaced)
-        }
+        CompactionStage::HandOver(new) => hand_over::<V, D>(disk, file.path(), new),
+        CompactionStage::Rename(new) => rename::<V, R, D>(rt, disk, file, new),
         CompactionStage::Settle(replaced) => {
-            file.settle(rt, replaced)?;
-            CompactionStage::EndLog
+            let next = settle::<V, D>(disk, file.path())?;
+            file.spent.keep(replaced);
+            Ok(next)
         }
-        CompactionStage::EndLog => CompactionStage::SettleEnd(file.end_old_log(rt)?),
-        CompactionStage::SettleEnd(ended) => {
-            file.settle(rt, ended)?;
-            return Ok(None);
+        CompactionStage::EndLog => end_old_log::<V, R, D>(rt, disk, file),
+        CompactionStage::SettleEnd(log) => {
+            let next = settle_end::<V, D>(disk, file.path())?;
+            file.spent.keep(log);
+            Ok(next)
         }
-    };
-    Ok(Compaction::at(next, written))
+        CompactionStage::Done => Ok(CompactionStage::Done),
+    }
 }
 
-/// Makes the new file beside this one.
-fn made<R: Files<File = File> + AllocGlobal>(rt: &R, path: &str) -> Result<File, FileFault> {
-    let name = beside(rt.alloc(), path, NEW)?;
-    new_file(rt, name.as_str(), path)
+/// Gives back a piece of what lost its name the last time, and returns the next stage.
+fn give_back<K, F>(file: &mut StateFile) -> CompactionStage<K, F>
+    ensures path { path_of file.new ≡ path_of file.old }
+    ensures next { Follows stages.GiveBack result }
+{
+    if file.spent.give_back() {
+        CompactionStage::GiveBack
+    } else {
+        CompactionStage::Make
+    }
 }
 
-/// Puts the new file in the place of this one.
-fn renamed<R: Files + AllocGlobal>(rt: &R, path: &str) -> Result<(), FileFault> {
-    let name = beside(rt.alloc(), path, NEW)?;
-    fs::rename(rt, name.as_str(), path)?;
-    Ok(())
+/// Puts the new file in the place of the old one, whose bytes are kept until they can be given back.
+fn rename<V: Version, R: Files<File = File>, D: Disk>(
+    rt: &R,
+    disk: &mut D,
+    file: &mut StateFile,
+    new: WholeNewFile,
+) -> Result<CompactionStage<V::Key, D::File>, FileFault>
+where
+    V::Key: Drop,
+    ensures path { path_of file.new ≡ path_of file.old }
+    ensures advances { (most : ℕ) (map : List V) → Advances V.seen V.Key.cmp (path_of file.old) most D.File.contents map (stages.Rename new) (D.calls disk.old) result (D.calls disk.new) }
+{
+    let written = new.written;
+    let replaced = opened_to_go(rt, file.path());
+    let next = put_in_place::<V, D>(disk, file.path(), new, replaced)?;
+    file.size = written;
+    Ok(next)
+}
+
+/// Removes the old log, whose bytes are kept until they can be given back. Everything it had is in the file.
+fn end_old_log<V: Version, R: Files<File = File> + AllocGlobal, D: Disk>(
+    rt: &R,
+    disk: &mut D,
+    file: &mut StateFile,
+) -> Result<CompactionStage<V::Key, D::File>, FileFault>
+where
+    V::Key: Drop,
+    ensures path { path_of file.new ≡ path_of file.old }
+    ensures advances { (most : ℕ) (map : List V) → Advances V.seen V.Key.cmp (path_of file.old) most D.File.contents map stages.EndLog (D.calls disk.old) result (D.calls disk.new) }
+{
+    let name = beside(rt.alloc(), file.path(), OLD_LOG)?;
+    let log = opened_to_go(rt, &name);
+    let next = end_log::<V, D>(disk, file.path(), &name, log)?;
+    file.owes_save = false;
+    Ok(next)
 }

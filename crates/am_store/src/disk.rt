@@ -5,7 +5,7 @@ ghost use Rattle.am_store.specs.Calls.{Event, Remove, Make, Permit, Sync, Rename
 
 use std::io::{self, Write};
 
-/// The calls that a save makes of a file system. A call's clause says that it is recorded, whether it succeeded or not, and
+/// The calls that a save makes of a file system, at once or in stretches. A call's clause says that it is recorded, whether it succeeded or not, and
 /// nothing about what the disk makes of it.
 pub trait Disk {
     /// A new file, which is written and then synced to the disk.
@@ -26,6 +26,11 @@ pub trait Disk {
     /// Gives a new file the permissions of what is at a path, if anything is.
     fn permit(&mut self, file: &Self::File, path: &str) -> io::Result<()>
         ensures noted { calls self.new ≡ calls self.old ++ (Permit path.now, is_ok result) ∷ [] };
+
+    /// Hands what was written to a new file so far to the disk, so that the sync at its end finds less to do. Nothing relies on
+    /// it, and it isn't recorded.
+    fn sync_data(&mut self, file: &Self::File) -> io::Result<()>
+        ensures unnoted { calls self.new ≡ calls self.old };
 
     /// Syncs a new file to the disk, and closes it.
     fn sync(&mut self, file: Self::File) -> io::Result<()>

@@ -1,12 +1,14 @@
-//! Laws about what a crash leaves of a save.
+//! Laws about what a crash leaves of a save, and of a file that is written anew in stretches.
 
-ghost use Rattle.std.specs.Prelude.{◌≡◌, ◌⊎◌, ℕ, false, List, [], ◌++◌, Option, Some, None, codes};
+ghost use Rattle.std.specs.Prelude.{◌≡◌, ◌⊎◌, ℕ, false, List, [], ◌++◌, All, Option, Some, None, codes};
+ghost use Rattle.am_merge.specs.Maps.{IsMap};
 ghost use Rattle.am_snapshot.specs.Texts.{row_text};
 ghost use Rattle.am_snapshot.specs.Saving.{FitsRow};
 ghost use Rattle.am_store.specs.declared.file_fault.FileFault.{FileFault};
 ghost use Rattle.am_store.specs.Calls.{Event};
 ghost use Rattle.am_store.specs.Saves.{IsDirectoryOf, IsSaved, IsStopped, saving};
-ghost use Rattle.am_store.specs.Crashes.{Disk, Remains, Keeps, MayLeave, MayLeaveDuring, Runs, bytes_at};
+ghost use Rattle.am_store.specs.Crashes.{Disk, Remains, Keeps, MayLeave, MayLeaveDuring, Runs, Stays, bytes_at};
+ghost use Rattle.am_store.specs.Rewrites.{End, IsRewritten, IsWritten, StopsRewriting, old_log};
 ghost use Rattle.am_store.specs.UnsyncedSaves.{one_file, without_the_file, without_the_directory};
 
 use am_version_order::Version;
@@ -59,4 +61,38 @@ pub fn each_sync_is_needed()
         × Runs (without_the_file path) (one_file path old) new × MayLeave new left × (bytes_at left path ≡ Some found) }
     ensures directory { (path row old : List ℕ) → (new : Disk) × (left : Remains)
         × Runs (without_the_directory path row) (one_file path old) new × MayLeave new left × (bytes_at left path ≡ Some old) }
+{}
+
+/// States that a crash at any moment while a file is written anew leaves the file that was there, or none if none was, or else
+/// the new one, whole; and after the end, the new one. Calls on other files make no difference.
+pub fn a_crash_leaves_the_old_file_or_the_one_written_anew<V: Version>()
+    // PROMISE: A crash at any moment while a file is written anew leaves the old file or the new one, whole.
+    ensures rewritten { (path : List ℕ) (most : ℕ) (maps : List (List V)) (old : Option (List ℕ)) (calls : List Event) (disk : Disk) (left : Remains) →
+        Keeps disk path old → (anew : IsRewritten V.seen V.Key.cmp path most maps calls) →
+        MayLeaveDuring calls disk left → (bytes_at left path ≡ old) ⊎ (bytes_at left path ≡ Some anew.row) }
+    ensures stopped { (path : List ℕ) (most : ℕ) (map : List V) (maps : List (List V)) (old : Option (List ℕ)) (calls : List Event) (fault : FileFault)
+        (disk : Disk) (left : Remains) →
+        Keeps disk path old → (stops : StopsRewriting V.seen V.Key.cmp path most map maps calls fault) →
+        MayLeaveDuring calls disk left → (bytes_at left path ≡ old) ⊎ ((stops.place ≡ End) × (bytes_at left path ≡ Some stops.row)) }
+    // PROMISE: After a file was written anew, a crash leaves the new file.
+    ensures done { (path : List ℕ) (most : ℕ) (maps : List (List V)) (calls : List Event) (disk new : Disk) → IsDirectoryOf path disk.directory →
+        (anew : IsRewritten V.seen V.Key.cmp path most maps calls) → Runs calls disk new → Keeps new path (Some anew.row) }
+{}
+
+/// States that a crash while a file is written anew leaves the old log or the new file: what the old file lacks isn't lost.
+pub fn no_crash_leaves_the_old_file_without_the_old_log<V: Version>()
+    // PROMISE: No crash while a file is written anew leaves the old file without the old log.
+    ensures rewritten { (path : List ℕ) (most : ℕ) (maps : List (List V)) (calls : List Event) (disk : Disk) (left : Remains) →
+        IsDirectoryOf path disk.directory → Stays disk (old_log path) → (anew : IsRewritten V.seen V.Key.cmp path most maps calls) →
+        MayLeaveDuring calls disk left → bytes_at left (old_log path) ≡ None → bytes_at left path ≡ Some anew.row }
+    ensures stopped { (path : List ℕ) (most : ℕ) (map : List V) (maps : List (List V)) (calls : List Event) (fault : FileFault) (disk : Disk) (left : Remains) →
+        IsDirectoryOf path disk.directory → Stays disk (old_log path) → (stops : StopsRewriting V.seen V.Key.cmp path most map maps calls fault) →
+        MayLeaveDuring calls disk left → bytes_at left (old_log path) ≡ None → (stops.place ≡ End) × (bytes_at left path ≡ Some stops.row) }
+{}
+
+/// States that pieces of a map that doesn't change are its row.
+pub fn pieces_of_one_map_are_its_row<V: Version>()
+    // PROMISE: A state that doesn't change while its file is written anew is in the new file as a save writes it.
+    ensures { (map : List V) (maps : List (List V)) (row : List ℕ) → IsMap V.seen V.Key.cmp map → All (λ (other : List V). other ≡ map) maps →
+        IsWritten V.seen V.Key.cmp maps row End → row ≡ row_text V.seen map }
 {}

@@ -2,6 +2,7 @@
 
 ghost use Rattle.std.specs.Prelude.{◌≡◌, is_some, IfOk, OnOk};
 ghost use Rattle.am_store.specs.Appending.{Appends, Commits, IfKept, IsBegunAnew, log_of};
+ghost use Rattle.am_store.specs.Rewrites.{path_of};
 
 use crate::beside::{NEW, OLD_LOG, beside, remove, remove_logs};
 use crate::file_fault::FileFault;
@@ -12,7 +13,7 @@ use crate::paths::target_of;
 use crate::reading::FoundLogs;
 use crate::recovering::{Recovered, load_state};
 use crate::saving::{directory_of, save_file};
-use crate::spent::{SpentFiles, opened_to_go};
+use crate::spent::SpentFiles;
 use crate::system::{SystemDisk, sync_directory};
 use am_merge::Held;
 use am_snapshot::{SnapshotError, row_length_within};
@@ -34,7 +35,7 @@ pub struct StateFile {
     /// The log beside it, if one is kept.
     log: Option<StateLog>,
     /// True if a log stands beside it that is to go once the whole state is in the file.
-    owes_save: bool,
+    pub(crate) owes_save: bool,
     /// The number of bytes of the logs that were being written when the last process ended.
     torn: u64,
     /// The size of the file in bytes.
@@ -111,7 +112,9 @@ fn size_of<R: Files>(rt: &R, path: &str) -> Result<u64, FileFault> {
 
 impl StateFile {
     /// Returns the path of the file, after following all links.
-    pub fn path(&self) -> &str {
+    pub fn path(&self) -> &str
+        ensures { result.now ≡ path_of self.now }
+    {
         self.path.as_str()
     }
 
@@ -194,30 +197,6 @@ impl StateFile {
             log.rotate(rt, self.path.as_str())?;
         }
         Ok(bytes)
-    }
-
-    /// Removes the old log, and returns it if it could be opened. Everything it had is in the file.
-    pub(crate) fn end_old_log<R: Files<File = File> + AllocGlobal>(
-        &mut self,
-        rt: &R,
-    ) -> Result<Option<File>, FileFault> {
-        let path = self.path.as_str();
-        let name = beside(rt.alloc(), path, OLD_LOG)?;
-        let ended = opened_to_go(rt, name.as_str());
-        remove(rt, path, OLD_LOG)?;
-        self.owes_save = false;
-        Ok(ended)
-    }
-
-    /// Hands the directory to the disk. A file that has lost its name there may be given back from now on.
-    pub(crate) fn settle<R: Files>(
-        &mut self,
-        rt: &R,
-        spent: Option<File>,
-    ) -> Result<(), FileFault> {
-        sync_directory(rt, directory_of(self.path.as_str()))?;
-        self.spent.keep(spent);
-        Ok(())
     }
 
     /// Removes the new file, as far as it was written.

@@ -48,6 +48,20 @@ impl<'r, R: Files> SystemDisk<'r, R> {
             log: Record::new(),
         }
     }
+
+    /// Returns a file system of which these calls were made.
+    pub(crate) fn after(system: &'r R, calls: Record) -> SystemDisk<'r, R>
+        ensures { result.log.events ≡ calls.events }
+    {
+        SystemDisk { system, log: calls }
+    }
+
+    /// Returns the calls so far.
+    pub(crate) fn into_calls(self) -> Record
+        ensures { result.events ≡ self.entry.log.events }
+    {
+        self.log
+    }
 }
 
 /// Returns the calls so far and one more, with up to two paths.
@@ -110,6 +124,10 @@ impl<R: Files> Disk for SystemDisk<'_, R> {
         permitted
     }
 
+    fn sync_data(&mut self, file: &SystemFile<R::File>) -> io::Result<()> {
+        file.file.sync_data()
+    }
+
     fn sync(&mut self, file: SystemFile<R::File>) -> io::Result<()> {
         let synced = file.file.sync_all();
         let numbers = [SYNCED, u64::from(synced.is_ok())];
@@ -147,17 +165,6 @@ pub fn make_like<R: Files>(rt: &R, path: &str, other: &str) -> Result<R::File, F
         file.set_permissions(found.permissions())?;
     }
     Ok(file)
-}
-
-/// Creates a file at a path, with the permissions of the file that it is to replace. Whatever was at the path is removed first,
-/// so that nothing is written through a link.
-///
-/// # Errors
-///
-/// The system's error, as a [`FileFault`].
-pub fn new_file<R: Files>(rt: &R, path: &str, replaced: &str) -> Result<R::File, FileFault> {
-    let _ = fs::remove_file(rt, path);
-    make_like(rt, path, replaced)
 }
 
 /// Syncs a directory to the disk: which files it has, and by which names.

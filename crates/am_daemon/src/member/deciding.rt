@@ -68,6 +68,8 @@ enum Searches {
 struct Reached {
     deciding: Deciding,
     now: Moment,
+    /// The searches for the alerts that are left.
+    searches: Searches,
 }
 
 /// The outcome of a call by a program that sends pages.
@@ -83,12 +85,8 @@ pub enum Called {
     Made(ReplyBuilder, u64),
 }
 
-/// Returns the number of alerts that are held against this many silences between two looks at the clock: one if some patterns are
-/// compiled for each alert.
-fn stretch_over(ahead: &PatternsAhead, silences: usize) -> usize {
-    if ahead.is_short() {
-        return 1;
-    }
+/// Returns the number of alerts that are held against this many silences between two looks at the clock.
+fn stretch_over(silences: usize) -> usize {
     (STRETCH / silences.max(BESIDE)).max(1)
 }
 
@@ -102,9 +100,12 @@ fn is_enough(begun: Option<Instant>, now: Option<Instant>) -> bool {
     }
 }
 
-/// Returns how long the searches for one alert of a decision may take, by the compiled patterns and the longest value of a label.
-fn searches_for(instance: &Instance, deciding: &Deciding) -> Searches {
-    match instance.patterns().long_steps(deciding.longest_value()) {
+/// Returns how long the searches for one alert of a decision may take, by the patterns that are kept, those that are compiled for it
+/// since there is no room for them, and the longest value of a label.
+fn searches_for(instance: &Instance, ahead: &PatternsAhead, deciding: &Deciding) -> Searches {
+    let longest = deciding.longest_value();
+    let kept = instance.patterns().long_steps(longest);
+    match kept.saturating_add(ahead.steps_beyond(longest)) {
         0 => Searches::Short,
         1..=MOST_STEPS => Searches::Long,
         _ => Searches::TooLong,
@@ -150,12 +151,24 @@ fn ask_on<U: Backend>(
     let begun = backend.now();
     let mut now = instance.last();
     if !compile_on(backend, ahead, instance, begun) {
-        return Ok(Reached { deciding, now });
+        let searches = Searches::Short;
+        return Ok(Reached {
+            deciding,
+            now,
+            searches,
+        });
     }
-    let most = match searches_for(instance, &deciding) {
-        Searches::Short => stretch_over(ahead, instance.silences().len()),
+    let searches = searches_for(instance, ahead, &deciding);
+    let most = match searches {
+        Searches::Short => stretch_over(instance.silences().len()),
         Searches::Long => 1,
-        Searches::TooLong => return Ok(Reached { deciding, now }),
+        Searches::TooLong => {
+            return Ok(Reached {
+                deciding,
+                now,
+                searches,
+            });
+        }
     };
     let mut left = deciding;
     for _ in 0..u64::MAX {
@@ -168,6 +181,7 @@ fn ask_on<U: Backend>(
     Ok(Reached {
         deciding: left,
         now,
+        searches,
     })
 }
 
@@ -432,23 +446,44 @@ impl<U: Backend> ServerState<'_, U> {
             unheard,
             limit,
         } = deliberation;
-        if is_over(limit, self.backend.now())
-            || matches!(searches_for(instance, &deciding), Searches::TooLong)
-        {
+        if is_over(limit, self.backend.now()) {
             return self.break_off(instance, deciding, unheard);
         }
-        let Reached { deciding, now } = match ask_on(
+        match ask_on(
             &self.backend,
             &mut self.ahead,
             self.alloc,
             instance,
             deciding,
         ) {
-            Ok(reached) => reached,
-            Err(refusal) => return Called::Refused(refusal),
-        };
+            Ok(reached) => self.decide_or_put_off(instance, reached, unheard, limit),
+            Err(refusal) => Called::Refused(refusal),
+        }
+    }
+
+    /// Makes the decision if no alert is left, or if holding one against the silences might take too long. Otherwise it is made in a
+    /// later turn.
+    fn decide_or_put_off(
+        &mut self,
+        instance: &mut Instance,
+        reached: Reached,
+        unheard: Option<Request>,
+        limit: Option<Instant>,
+    ) -> Called
+        ensures steps { ForPages instance.old instance.new }
+        ensures called { (request : Request) (question : Question) (start : InstanceState) → HoldsSame start instance.old →
+            IsAsked request (Ok (Asked.Decide question)) → IsUnderway question reached.deciding → IsOnly request unheard →
+            IsCalled request start result instance.new }
+    {
+        let Reached {
+            deciding,
+            now,
+            searches,
+        } = reached;
         if deciding.is_asked() {
             self.decide(instance, deciding, unheard, now)
+        } else if matches!(searches, Searches::TooLong) {
+            self.break_off(instance, deciding, unheard)
         } else {
             Called::Later(CallProgress::Deciding(PendingDecision {
                 deciding,

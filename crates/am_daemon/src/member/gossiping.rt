@@ -1,12 +1,13 @@
 //! The exchanges with the Alertmanagers beside a member: it takes what they answer, a stretch in each turn of the loop, and
 //! sends them what they lack.
 
-ghost use Rattle.std.specs.Prelude.{◌≡◌, false, Some, IfSome, option_map};
+ghost use Rattle.std.specs.Prelude.{◌≡◌, false, Some, IfSome, MatchOption, option_map};
 ghost use Rattle.am_alertmanager.specs.Comings.{frame_in};
 ghost use Rattle.am_backend.specs.CommitStates.{uncommitted};
 ghost use Rattle.am_server.specs.Answered.{ByItself, IsStepOfFrame};
+ghost use Rattle.am_daemon.specs.Offers.{GivesFrames, IsAtRest, IsOffered, Passes, for_peers};
 
-use super::links::link_to;
+use super::links::address_of;
 use super::server::Server;
 use super::server_state::ServerState;
 use am_alertmanager::{Came, Report};
@@ -43,7 +44,9 @@ fn take_from<U: Backend>(
         log,
         may_change: true,
     });
-    ahead.note(silences);
+    if silences > 0 {
+        ahead.note();
+    }
     match instance.step(Event::Frame { sender, frame }, now) {
         Ok(outcome) => {
             let (_, outbox) = outcome.into_parts();
@@ -179,24 +182,33 @@ impl<U: Backend> Server<'_, U> {
         }
     }
 
-    /// Returns the next of the waiting frames that go to a peer. Frames for replicas wait on until the replicas are told, and
-    /// frames to be sealed wait on until their links are answered.
-    pub(super) fn next_outgoing(&mut self, config: &Config) -> Option<PeerBytes> {
-        for _ in 0..self.state.asked.len() {
-            let (place, frames) = self.state.backend.next_frames(config)?;
-            if self.replicas.is_at(place as usize) {
-                self.replicas.bring(place as usize, &frames);
-            } else if self.state.backend.is_sealed() {
-                if self.state.put_by(config, place as usize, frames) {
-                    return Some(link_to(self.state.alloc, place as usize));
-                }
-            } else {
-                let bytes = self.state.backend.text_of(config, place, None, &frames)?;
-                let peer = place as usize;
-                return Some(PeerBytes { peer, bytes });
+    /// Returns what is given for the next of the waiting frames that go to a peer. Frames for replicas wait on until the replicas
+    /// are told, and frames to be sealed are put by until their links are answered.
+    pub(super) fn next_outgoing(&mut self, config: &Config) -> Option<PeerBytes>
+        ensures { let was = for_peers U.outbound U.sealed_by self.old.state in let is = for_peers U.outbound U.sealed_by self.new.state in
+            MatchOption result (IsAtRest was is) (λ it. IsOffered it.peer it.bytes.items was is) }
+    {
+        while !self.state.backend.sends_nothing() {
+            if let Some(outgoing) = self.hand_on(config) {
+                return Some(outgoing);
             }
         }
         None
+    }
+
+    /// Takes out the frames that wait for the peer of the first of them, and returns what is given for that peer, if anything is.
+    fn hand_on(&mut self, config: &Config) -> Option<PeerBytes>
+        ensures { let was = for_peers U.outbound U.sealed_by self.old.state in let is = for_peers U.outbound U.sealed_by self.new.state in
+            MatchOption result (Passes was is) (λ it. GivesFrames it.peer it.bytes.items was is) }
+    {
+        let (place, frames) = self.state.backend.next_frames(config)?;
+        let peer = place as usize;
+        if address_of(&self.state.asked, peer).is_some() {
+            self.replicas.bring(peer, &frames);
+            None
+        } else {
+            self.state.give(config, place, frames)
+        }
     }
 
     /// Returns the next question or message for a replica. A message goes out only after what it tells is committed.

@@ -15,6 +15,7 @@ use super::server_state::{ServerState, random_bits};
 use am_api_silences::ReplyBuilder;
 use am_backend::{Backend, Incoming, place_of};
 use am_diagnostics::Fault;
+use am_gossip::{Frame, StateKey};
 use am_http::Refusal;
 use am_http::session::{Session, SessionOutput};
 use am_instance::{Config, Instance};
@@ -22,8 +23,8 @@ use am_member::{Deferred, SessionAnswer, apply_session_output, defer_requests};
 use am_metrics::RequestLabel;
 use am_peers::ConnectionFault;
 use am_server::{
-    ConnectionState, TransferKind, asked_of_itself, ends_pull, is_nothing, log_said, may_change,
-    silences_said,
+    ConnectionState, TransferKind, asked_of_itself, ends_pull, frame_bytes, is_nothing, log_said,
+    may_change, silences_said,
 };
 
 /// The requests in a peer's frames, beside the versions that they bring.
@@ -37,6 +38,11 @@ struct Asked {
     ticks: bool,
     /// True if there was a frame.
     has_frames: bool,
+}
+
+/// Returns whether a frame brings silences.
+fn brings_silences(frame: &Frame) -> bool {
+    frame_bytes(frame, StateKey::Sil) > 0
 }
 
 impl<U: Backend> ServerState<'_, U> {
@@ -121,13 +127,15 @@ impl<U: Backend> ServerState<'_, U> {
     )
         ensures { IsTaken (spoken said) instance.old (talk_of connection.old) instance.new (talk_of connection.new) }
     {
-        let silences = silences_said(&said);
         self.backend.take(Incoming {
-            silences,
+            silences: silences_said(&said),
             log: log_said(&said),
             may_change: may_change(&said),
         });
-        self.ahead.note(silences);
+        // (the patterns of a post are kept before its step)
+        if said.frames.iter().any(|frame| brings_silences(frame)) {
+            self.ahead.note();
+        }
         let pulled = ends_pull(&said);
         let has_frames = !said.frames.is_empty();
         let Deferred { said, asks, ticks } = defer_requests(said);

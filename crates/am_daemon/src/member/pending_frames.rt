@@ -1,6 +1,7 @@
 //! The frames that wait for peers until their links answer with a challenge: they can't be sealed before.
 
-ghost use Rattle.std.specs.Prelude.{◌≡◌};
+ghost use Rattle.std.specs.Prelude.{◌≡◌, length, max, not, true, MatchResult};
+ghost use Rattle.am_daemon.specs.Offers.{gone_on, nothing_put_by, place_in, put_behind, put_by_of};
 
 use am_gossip::{Frame, StateKey};
 use am_peer_auth::{CHALLENGE, Sequence};
@@ -52,7 +53,9 @@ pub struct PendingFrames {
 
 impl PendingFrames {
     /// Returns an empty set of pending frames, with no link.
-    pub fn new(alloc: Global) -> PendingFrames {
+    pub fn new(alloc: Global) -> PendingFrames
+        ensures { put_by_of result ≡ nothing_put_by }
+    {
         PendingFrames {
             alloc,
             frames: Vec::new(alloc),
@@ -64,18 +67,24 @@ impl PendingFrames {
     }
 
     /// Notes that a link is asked for, and returns whether there was none.
-    pub fn open(&mut self) -> bool {
+    pub fn open(&mut self) -> bool
+        ensures none { result ≡ not self.old.is_open }
+        ensures opened { put_by_of self.new ≡ record (put_by_of self.old) { is_open = true } }
+    {
         let was_open = self.is_open;
         self.is_open = true;
         !was_open
     }
 
-    /// Appends frames to those that wait.
+    /// Appends frames to those that wait, for a link that is open or asked for now, and returns whether it is asked for.
     ///
     /// # Errors
     ///
     /// [`Dropped`] says why the frames are dropped.
-    pub fn add(&mut self, frames: Vec<Frame>) -> Result<(), Dropped> {
+    pub fn add(&mut self, frames: Vec<Frame>) -> Result<bool, Dropped>
+        ensures { MatchResult result (λ opens. (opens ≡ not self.old.is_open) × (put_by_of self.new ≡ put_behind frames.items (put_by_of self.old)))
+            (λ _. put_by_of self.new ≡ put_by_of self.old) }
+    {
         let bytes = self.bytes.saturating_add(bytes_of(&frames));
         if bytes > MOST_WAITING && !self.frames.is_empty() {
             let was_full = mem::replace(&mut self.is_full, true);
@@ -88,17 +97,24 @@ impl PendingFrames {
         let mut frames = frames;
         self.frames.append(&mut frames)?;
         self.bytes = bytes;
-        Ok(())
+        Ok(self.open())
     }
 
-    /// Takes the frames that wait.
-    pub fn take(&mut self) -> Vec<Frame> {
+    /// Takes the frames that wait, and counts them as gone to the link; if none waits, one frame, which goes there in their place.
+    pub fn take(&mut self) -> Vec<Frame>
+        ensures frames { result.items ≡ (put_by_of self.old).frames }
+        ensures taken { put_by_of self.new ≡ gone_on (max (length result.items) 1) (put_by_of self.old) }
+    {
         self.bytes = 0;
-        mem::replace(&mut self.frames, Vec::new(self.alloc))
+        let frames = mem::replace(&mut self.frames, Vec::new(self.alloc));
+        self.count = self.count.saturating_add(frames.len().max(1) as u64);
+        frames
     }
 
     /// Returns the place of the next frame in its connection, if the bytes that the connection answered with are a challenge.
-    pub fn place(&self, answer: &[u8]) -> Option<Sequence> {
+    pub fn place(&self, answer: &[u8]) -> Option<Sequence>
+        ensures { result ≡ place_in answer.now (put_by_of self.now).number }
+    {
         let (challenge, _) = answer.split_first_chunk::<CHALLENGE>()?;
         let challenge = *challenge;
         Some(Sequence {
@@ -107,17 +123,13 @@ impl PendingFrames {
         })
     }
 
-    /// Adds to the number of frames that went to the link.
-    pub fn count_on(&mut self, frames: usize) {
-        self.count = self.count.saturating_add(frames as u64);
-    }
-
     /// Closes the link, drops the frames that wait for it, and returns how many they were.
-    pub fn close(&mut self) -> usize {
-        let waiting = self.take().len();
-        self.is_open = false;
-        self.is_full = false;
-        self.count = 0;
+    pub fn close(&mut self) -> usize
+        ensures waited { result ≡ length (put_by_of self.old).frames }
+        ensures closed { put_by_of self.new ≡ nothing_put_by }
+    {
+        let waiting = self.frames.len();
+        *self = PendingFrames::new(self.alloc);
         waiting
     }
 }

@@ -120,8 +120,12 @@ impl<U: Backend> ServerState<'_, U> {
     /// Gives up the link to a peer, and returns the address at which the peer listens.
     pub(super) fn lose_link(&mut self, peer: usize, fault: LinkFault) -> Option<SocketAddr> {
         hand_nothing(&mut self.transfers, peer);
-        self.close_burst(peer);
-        self.backend.figures().heard.lose(peer, cause_of(fault));
+        let dropped = self.close_link(peer);
+        let heard = &mut self.backend.figures().heard;
+        if dropped > 0 {
+            heard.hand_on(peer, dropped as u64);
+        }
+        heard.lose(peer, cause_of(fault));
         address_of(&self.addresses, peer)
     }
 

@@ -1,9 +1,11 @@
 //! The work that a member does for the loop that serves it.
 
-ghost use Rattle.std.specs.Prelude.{◌≡◌, false};
+ghost use Rattle.std.specs.Prelude.{◌≡◌, false, IfNone, IfSome};
+ghost use Rattle.std.specs.Option.{option_map};
 ghost use Rattle.am_server.specs.Talks.{IsReleased, Lasts, talk_of};
 ghost use Rattle.am_backend.specs.CommitStates.{kept, uncommitted as uncommitted_in};
 ghost use Rattle.am_backend.specs.Stores.{IsKept};
+ghost use Rattle.am_daemon.specs.Offers.{IsAtRest, IsGiven, IsOffered, for_peers};
 
 use super::counting::{count_broken, count_where_done};
 use super::guarding::accepted_at;
@@ -40,8 +42,11 @@ fn fault_of(broken: Broken, is_over: bool) -> Option<Fault> {
 impl<U: Backend> Handler for Server<'_, U> {
     ghost uncommitted = { λ server. uncommitted_in (U.store_of server.state.backend).commit_state };
 
-    // (this says nothing about the bytes, only that all that came before them was committed)
-    ghost offers = { λ server peer bytes server'. uncommitted_in (U.store_of server.state.backend).commit_state ≡ false };
+    ghost offers = { λ server peer bytes server'. IsOffered peer bytes (for_peers U.outbound U.sealed_by server.state) (for_peers U.outbound U.sealed_by server'.state) };
+
+    ghost rests = { λ server server'. IsAtRest (for_peers U.outbound U.sealed_by server.state) (for_peers U.outbound U.sealed_by server'.state) };
+
+    ghost gives = { λ config server peer answer bytes server'. IsGiven config peer answer bytes (for_peers U.outbound U.sealed_by server.state) (for_peers U.outbound U.sealed_by server'.state) };
 
     fn begin(&mut self, entrance: Entrance) -> ConnectionState {
         self.state.backend.figures().begin();
@@ -135,13 +140,20 @@ impl<U: Backend> Handler for Server<'_, U> {
         count_where_done(&mut self.state.backend, connection);
     }
 
-    fn outgoing(&mut self, config: &Config) -> Option<PeerBytes> {
+    fn outgoing(&mut self, config: &Config) -> Option<PeerBytes>
+        // PROMISE: What is given for a peer is the text of just the frames that wait for it, in order, each once; or, where frames are sealed, these are put by for it, behind those before, and a link is opened; or none waits, and a link is opened for what is held.
+        ensures offered { IfSome result (λ it. IsOffered it.peer it.bytes.items (for_peers U.outbound U.sealed_by self.old.state) (for_peers U.outbound U.sealed_by self.new.state)) }
+        // PROMISE: Once all is committed, nothing is given only if no frame waits any more.
+        ensures rested { IfNone result (uncommitted_in (U.store_of self.old.state.backend).commit_state ≡ false →
+            IsAtRest (for_peers U.outbound U.sealed_by self.old.state) (for_peers U.outbound U.sealed_by self.new.state)) }
+        ensures committed { IfSome result (λ it. uncommitted_in (U.store_of self.old.state.backend).commit_state ≡ false) }
+    {
         if self.state.backend.commit_state().has_changes() {
-            None
-        } else if self.state.backend.sends_nothing() {
-            self.state.open_link()
-        } else {
-            self.next_outgoing(config)
+            return None;
+        }
+        match self.next_outgoing(config) {
+            Some(outgoing) => Some(outgoing),
+            None => self.state.open_link(),
         }
     }
 
@@ -153,8 +165,12 @@ impl<U: Backend> Handler for Server<'_, U> {
         self.replicas.answered(peer, answer);
     }
 
-    fn more(&mut self, instance: &Instance, peer: usize, answer: &[u8]) -> Option<Vec<u8>> {
-        self.state.backend.figures().heard.all_out(peer);
+    fn more(&mut self, instance: &Instance, peer: usize, answer: &[u8]) -> Option<Vec<u8>>
+        // PROMISE: What a link is given once its peer has answered is the text of just the frames that were put by for that peer, in order, each once, or else of one part of all that is held, sealed, if it is, for their places in the connection; if there is no memory for it, these frames are counted as not sent.
+        ensures { IsGiven instance.now.config peer answer.now (option_map (λ bytes. bytes.items) result)
+            (for_peers U.outbound U.sealed_by self.old.state) (for_peers U.outbound U.sealed_by self.new.state) }
+    {
+        self.state.backend.count_all_out(peer);
         self.state.next_text(instance, peer, answer)
     }
 

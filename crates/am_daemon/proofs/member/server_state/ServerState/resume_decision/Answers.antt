@@ -9,12 +9,9 @@ returns-then-is_over-clause-called g c = λ request came. c.break_off.ensures.ca
 pub returns-in-Err-clause-called : goal.returns-in-Err-clause-called
 returns-in-Err-clause-called g c = λ request came reply says. question_replied request came.0 _ reply _ came.1 (c.in-Err.ensures.stopped came.0 came.2 reply says)
 
-pub returns-then-is_asked-clause-steps : goal.returns-then-is_asked-clause-steps
-returns-then-is_asked-clause-steps g c = made_on _ _ _ _ c.ask_on.ensures.steps c.decide.ensures.steps
+pub returns-in-Ok-clause-steps : goal.returns-in-Ok-clause-steps
+returns-in-Ok-clause-steps g c = made_on _ _ _ _ c.ask_on.ensures.steps c.decide_or_put_off.ensures.steps
 
-pub returns-then-is_asked-clause-called : goal.returns-then-is_asked-clause-called
-returns-then-is_asked-clause-called g c = λ request came.
-    c.decide.ensures.called request came.0 _ c.ask_on.ensures.same came.1 (c.in-Ok.ensures.asked came.0 came.2) came.3
-
-pub returns-else-is_asked-clause-called : goal.returns-else-is_asked-clause-called
-returns-else-is_asked-clause-called g c = λ request came. (came.0, came.1, c.in-Ok.ensures.asked came.0 came.2, came.3)
+pub returns-in-Ok-clause-called : goal.returns-in-Ok-clause-called
+returns-in-Ok-clause-called g c = λ request came.
+    c.decide_or_put_off.ensures.called request came.0 _ c.ask_on.ensures.same came.1 (c.in-Ok.ensures.asked came.0 came.2) came.3
