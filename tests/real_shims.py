@@ -7,7 +7,8 @@ PROGRAM is crates/am_tool/out/am_tool if it isn't given; ./am_tool and rt ci bui
 prometheus-alertmanager on loopback; where it isn't installed nothing is tried. Each alert is posted to all three. Then it
 is paged once, as is its end; once, where the first member isn't there, or where one is killed while it waits for its turn; once,
 where the first is killed between the page and `notified`, since another one hears of the page; and once within a group interval
-where a silence at a member has ended. It takes three minutes or so. Prints each case that fails, and at the end how many passed.
+where a silence at a member has ended. It takes six minutes or so. Prints each case that fails, with what members and shims have
+printed, and at the end how many passed.
 """
 
 import contextlib
@@ -29,18 +30,18 @@ TITLE = "real shims"
 NAMES = ["a", "b", "c"]
 
 # How long a member waits for each one before it, how long all turns take, and how long it is from one question of a group to the
-# next one, in seconds.
-TURN, ALL_TURNS, INTERVAL = 1, 3, 10
-OPTIONS = ["--peer-timeout", str(TURN), "--time-limit", "2", "--pull-first", "--pull-first-limit", "3"]
+# next one, in seconds: long, since a machine that does nothing for as long as a turn may have two of them page.
+TURN, ALL_TURNS, INTERVAL = 3, 9, 20
+OPTIONS = ["--peer-timeout", str(TURN), "--time-limit", "4", "--pull-first", "--pull-first-limit", "3"]
 OPTIONS += [word for what in ("tick", "pull", "save") for word in (f"--{what}-every", "1")]
 
 CONFIG = """
-route: {{receiver: pager, group_by: [alertname], group_wait: 1s, group_interval: 10s, repeat_interval: 6s}}
+route: {{receiver: pager, group_by: [alertname], group_wait: 1s, group_interval: 20s, repeat_interval: 10s}}
 receivers: [{{name: pager, webhook_configs: [{{url: "http://127.0.0.1:{}/?repeat=14400", max_alerts: 0}}]}}]
 """
 
-# What sends a page: it writes down whose it is, and kills the process whose number stands in a file, if that is there.
-COMMAND = 'm=$(cat); printf "%s %s\\n" "$0" "$m" >>"$1/pages"; if [ -e "$1/trap-$0" ]; then kill -9 "$(cat "$1/trap-$0")"; fi'
+# What sends a page: it writes down whose it is, and when, and kills the process whose number stands in a file, if that is there.
+COMMAND = 'm=$(cat); printf "%s %s %s\\n" "$0" "$(date +%s.%N)" "$m" >>"$1/pages"; if [ -e "$1/trap-$0" ]; then kill -9 "$(cat "$1/trap-$0")"; fi'
 
 
 class Site:
@@ -96,21 +97,36 @@ class Three:
         for it in self.sites.values():
             check(f"{it.name} takes {name}", eventually(lambda: it.post(alert)), it.folder)
 
-    def pages(self, name, status="firing"):
-        """Who paged an alert in a state, one after the other."""
-        found = []
+    def each_page(self):
+        """Of each page who sent it, when, and the names and states of its alerts."""
         with contextlib.suppress(FileNotFoundError), open(f"{self.folder}/pages", encoding="utf-8") as file:
             for line in file:
-                who, _, message = line.partition(" ")
-                states = [(it["labels"]["alertname"], it["status"]) for it in json.loads(message)["alerts"]]
-                found += [who] * ((name, status) in states)
-        return found
+                who, when, message = line.split(" ", 2)
+                yield who, when, [(it["labels"]["alertname"], it["status"]) for it in json.loads(message)["alerts"]]
+
+    def pages(self, name, status="firing"):
+        """Who paged an alert in a state, one after the other."""
+        return [who for who, _, states in self.each_page() if (name, status) in states]
 
     def paged(self, name, status="firing"):
-        """Who paged it, once somebody has, and all turns are over for long."""
+        """Who paged it, once somebody has, and all turns are over for long. If that isn't one, everything is told."""
         eventually(lambda: self.pages(name, status), 30)
         time.sleep(INTERVAL + ALL_TURNS + 4)
-        return self.pages(name, status)
+        found = self.pages(name, status)
+        if len(found) != 1:
+            self.tell(name)
+        return found
+
+    def tell(self, name):
+        """Prints all pages, and the last lines of members, shims and Alertmanagers."""
+        print(f"  {name}, until {time.time():.3f}")
+        for who, when, states in self.each_page():
+            print(f"  {when} {who} paged {states}")
+        for it in self.sites.values():
+            with open(f"{self.folder}/{it.name}.log", encoding="utf-8", errors="replace") as file:
+                lines = file.read().splitlines()[-12:]
+            for line in [*it.member.whole_lines[-6:], *lines]:
+                print(f"  {it.name}: {line[:300]}")
 
 
 def test_once(three):
