@@ -7,21 +7,46 @@ use Rattle.am_gossip.specs.declared.frame.StateKey.{StateKey}
 use Rattle.am_gossip.specs.declared.frame.StateKey.TheVariants.{Sil, Nfl}
 use Rattle.am_peers.specs.Queues.{frames_for}
 use Rattle.am_instance.specs.Sendings.{Sent}
+use Rattle.am_instance.specs.InstanceStates.{InstanceState}
+use Rattle.am_nflog.specs.Mesh.{mesh_version as entry_version}
+use Rattle.am_silence.specs.Mesh.{mesh_version}
+use Rattle.am_snapshot.specs.Texts.{row_text}
 use Rattle.am_store.specs.Appending.{Appends, Commits, IfKept, IsBegunAnew, LogRows, log_of}
+use Rattle.am_store.specs.Calls.{Event}
+use Rattle.am_store.specs.Rewrites.{path_of}
+use Rattle.am_store.specs.Saves.{IsSaved, saves_of}
+use Rattle.am_store.specs.declared.state.StateFile.{StateFile}
 use Rattle.am_backend.specs.declared.commit_state.CommitState.{CommitState}
 use Rattle.am_backend.specs.declared.system_backend.SystemBackend.{SystemBackend}
 use Rattle.am_backend.specs.CommitStates.{behind, came, disk_of, keeps_logs, kept, uncommitted, with_lost, with_saved}
 
--- the state of what is to be on the disk, and the rows of the logs of the silences and of the notification log
+-- a file of a state: its path, and the calls of its saves so far
+pub record SavedFile : Type 0 where
+  pub path : List ℕ
+  pub saves : List Event
+
+-- the file of a state, as the code holds it
+abbrev pub saved_file : StateFile → SavedFile
+saved_file file = record { path = path_of file; saves = saves_of file }
+
+-- the state of what is to be on the disk, and the rows of the logs and the files of the silences and of the notification log
 pub record Store : Type 0 where
   pub commit_state : CommitState
   pub silences : Option LogRows
   pub log : Option LogRows
+  pub silences_file : SavedFile
+  pub log_file : SavedFile
 
 module _ {R : Type 0} where
   -- the store that the code holds
   abbrev pub store_of : SystemBackend R → Store
-  store_of backend = record { commit_state = backend.commit_state; silences = log_of backend.silences; log = log_of backend.log }
+  store_of backend = record {
+    commit_state = backend.commit_state;
+    silences = log_of backend.silences;
+    log = log_of backend.log;
+    silences_file = saved_file backend.silences;
+    log_file = saved_file backend.log;
+  }
 
 -- ---- what a step sends to the place of the disk
 
@@ -98,25 +123,31 @@ pub record HasCommitted (old new : CommitState) (committed other committed' othe
   pub disk : disk_of new ≡ disk_of old
   pub other_stays : other' ≡ other
 
--- Both states were saved, and their logs begun anew.
-pub record AreSaved (new : Store) : Type 0 where
+-- The last save of a file put this row into it.
+abbrev pub HoldsRow : List ℕ → SavedFile → Type 0
+HoldsRow row file = (before : List Event) × IsSaved file.path row before file.saves
+
+-- Both states of an instance were saved, each in its own file, and their logs begun anew.
+pub record AreSaved (stand : InstanceState) (new : Store) : Type 0 where
   pub complete : behind new.commit_state ≡ false
-  pub silences : IsBegunAnew new.silences
-  pub log : IsBegunAnew new.log
+  pub silences : HoldsRow (row_text mesh_version stand.silences) new.silences_file
+  pub log : HoldsRow (row_text entry_version stand.log) new.log_file
+  pub silences_anew : IsBegunAnew new.silences
+  pub log_anew : IsBegunAnew new.log
 
 -- Both states were saved if there is no fault, and otherwise what is known of the logs stays.
-abbrev pub HasSaved : {F : Type 0} → Option F → Store → Store → Type 0
-HasSaved None old new = AreSaved new × (new.commit_state ≡ with_saved old.commit_state)
-HasSaved (Some fault) old new = new.commit_state ≡ old.commit_state
+abbrev pub HasSaved : {F : Type 0} → InstanceState → Option F → Store → Store → Type 0
+HasSaved stand None old new = AreSaved stand new × (new.commit_state ≡ with_saved old.commit_state)
+HasSaved stand (Some fault) old new = new.commit_state ≡ old.commit_state
 
 -- If the logs lack something, both states may have been saved, and otherwise nothing was done.
-pub record MaySave (old new : Store) : Type 0 where
+pub record MaySave (stand : InstanceState) (old new : Store) : Type 0 where
   pub idle : behind old.commit_state ≡ false → new ≡ old
-  pub saved : behind old.commit_state ≡ true → AreSaved new ⊎ (behind new.commit_state ≡ true)
+  pub saved : behind old.commit_state ≡ true → AreSaved stand new ⊎ (behind new.commit_state ≡ true)
   pub due : uncommitted new.commit_state ≡ uncommitted old.commit_state
 
 -- All is kept only if both logs have it on the disk or both states were saved; and no commit is due any more.
-pub record IsKept (old new : Store) : Type 0 where
-  pub made : keeps_logs old.commit_state ≡ true → kept new.commit_state ≡ true → AreCommitted old new ⊎ AreSaved new
+pub record IsKept (stand : InstanceState) (old new : Store) : Type 0 where
+  pub made : keeps_logs old.commit_state ≡ true → kept new.commit_state ≡ true → AreCommitted old new ⊎ AreSaved stand new
   pub exact : kept new.commit_state ≡ not (behind new.commit_state)
   pub due : uncommitted new.commit_state ≡ false

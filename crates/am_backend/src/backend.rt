@@ -119,8 +119,8 @@ pub trait Backend {
 
     /// Makes sure of what was done so far: it is in the logs or, if they lack something, in the files.
     fn keep(&mut self, instance: &Instance)
-        // PROMISE: With logs, a commit has kept everything only if both logs have all their rows on the disk and lacked nothing, or both states were saved.
-        ensures kept { IsKept (store_of self.old) (store_of self.new) }
+        // PROMISE: With logs, a commit has kept everything only if both logs have all their rows on the disk and lacked nothing, or both states were saved, each whole and in its own file.
+        ensures kept { IsKept instance.now (store_of self.old) (store_of self.new) }
         ensures queue { (outbound self.new).frames ≡ (outbound self.old).frames };
 
     /// Does the next stage of the file that is being written anew, if the logs lack nothing, and returns the time until the next

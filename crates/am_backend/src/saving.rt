@@ -1,8 +1,11 @@
 //! The saves of both states while everybody waits, and when they are made.
 
 ghost use Rattle.std.specs.Prelude.{◌≡◌, IfNone};
+ghost use Rattle.am_nflog.specs.Mesh.{mesh_version as entry_version};
+ghost use Rattle.am_silence.specs.Mesh.{mesh_version};
+ghost use Rattle.am_snapshot.specs.Texts.{row_text};
 ghost use Rattle.am_store.specs.Appending.{IsBegunAnew, log_of};
-ghost use Rattle.am_backend.specs.Stores.{HasSaved, MaySave, store_of};
+ghost use Rattle.am_backend.specs.Stores.{HasSaved, HoldsRow, MaySave, saved_file, store_of};
 
 use crate::system_backend::SystemBackend;
 use am_diagnostics::Fault;
@@ -15,7 +18,7 @@ use std::time::Instant;
 impl<R: AllocGlobal + Clock + Eprint + Files<File = File>> SystemBackend<'_, R> {
     /// Saves the silences, and then the log, while everybody waits. Returns the first fault; each is told.
     pub(crate) fn save(&mut self, instance: &Instance) -> Option<Fault>
-        ensures saved { HasSaved result (store_of self.old) (store_of self.new) }
+        ensures saved { HasSaved instance.now result (store_of self.old) (store_of self.new) }
         ensures queue { self.new.queue ≡ self.old.queue }
     {
         self.give_up_compaction();
@@ -36,9 +39,11 @@ impl<R: AllocGlobal + Clock + Eprint + Files<File = File>> SystemBackend<'_, R> 
 
     /// Saves the silences, and returns the reason why they are not saved, if they aren't, which is told.
     fn save_silences(&mut self, instance: &Instance) -> Option<Fault>
+        ensures saved { IfNone result (HoldsRow (row_text mesh_version instance.now.silences) (saved_file self.new.silences)) }
         ensures anew { IfNone result (IsBegunAnew (log_of self.new.silences)) }
         ensures commit_state { self.new.commit_state ≡ self.old.commit_state }
         ensures log { log_of self.new.log ≡ log_of self.old.log }
+        ensures log_file { saved_file self.new.log ≡ saved_file self.old.log }
         ensures queue { self.new.queue ≡ self.old.queue }
     {
         let most = self.options.most_bytes;
@@ -59,9 +64,11 @@ impl<R: AllocGlobal + Clock + Eprint + Files<File = File>> SystemBackend<'_, R> 
 
     /// Saves the log, and returns the reason why it is not saved, if it isn't, which is told.
     fn save_log(&mut self, instance: &Instance) -> Option<Fault>
+        ensures saved { IfNone result (HoldsRow (row_text entry_version instance.now.log) (saved_file self.new.log)) }
         ensures anew { IfNone result (IsBegunAnew (log_of self.new.log)) }
         ensures commit_state { self.new.commit_state ≡ self.old.commit_state }
         ensures silences { log_of self.new.silences ≡ log_of self.old.silences }
+        ensures silences_file { saved_file self.new.silences ≡ saved_file self.old.silences }
         ensures queue { self.new.queue ≡ self.old.queue }
     {
         let most = self.options.most_bytes;
@@ -93,7 +100,7 @@ impl<R: AllocGlobal + Clock + Eprint + Files<File = File>> SystemBackend<'_, R> 
 
     /// Saves both states if the logs lack something, unless the last such save was less than a second ago.
     pub(crate) fn save_behind(&mut self, instance: &Instance)
-        ensures saved { MaySave (store_of self.old) (store_of self.new) }
+        ensures saved { MaySave instance.now (store_of self.old) (store_of self.new) }
         ensures queue { self.new.queue ≡ self.old.queue }
     {
         if !self.commit_state.is_behind() {

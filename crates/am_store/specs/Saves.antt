@@ -3,10 +3,15 @@ use Rattle.std.specs.Prelude.{◌≡◌, ◌≢◌, ◌⊎◌, ◌<◌, ℕ, ◌
 use Rattle.std.specs.declared.io.ErrorKind.{ErrorKind}
 use Rattle.am_snapshot.specs.declared.error.SnapshotError.{SnapshotError}
 use Rattle.am_snapshot.specs.declared.error.SnapshotError.TheVariants as snapshot
+use Rattle.am_store.specs.declared.state.StateFile.{StateFile}
 use Rattle.am_store.specs.declared.file_fault.FileFault.{FileFault}
 use Rattle.am_store.specs.declared.file_fault.FileFault.TheVariants.{Snapshot}
 use Rattle.am_store.specs.Faults.{file_fault_of}
 use Rattle.am_store.specs.Calls.{Event, Remove, Make, Permit, Sync, Rename, SyncDirectory}
+
+-- the calls of a file's saves so far
+abbrev pub saves_of : StateFile → List Event
+saves_of file = file.saves.events
 
 -- no byte is a slash
 abbrev pub HasNoSlash : List ℕ → Type 0
@@ -112,3 +117,7 @@ pub record IsStopped (fits : Type 0) (path row : List ℕ) (before after : List 
   pub removed : Bool
   pub calls : after ≡ before ++ saving_until stop stood removed path row
   pub cause : IsStopOf fits path row stop fault
+
+-- a save stops, or it is done, and something that comes after it fails
+abbrev pub IsTried : Type 0 → List ℕ → List ℕ → List Event → List Event → FileFault → Type 0
+IsTried fits path row before after fault = IsStopped fits path row before after fault ⊎ IsSaved path row before after

@@ -5,8 +5,8 @@ ghost use Rattle.am_store.specs.Calls.{Event, Remove, Make, Permit, Sync, Rename
 
 use std::io::{self, Write};
 
-/// The calls that a save makes of a file system, at once or in stretches. A call's clause says that it is recorded, whether it succeeded or not, and
-/// nothing about what the disk makes of it.
+/// The calls that a save makes of a file system, at once or in stretches. A call's clause says that it is recorded, whether it
+/// succeeded or not, and nothing about what the disk makes of it.
 pub trait Disk {
     /// A new file, which is written and then synced to the disk.
     type File: Write + Drop;

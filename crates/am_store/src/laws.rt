@@ -64,7 +64,7 @@ pub fn each_sync_is_needed()
 {}
 
 /// States that a crash at any moment while a file is written anew leaves the file that was there, or none if none was, or else
-/// the new one, whole; and after the end, the new one. Calls on other files make no difference.
+/// the new one, whole; and after the end, the new one. The calls are those of the rewriting alone.
 pub fn a_crash_leaves_the_old_file_or_the_one_written_anew<V: Version>()
     // PROMISE: A crash at any moment while a file is written anew leaves the old file or the new one, whole.
     ensures rewritten { (path : List ℕ) (most : ℕ) (maps : List (List V)) (old : Option (List ℕ)) (calls : List Event) (disk : Disk) (left : Remains) →

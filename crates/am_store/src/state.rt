@@ -1,10 +1,14 @@
 //! The files of a state, which belong to one process for as long as it lives.
 
-ghost use Rattle.std.specs.Prelude.{◌≡◌, is_some, IfOk, OnOk};
+ghost use Rattle.std.specs.Prelude.{◌≡◌, is_some, IfErr, IfOk, OnOk};
+ghost use Rattle.am_snapshot.specs.Texts.{row_text};
+ghost use Rattle.am_snapshot.specs.Saving.{FitsRow};
 ghost use Rattle.am_store.specs.Appending.{Appends, Commits, IfKept, IsBegunAnew, log_of};
 ghost use Rattle.am_store.specs.Rewrites.{path_of};
+ghost use Rattle.am_store.specs.Saves.{IsSaved, IsStopped, IsTried, saves_of};
 
 use crate::beside::{NEW, OLD_LOG, beside, remove, remove_logs};
+use crate::disk_calls::Record;
 use crate::file_fault::FileFault;
 use crate::lock::lock_beside;
 use crate::log::StateLog;
@@ -22,6 +26,7 @@ use am_wire::{Message, Unknown};
 use std::alloc::Global;
 use std::fs::{self, File};
 use std::io::ErrorKind;
+use std::mem;
 use std::path::PathBuf;
 use std::rt::Files;
 
@@ -42,6 +47,8 @@ pub struct StateFile {
     pub(crate) size: u64,
     /// The files that it replaced, and the old logs.
     pub(crate) spent: SpentFiles,
+    /// The calls of its saves so far.
+    saves: Record,
 }
 
 /// A state, just opened.
@@ -98,6 +105,7 @@ fn state_file<R: Files<File = File> + AllocGlobal>(
         torn: found.torn(),
         size,
         spent: SpentFiles::none(rt.alloc()),
+        saves: Record::new(),
     })
 }
 
@@ -141,26 +149,43 @@ impl StateFile {
         held: &Held<V>,
         most: u32,
     ) -> Result<u64, FileFault>
-        ensures { OnOk result (IsBegunAnew (log_of self.new)) }
+        ensures path { path_of self.new ≡ path_of self.old }
+        ensures anew { OnOk result (IsBegunAnew (log_of self.new)) }
+        // PROMISE: A save puts just the row of the state into its own file.
+        ensures saved { OnOk result (IsSaved (path_of self.old) (row_text V.seen held.now) (saves_of self.old) (saves_of self.new)) }
+        ensures failed { IfErr result (IsTried (FitsRow V.seen most held.now) (path_of self.old) (row_text V.seen held.now) (saves_of self.old) (saves_of self.new)) }
     {
         // (want of room may be the reason for this save)
         self.spent.close();
-        let bytes = save_file(
-            &mut SystemDisk::new(rt),
-            rt.alloc(),
-            self.path.as_str(),
-            held,
-            most,
-        )?;
+        let bytes = self.write(rt, held, most)?;
         self.size = bytes;
         self.end_logs(rt)?;
         self.owes_save = false;
         Ok(bytes)
     }
 
+    /// Writes a state into the file, and records the calls.
+    fn write<V: Version, R: Files<File = File> + AllocGlobal>(
+        &mut self,
+        rt: &R,
+        held: &Held<V>,
+        most: u32,
+    ) -> Result<u64, FileFault>
+        ensures path { path_of self.new ≡ path_of self.old }
+        ensures saved { OnOk result (IsSaved (path_of self.old) (row_text V.seen held.now) (saves_of self.old) (saves_of self.new)) }
+        ensures stopped { IfErr result (IsStopped (FitsRow V.seen most held.now) (path_of self.old) (row_text V.seen held.now) (saves_of self.old) (saves_of self.new)) }
+    {
+        let mut disk = SystemDisk::after(rt, mem::replace(&mut self.saves, Record::new()));
+        let saved = save_file(&mut disk, rt.alloc(), self.path.as_str(), held, most);
+        self.saves = disk.into_calls();
+        saved
+    }
+
     /// Begins the log anew, if one is kept, and removes those of an earlier time. Everything they had is in the file.
     fn end_logs<R: Files<File = File> + AllocGlobal>(&mut self, rt: &R) -> Result<(), FileFault>
-        ensures { OnOk result (IsBegunAnew (log_of self.new)) }
+        ensures path { path_of self.new ≡ path_of self.old }
+        ensures saves { saves_of self.new ≡ saves_of self.old }
+        ensures anew { OnOk result (IsBegunAnew (log_of self.new)) }
     {
         let path = self.path.as_str();
         match &mut self.log {

@@ -104,7 +104,7 @@ impl<U: Backend> Handler for Server<'_, U> {
     }
 
     fn commit(&mut self, instance: &Instance)
-        ensures { IsKept (U.store_of self.old.state.backend) (U.store_of self.new.state.backend) }
+        ensures { IsKept instance.now (U.store_of self.old.state.backend) (U.store_of self.new.state.backend) }
     {
         self.state.backend.keep(instance);
     }
