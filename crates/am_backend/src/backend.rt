@@ -90,7 +90,8 @@ pub trait Backend {
 
     /// Notes what comes.
     fn take(&mut self, incoming: Incoming)
-        ensures { (outbound self.new).frames ≡ (outbound self.old).frames };
+        ensures store { store_of self.new ≡ store_of self.old }
+        ensures outbound { outbound self.new ≡ outbound self.old };
 
     /// Returns whether there is room for `post` bytes of a post, and for the ends of all silences. If there doesn't seem to be,
     /// the silences are counted anew, once a second.

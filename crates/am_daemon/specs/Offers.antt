@@ -112,7 +112,7 @@ GivesFrames peer bytes old new = TakesOut (λ place frames mid. (place ≡ peer)
 -- Nothing waits, and a link to a peer is opened, for what is held.
 pub record OpensLink (peer : ℕ) (bytes : List ℕ) (old new : ForPeers) : Type 0 where
   pub none : old.queue.frames ≡ []
-  pub bytes_ : bytes ≡ []
+  pub empty : bytes ≡ []
   pub opened : new ≡ with_put_by peer (record (put_by_for old peer) { is_open = true }) old
 
 -- Bytes are given for a peer: after frames for which nothing is given, those for that peer are next, or none waits.

@@ -16,7 +16,8 @@ ghost use Rattle.am_server.specs.Talks.{Closes, IsGiven, KeepsGone, Rests, Waits
 ghost use Rattle.am_server.specs.Talks.Saying.{Silent};
 ghost use Rattle.am_server.specs.Waiting.{request_of};
 ghost use Rattle.am_daemon.specs.Calling.{Follows, GivesOrWaits, IsCalled, IsPutOff, IsTurnedAwayFor};
-ghost use Rattle.am_backend.specs.CommitStates.{came, uncommitted};
+ghost use Rattle.am_backend.specs.CommitStates.{came, disk_of, uncommitted};
+ghost use Rattle.am_backend.specs.Outbound.{IsQueued};
 ghost use Rattle.am_backend.specs.Stores.{IsFollowed};
 
 use super::counting::{count_decided, count_decision};
@@ -620,6 +621,8 @@ impl<U: Backend> ServerState<'_, U> {
     fn made(&mut self, instance: &Instance, making: ReplyBuilder, outbox: FrameSender) -> Called
         ensures made { result ≡ Called.Made making (came (U.store_of self.old.backend).commit_state) }
         ensures follows { IsFollowed outbox (U.store_of self.old.backend) (U.store_of self.new.backend) }
+        // PROMISE: What the step of a call sends to peers waits behind what waited before, in order.
+        ensures queued { IsQueued (disk_of (U.store_of self.old.backend).commit_state) outbox (U.outbound self.old.backend) (U.outbound self.new.backend) }
     {
         let changes = self.backend.commit_state().changes();
         self.backend.follow(instance.config(), None, outbox, None);

@@ -1,9 +1,14 @@
 //! The exchanges with the Alertmanagers beside a member: it takes what they answer, a stretch in each turn of the loop, and
 //! sends them what they lack.
 
-ghost use Rattle.std.specs.Prelude.{◌≡◌, false, Some, IfSome, MatchOption, option_map};
+ghost use Rattle.std.specs.Prelude.{◌≡◌, ℕ, false, Some, IfSome, MatchOption, Result, option_map};
 ghost use Rattle.am_alertmanager.specs.Comings.{frame_in};
-ghost use Rattle.am_backend.specs.CommitStates.{uncommitted};
+ghost use Rattle.am_backend.specs.CommitStates.{disk_of, uncommitted};
+ghost use Rattle.am_backend.specs.Outbound.{IsSentOn};
+ghost use Rattle.am_gossip.specs.declared.refusals.StepError.{StepError};
+ghost use Rattle.am_instance.specs.OneStep.{IsStep};
+ghost use Rattle.am_instance.specs.declared.event.Event.TheVariants as events;
+ghost use Rattle.am_instance.specs.declared.reply.Outcome.{Outcome};
 ghost use Rattle.am_server.specs.Answered.{ByItself, IsStepOfFrame};
 ghost use Rattle.am_daemon.specs.Offers.{GivesFrames, IsAtRest, IsOffered, Passes, for_peers};
 
@@ -31,7 +36,10 @@ fn take_from<U: Backend>(
     place: usize,
     frame: Frame,
 )
-    ensures { IsStepOfFrame (Some (place, frame)) instance.old instance.new }
+    ensures step { IsStepOfFrame (Some (place, frame)) instance.old instance.new }
+    // PROMISE: What the step of an Alertmanager's frame sends to peers waits behind what waited before, in order.
+    ensures sent { (now : ℕ) × (answer : Result Outcome StepError) × IsStep instance.old (events.Frame place frame) now answer instance.new
+        × IsSentOn (disk_of (U.store_of backend.old).commit_state) answer (U.outbound backend.old) (U.outbound backend.new) }
 {
     let sender = place as Place;
     let now = backend.next_moment(instance.last());

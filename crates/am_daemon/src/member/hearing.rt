@@ -6,7 +6,8 @@ ghost use Rattle.am_http.specs.Sessions.{name_of, spoken};
 ghost use Rattle.am_server.specs.Answered.{IsAnswered, IsTaken, SaysBy};
 ghost use Rattle.am_server.specs.Talks.{Closes, IsClosed, IsOwnLine, KeepsBy, Stays, WaitsAs, talk_of};
 ghost use Rattle.am_member.specs.Exchanging.{IsSessionAnswer, left_at};
-ghost use Rattle.am_backend.specs.CommitStates.{came, uncommitted};
+ghost use Rattle.am_backend.specs.CommitStates.{came, disk_of, uncommitted};
+ghost use Rattle.am_backend.specs.Outbound.{IsQueued};
 ghost use Rattle.am_backend.specs.Stores.{SendsNews};
 
 use super::counting::count_said;
@@ -172,6 +173,8 @@ impl<U: Backend> ServerState<'_, U> {
         ensures says { SaysBy exchanged.reply (talk_of connection.old).saying (talk_of connection.new).saying }
         // PROMISE: With logs, the reply of a step that sends a version to the place of the disk waits for the next commit, as one that has changed something.
         ensures waits { IsSome exchanged.reply → SendsNews exchanged.effects.outbox (U.store_of self.old.backend) → WaitsAs true connection.new.work }
+        // PROMISE: What the steps of a connection send to peers waits behind what waited before, in order.
+        ensures queued { IsQueued (disk_of (U.store_of self.old.backend).commit_state) exchanged.effects.outbox (U.outbound self.old.backend) (U.outbound self.new.backend) }
     {
         let SessionAnswer {
             reply,
