@@ -84,7 +84,7 @@ A silence that is posted to a member meets these clauses, in this order. `am_dae
 5. `am_reactor::run`, peered: just what is given for a peer leaves over the link to it, in order, each byte once, or is told lost.
 6. At the other end a frame is fed, passes and is heard as a request is (steps 1 to 3 above; `am_gossip::Feeder::feed`), and is one step (step 5), of the place of its sender.
 
-That what a connection's steps gave is what `reply` gets, and what a call's step gave what `made` gets, no clause says, nor which part of all that is held is next, and that frames are dropped only where too many bytes are put by or memory ran out: one reads it in am_daemon. The loop's clauses have what is given for a peer, but not when nothing is: rested is one of the handler's call.
+That what a connection's steps gave is what `reply` gets, and what a call's step gave what `made` gets, no clause says, nor which part of all that is held is next, and that frames are dropped only where too many bytes are put by or memory ran out: one reads it in am_daemon. The loop's clauses have what is given for a peer, but not when nothing is: rested is one of the server's call.
 """
 
 TAIL = """## Only tested

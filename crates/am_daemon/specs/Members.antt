@@ -1,6 +1,6 @@
 -- A member as its connections come and go.
 use Rattle.std.specs.Prelude.{◌≡◌}
-use Rattle.am_daemon.specs.declared.handler.Member.{Member}
+use Rattle.am_daemon.specs.declared.running.Member.{Member}
 
 -- The member's instance and the lock of its gates are unchanged.
 abbrev pub IsSameMember : {A : Type 0} → Member A → Member A → Type 0

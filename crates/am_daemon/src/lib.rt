@@ -1,8 +1,8 @@
 //! A member as a process: its start, its files, what it answers, what it does by itself, and the lines that it prints.
 #![tactic(auto)]
 
-mod handler;
 mod live;
 mod member;
+mod running;
 
 pub use member::run;

@@ -9,7 +9,7 @@ mod hearing;
 mod links;
 mod pending_frames;
 mod resuming;
-mod server;
+pub(crate) mod server;
 mod server_state;
 mod serving;
 mod start;

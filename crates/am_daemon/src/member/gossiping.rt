@@ -220,7 +220,7 @@ impl<U: Backend> Server<'_, U> {
     }
 
     /// Returns the next question or message for a replica. A message goes out only after what it tells is committed.
-    pub(super) fn next_question(&mut self, instance: &Instance) -> Option<PeerBytes>
+    pub fn next_question(&mut self, instance: &Instance) -> Option<PeerBytes>
         ensures { IfSome result (λ it. uncommitted (U.store_of self.old.state.backend).commit_state ≡ false) }
     {
         if self.state.backend.commit_state().has_changes() {

@@ -1,8 +1,11 @@
 //! The work that a member does for the loop that serves it.
 
-ghost use Rattle.std.specs.Prelude.{◌≡◌, false, IfNone, IfSome};
+ghost use Rattle.std.specs.Prelude.{◌≡◌, ◌⊎◌, false, IfNone, IfSome};
 ghost use Rattle.std.specs.Option.{option_map};
-ghost use Rattle.am_server.specs.Talks.{IsReleased, Lasts, talk_of};
+ghost use Rattle.am_http.specs.Sessions.{SaysEnd, Spoken, name_of, over as ended_under};
+ghost use Rattle.am_server.specs.Answered.{ByItself, ForPages, IsAnswered};
+ghost use Rattle.am_server.specs.Talking.{IsLetIn, IsScreened, IsTakenUp, fresh_talk};
+ghost use Rattle.am_server.specs.Talks.{IsGivenOn, IsReleased, Lasts, talk_of};
 ghost use Rattle.am_backend.specs.CommitStates.{kept, uncommitted as uncommitted_in};
 ghost use Rattle.am_backend.specs.Stores.{IsKept};
 ghost use Rattle.am_daemon.specs.Offers.{IsAtRest, IsGiven, IsOffered, for_peers};
@@ -12,7 +15,6 @@ use super::guarding::accepted_at;
 use super::links::address_of;
 use super::server::Server;
 use super::server_state::random_challenge;
-use crate::handler::Handler;
 use am_backend::{Backend, place_of, sooner};
 use am_diagnostics::Fault;
 use am_instance::{Config, Instance, Place};
@@ -39,28 +41,28 @@ fn fault_of(broken: Broken, is_over: bool) -> Option<Fault> {
     })
 }
 
-impl<U: Backend> Handler for Server<'_, U> {
-    ghost uncommitted = { λ server. uncommitted_in (U.store_of server.state.backend).commit_state };
-
-    ghost offers = { λ server peer bytes server'. IsOffered peer bytes (for_peers U.outbound U.sealed_by server.state) (for_peers U.outbound U.sealed_by server'.state) };
-
-    ghost rests = { λ server server'. IsAtRest (for_peers U.outbound U.sealed_by server.state) (for_peers U.outbound U.sealed_by server'.state) };
-
-    ghost gives = { λ config server peer answer bytes server'. IsGiven config peer answer bytes (for_peers U.outbound U.sealed_by server.state) (for_peers U.outbound U.sealed_by server'.state) };
-
-    fn begin(&mut self, entrance: Entrance) -> ConnectionState {
+// (the calls of a `Service`; only one that is handed the instance to be changed makes steps of it)
+impl<U: Backend> Server<'_, U> {
+    /// Returns the state of a connection that came by an entrance.
+    pub fn begin(&mut self, entrance: Entrance) -> ConnectionState
+        ensures { talk_of result ≡ fresh_talk }
+    {
         self.state.backend.figures().begin();
         let accepts = accepted_at(self.state.backend.options(), entrance);
         ConnectionState::new(self.state.alloc, accepts)
     }
 
-    fn feed(
+    /// Takes what came on a connection, and answers what was said by it. `lock` is the one by which frames are opened.
+    pub fn feed(
         &mut self,
         instance: &mut Instance,
         connection: &mut ConnectionState,
         lock: Option<Lock<'_>>,
         piece: &[u8],
-    ) {
+    )
+        ensures { IsScreened instance.old (talk_of connection.old) instance.new (talk_of connection.new)
+            ⊎ IsLetIn lock.entry piece.now instance.old (talk_of connection.old) instance.new (talk_of connection.new) }
+    {
         if let Some(refusal) = connection.screen(piece, self.state.hosts.as_slice()) {
             return self.state.refuse(connection, &refusal);
         }
@@ -71,12 +73,19 @@ impl<U: Backend> Handler for Server<'_, U> {
         self.state.hear_authenticated(instance, connection, heard);
     }
 
-    fn end(&mut self, instance: &mut Instance, connection: &mut ConnectionState) {
+    /// Answers what was said by the end of a connection's input.
+    pub fn end(&mut self, instance: &mut Instance, connection: &mut ConnectionState)
+        ensures { (said : Spoken) × SaysEnd connection.old.session said × IsAnswered said instance.old
+            (record (talk_of connection.old) { session = ended_under (name_of connection.old.session) }) instance.new (talk_of connection.new) }
+    {
         let heard = connection.authenticator.end(&mut connection.session);
         self.state.hear_authenticated(instance, connection, heard);
     }
 
-    fn broken(&mut self, config: &Config, connection: &mut ConnectionState, broken: Broken) {
+    /// Counts and reports a connection that was closed before its end.
+    pub fn broken(&mut self, config: &Config, connection: &mut ConnectionState, broken: Broken)
+        ensures { talk_of connection.new ≡ talk_of connection.old }
+    {
         if connection.turn().is_some() {
             self.state.turns.end();
         }
@@ -91,56 +100,81 @@ impl<U: Backend> Handler for Server<'_, U> {
         }
     }
 
-    fn may_resume(&self) -> bool {
+    /// Returns whether connections that wait may go on.
+    pub fn may_resume(&self) -> bool {
         !self.state.duties.waits_for_pull()
     }
 
-    fn resume(&mut self, instance: &mut Instance, connection: &mut ConnectionState) {
+    /// Goes on with a connection that waits.
+    pub fn resume(&mut self, instance: &mut Instance, connection: &mut ConnectionState)
+        ensures { IsTakenUp (talk_of connection.old).waiting instance.old (talk_of connection.old) instance.new (talk_of connection.new) }
+    {
         self.state.resume(instance, connection);
     }
 
-    fn has_uncommitted(&self) -> bool {
+    /// Returns whether something was done since the last commit that is to be committed.
+    pub fn has_uncommitted(&self) -> bool
+        ensures { result ≡ uncommitted_in (U.store_of self.now.state.backend).commit_state }
+    {
         self.state.backend.commit_state().has_changes()
     }
 
-    fn commit(&mut self, instance: &Instance)
-        ensures { IsKept instance.now (U.store_of self.old.state.backend) (U.store_of self.new.state.backend) }
+    /// Commits what was done so far.
+    pub fn commit(&mut self, instance: &Instance)
+        ensures kept { IsKept instance.now (U.store_of self.old.state.backend) (U.store_of self.new.state.backend) }
+        ensures committed { uncommitted_in (U.store_of self.new.state.backend).commit_state ≡ false }
     {
         self.state.backend.keep(instance);
     }
 
-    fn release(&mut self, connection: &mut ConnectionState)
+    /// Has the reply go out that waited for a commit.
+    pub fn release(&mut self, connection: &mut ConnectionState)
+        requires { uncommitted_in (U.store_of self.old.state.backend).commit_state ≡ false }
         ensures same { self.new ≡ self.old }
         ensures lasts { Lasts (talk_of connection.old) (talk_of connection.new) }
         // PROMISE: A reply that says that something changed goes out after a commit only if the commit has kept everything, and otherwise a line with status 500 does.
         ensures kept { IsReleased (kept (U.store_of self.old.state.backend).commit_state) connection.old.work (talk_of connection.new).saying }
+        ensures committed { uncommitted_in (U.store_of self.new.state.backend).commit_state ≡ false }
     {
         let is_kept = self.state.backend.commit_state().is_kept();
         connection.release(self.state.alloc, is_kept);
     }
 
-    fn due(&self, connection: &ConnectionState) -> Option<Instant> {
+    /// Returns the moment for which the reply of a connection waits, if one does.
+    pub fn due(&self, connection: &ConnectionState) -> Option<Instant> {
         match connection.turn() {
             Some(turn) => Some(turn.due(self.are_heard(turn))),
             None => connection.limit(),
         }
     }
 
-    fn reach_deadline(&mut self, instance: &mut Instance, connection: &mut ConnectionState) {
+    /// Goes on with a connection whose moment has come.
+    pub fn reach_deadline(&mut self, instance: &mut Instance, connection: &mut ConnectionState)
+        ensures steps { ForPages instance.old instance.new }
+        ensures lasts { Lasts (talk_of connection.old) (talk_of connection.new) }
+        ensures given { IsGivenOn instance.old (talk_of connection.old).saying instance.new (talk_of connection.new).saying }
+    {
         self.tell_missed(instance.config(), connection);
         self.state.resume_in_turn(instance, connection);
     }
 
-    fn abandon_wait(&mut self, connection: &mut ConnectionState) {
+    /// Turns away a connection that waits, since the member stops.
+    pub fn abandon_wait(&mut self, connection: &mut ConnectionState)
+        ensures { Lasts (talk_of connection.old) (talk_of connection.new) }
+    {
         let said = connection.take_waiting();
         connection.refuse_unready(self.state.alloc, said);
     }
 
-    fn count_done(&mut self, connection: &mut ConnectionState) {
+    /// Counts what is done of a connection.
+    pub fn count_done(&mut self, connection: &mut ConnectionState)
+        ensures { talk_of connection.new ≡ talk_of connection.old }
+    {
         count_where_done(&mut self.state.backend, connection);
     }
 
-    fn outgoing(&mut self, config: &Config) -> Option<PeerBytes>
+    /// Returns what is given for the next peer, if anything is.
+    pub fn outgoing(&mut self, config: &Config) -> Option<PeerBytes>
         // PROMISE: What is given for a peer is the text of just the frames that wait for it, in order, each once; or, where frames are sealed, these are put by for it, behind those before, and a link is opened; or none waits, and a link is opened for what is held.
         ensures offered { IfSome result (λ it. IsOffered it.peer it.bytes.items (for_peers U.outbound U.sealed_by self.old.state) (for_peers U.outbound U.sealed_by self.new.state)) }
         // PROMISE: Once all is committed, nothing is given only if no frame waits any more.
@@ -157,15 +191,9 @@ impl<U: Backend> Handler for Server<'_, U> {
         }
     }
 
-    fn question(&mut self, instance: &Instance) -> Option<PeerBytes> {
-        self.next_question(instance)
-    }
-
-    fn answered(&mut self, peer: usize, answer: Vec<u8>) {
-        self.replicas.answered(peer, answer);
-    }
-
-    fn more(&mut self, instance: &Instance, peer: usize, answer: &[u8]) -> Option<Vec<u8>>
+    /// Returns what is given for a peer that has answered with these bytes, if anything is.
+    pub fn more(&mut self, instance: &Instance, peer: usize, answer: &[u8]) -> Option<Vec<u8>>
+        requires { uncommitted_in (U.store_of self.old.state.backend).commit_state ≡ false }
         // PROMISE: What a link is given once its peer has answered is the text of just the frames that were put by for that peer, in order, each once, or else of one part of all that is held, sealed, if it is, for their places in the connection; if there is no memory for it, these frames are counted as not sent.
         ensures { IsGiven instance.now.config peer answer.now (option_map (λ bytes. bytes.items) result)
             (for_peers U.outbound U.sealed_by self.old.state) (for_peers U.outbound U.sealed_by self.new.state) }
@@ -174,7 +202,8 @@ impl<U: Backend> Handler for Server<'_, U> {
         self.state.next_text(instance, peer, answer)
     }
 
-    fn lost(&mut self, config: &Config, peer: usize, fault: LinkFault) {
+    /// Reports a link to a peer, or an exchange with a replica, that is lost.
+    pub fn lost(&mut self, config: &Config, peer: usize, fault: LinkFault) {
         let address = if self.replicas.is_at(peer) {
             self.replicas.lost(peer);
             address_of(&self.state.asked, peer)
@@ -187,7 +216,10 @@ impl<U: Backend> Handler for Server<'_, U> {
             .tell_of(config, Some(peer as Place), fault);
     }
 
-    fn wake(&mut self, instance: &mut Instance, now: Instant) -> Wake {
+    /// Does what is due, and returns the time until there is more to be done.
+    pub fn wake(&mut self, instance: &mut Instance, now: Instant) -> Wake
+        ensures { ByItself instance.old instance.new }
+    {
         self.do_duties(instance, now);
         if self.state.stops {
             self.state.give_up_first_pull(now);
@@ -197,11 +229,8 @@ impl<U: Backend> Handler for Server<'_, U> {
         Wake::GoOn(sooner(gossip, self.state.left(instance, now)))
     }
 
-    fn input_ended(&mut self) {
-        self.state.stops = true;
-    }
-
-    fn accept_failed(&mut self, config: &Config, kind: ErrorKind) {
+    /// Reports a connection that couldn't be accepted.
+    pub fn accept_failed(&mut self, config: &Config, kind: ErrorKind) {
         self.state.backend.figures().miss();
         self.state
             .backend

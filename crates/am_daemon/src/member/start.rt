@@ -4,8 +4,8 @@ use super::guarding::{hosts_of, opening};
 use super::pending_frames::PendingFrames;
 use super::server::Server;
 use super::server_state::ServerState;
-use crate::handler::Member;
 use crate::live::live;
+use crate::running::Member;
 use am_alertmanager::Replicas;
 use am_api_decisions::RecentAlerts;
 use am_backend::{Backend, Host, SystemBackend, config_of, lock_of, secret_of};
@@ -64,12 +64,12 @@ fn run_kept<R: Host, U: Backend + Drop>(
     instance: Instance,
     backend: U,
 ) -> Result<Option<Fault>, Fault> {
-    let handler = server_with(rt, options, instance.config(), backend)?;
+    let server = server_with(rt, options, instance.config(), backend)?;
     let entrances = entrances(rt, options)?;
     let mut member = Member {
         instance,
         lock,
-        handler,
+        server,
     };
     Ok(run_member(rt, options, &mut member, entrances))
 }
@@ -96,18 +96,18 @@ fn entrances<R: Net>(rt: &R, options: &Options<'_>) -> Result<Entrances, Fault> 
 fn run_member<R: Clock + Eprint + Input + Net, U: Backend>(
     rt: &R,
     options: &Options<'_>,
-    member: &mut Member<'_, Server<'_, U>>,
+    member: &mut Member<'_, U>,
     entrances: Entrances,
 ) -> Option<Fault> {
     begin(rt, member);
     let failed = serve(rt, options, member, entrances);
-    member.handler.state.backend.end(&member.instance, failed)
+    member.server.state.backend.end(&member.instance, failed)
 }
 
 /// Reports the start of a member, and does what that leaves to be done.
-fn begin<R: Eprint, U: Backend>(rt: &R, member: &mut Member<'_, Server<'_, U>>) {
+fn begin<R: Eprint, U: Backend>(rt: &R, member: &mut Member<'_, U>) {
     let instance = &member.instance;
-    let backend = &mut member.handler.state.backend;
+    let backend = &mut member.server.state.backend;
     if backend.has_room_for_line() {
         tell_start(rt, instance, backend.options());
     }
@@ -146,14 +146,14 @@ fn fault_of(why: Unserved) -> Fault {
 fn serve<R: Clock + Input + Net, U: Backend>(
     rt: &R,
     options: &Options<'_>,
-    member: &mut Member<'_, Server<'_, U>>,
+    member: &mut Member<'_, U>,
     entrances: Entrances,
 ) -> Option<Fault> {
     match serve_peers(rt, options, member, entrances) {
         Ok(()) => None,
         Err(why) => {
             let config = member.instance.config();
-            let backend = &mut member.handler.state.backend;
+            let backend = &mut member.server.state.backend;
             backend.tell_of(config, None, fault_of(why));
             Some(fault_of(why))
         }
@@ -164,17 +164,17 @@ fn serve<R: Clock + Input + Net, U: Backend>(
 fn serve_peers<R: Clock + Input + Net, U: Backend>(
     rt: &R,
     options: &Options<'_>,
-    member: &mut Member<'_, Server<'_, U>>,
+    member: &mut Member<'_, U>,
     entrances: Entrances,
 ) -> Result<(), Unserved> {
-    let alloc = member.handler.state.alloc;
+    let alloc = member.server.state.alloc;
     let Ok(greeting) = opening(alloc, options.name, member.lock.is_some()) else {
         return Err(Unserved::Memory);
     };
-    let Ok(links) = member.handler.state.addresses.clone() else {
+    let Ok(links) = member.server.state.addresses.clone() else {
         return Err(Unserved::Memory);
     };
-    let Ok(asked) = member.handler.state.asked.clone() else {
+    let Ok(asked) = member.server.state.asked.clone() else {
         return Err(Unserved::Memory);
     };
     let peers = Peers {
