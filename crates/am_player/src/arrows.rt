@@ -4,7 +4,7 @@ use crate::escape::append_escaped;
 use crate::layout::{beyond, edge_of, flight_of, lane_of, loss_of, middle_of};
 use crate::mark::{Mark, Verb};
 use crate::scene::{Fate, Sending};
-use crate::sheet::{Sheet, Stroke, append_title, open_curve};
+use crate::sheet::{Position, Sheet, Stroke, append_title, open_curve};
 use am_replay::kind_name;
 use std::alloc::AllocError;
 
@@ -25,14 +25,19 @@ fn append_sending(
     let (sender, addressee) = (sending.sender, sending.addressee);
     match sending.fate {
         Fate::Flying => {
-            let x2 = flight_of(sender, addressee);
-            let y2 = beyond(sending.column, sender, addressee);
-            open_sending(sheet, out, "frame fly", sending, x2, y2)?;
+            let end = Position {
+                x: flight_of(sender, addressee),
+                y: beyond(sending.column, sender, addressee),
+            };
+            open_sending(sheet, out, "frame fly", sending, end)?;
             out.push_str(", still in flight</title></path>\n")
         }
         Fate::Lost(column) => {
-            let (x2, y2) = (loss_of(sender, addressee), middle_of(column));
-            open_sending(sheet, out, "frame", sending, x2, y2)?;
+            let end = Position {
+                x: loss_of(sender, addressee),
+                y: middle_of(column),
+            };
+            open_sending(sheet, out, "frame", sending, end)?;
             let line = sheet.scene.line_of(column);
             writeln!(out, ", lost by line {line}</title></path>")
         }
@@ -61,8 +66,11 @@ fn append_delivery(
     let Some(sending) = sheet.scene.frame_of(mark) else {
         return Ok(());
     };
-    let (x2, y2) = (lane_of(sending.addressee), middle_of(column));
-    open_sending(sheet, out, "frame tip", sending, x2, y2)?;
+    let end = Position {
+        x: lane_of(sending.addressee),
+        y: middle_of(column),
+    };
+    open_sending(sheet, out, "frame tip", sending, end)?;
     let line = mark.line;
     writeln!(out, ", delivered by line {line}</title></path>")
 }
@@ -94,14 +102,13 @@ fn open_sending(
     out: &mut String,
     class: &str,
     sending: &Sending,
-    x2: u64,
-    y2: u64,
+    end: Position,
 ) -> Result<(), AllocError> {
     let stroke = Stroke {
         x1: lane_of(sending.sender),
         y1: middle_of(sending.column),
-        x2,
-        y2,
+        x2: end.x,
+        y2: end.y,
     };
     open_curve(out, class, &stroke)?;
     let (number, kind) = (sending.number, kind_name(sending.kind));

@@ -2,7 +2,7 @@
 
 use crate::lanes::{MOST_OF_NAME, runs_at_end};
 use crate::layout::{edge_of, end_of};
-use crate::sheet::{Sheet, append_text, append_title};
+use crate::sheet::{Label, Sheet, append_text, append_title};
 use crate::times::append_time;
 use am_cluster::Cluster;
 use am_instance::{Instance, Place};
@@ -83,15 +83,13 @@ fn append_end(
 
 /// Appends the name of a member, and whether it was calm.
 fn append_head(sheet: &Sheet<'_>, out: &mut String, place: Place) -> Result<(), AllocError> {
-    append_text(
-        sheet.alloc,
-        out,
-        "who",
-        0,
-        0,
-        sheet.name(place),
-        MOST_OF_NAME,
-    )?;
+    let label = Label {
+        class: "who",
+        x: 0,
+        y: 0,
+        most: MOST_OF_NAME,
+    };
+    append_text(sheet.alloc, out, &label, sheet.name(place))?;
     append_calm(out, sheet.fault(place))
 }
 
@@ -125,17 +123,22 @@ fn append_lines(alloc: Global, out: &mut String, view: &str) -> Result<(), Alloc
     if lines.is_empty() {
         return write!(out, "<text class=\"dim\" x=\"{SPOT}\">shows nothing</text>");
     }
-    let mut y = 0i32;
+    let mut label = Label {
+        class: "end",
+        x: SPOT,
+        y: 0,
+        most: MOST_OF_LINE,
+    };
     let fits = lines.len() <= MOST_LINES;
     let shown = if fits { lines.len() } else { MOST_LINES - 1 };
     for line in &lines[..shown] {
-        append_text(alloc, out, "end", SPOT, y, line, MOST_OF_LINE)?;
-        y = y.saturating_add(LINE);
+        append_text(alloc, out, &label, line)?;
+        label.y = label.y.saturating_add(LINE);
     }
     if fits {
         return Ok(());
     }
-    let more = lines.len() - shown;
+    let (more, y) = (lines.len() - shown, label.y);
     write!(
         out,
         "<text class=\"dim\" x=\"{SPOT}\" y=\"{y}\">\u{2026} and {more} more</text>"

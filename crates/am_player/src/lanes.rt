@@ -2,7 +2,7 @@
 
 use crate::layout::{edge_of, lane_of, middle_of};
 use crate::mark::{Mark, Verb};
-use crate::sheet::{Sheet, Stroke, append_text, append_title, open_stroke};
+use crate::sheet::{Label, Sheet, Stroke, append_text, append_title, open_stroke};
 use am_instance::Place;
 use std::alloc::AllocError;
 
@@ -28,7 +28,13 @@ fn append_name(
     let x = lane_of(place);
     write!(out, "<g transform=\"translate({x} 52)\">")?;
     append_title(sheet.alloc, out, name)?;
-    append_text(sheet.alloc, out, "name", 0, 0, name, MOST_OF_NAME)?;
+    let label = Label {
+        class: "name",
+        x: 0,
+        y: 0,
+        most: MOST_OF_NAME,
+    };
+    append_text(sheet.alloc, out, &label, name)?;
     out.push_str("</g>\n")
 }
 

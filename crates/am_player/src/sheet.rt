@@ -53,6 +53,13 @@ impl<'a> Sheet<'a> {
     }
 }
 
+/// A position.
+#[derive(Clone, Copy)]
+pub struct Position {
+    pub x: u64,
+    pub y: u64,
+}
+
 /// The two ends of a line.
 #[derive(Clone, Copy)]
 pub struct Stroke {
@@ -86,18 +93,26 @@ fn near(from: u64, to: u64) -> u64 {
     to.saturating_mul(3).saturating_add(from) / 4
 }
 
-/// Appends a text of at most `most` characters at a position.
+/// The place of a text, and how it looks.
+#[derive(Clone, Copy)]
+pub struct Label<'a> {
+    pub class: &'a str,
+    pub x: i32,
+    pub y: i32,
+    /// The most characters that are shown.
+    pub most: usize,
+}
+
+/// Appends a text, shortened to what its label has room for.
 pub fn append_text(
     alloc: Global,
     out: &mut String,
-    class: &str,
-    x: i32,
-    y: i32,
+    label: &Label<'_>,
     text: &str,
-    most: usize,
 ) -> Result<(), AllocError> {
+    let (class, x, y) = (label.class, label.x, label.y);
     write!(out, "<text class=\"{class}\" x=\"{x}\" y=\"{y}\">")?;
-    append_shortened(alloc, out, text, most)?;
+    append_shortened(alloc, out, text, label.most)?;
     out.push_str("</text>")
 }
 
