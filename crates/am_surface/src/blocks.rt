@@ -157,10 +157,10 @@ fn runs_agree(alloc: Global, runs: &[(u64, u64, u64)]) -> Result<bool, AllocErro
     Ok(true)
 }
 
-#[test]
-fn runs_agree_with_a_plain_list(rt: HostRuntime) {
-    // One list grows to both sides of the middle; the other one grows to some thousand numbers, stays, and shrinks to few.
-    let outward = runs_agree(rt.alloc(), &[(0, 1000, 16)]);
-    let random = runs_agree(rt.alloc(), &[(1, 3000, 15), (2, 2000, 8), (3, 6000, 1)]);
-    assert!(rt; outward == Ok(true) && random == Ok(true));
+/// Returns whether lists in blocks agree with plain lists. One list grows to both sides of the middle; the other one grows to
+/// some thousand numbers, stays, and shrinks to few.
+pub fn agree_with_plain_lists(alloc: Global) -> Option<bool> {
+    let outward = runs_agree(alloc, &[(0, 1000, 16)]).ok()?;
+    let random = runs_agree(alloc, &[(1, 3000, 15), (2, 2000, 8), (3, 6000, 1)]).ok()?;
+    Some(outward && random)
 }

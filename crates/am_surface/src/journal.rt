@@ -4,7 +4,6 @@ use am_store::{Batches, Device, Found, Journal, LogError, LogFile, Memory, open_
 use std::alloc::Global;
 use std::fs::{self, File, OpenOptions};
 use std::io::{BufReader, Read};
-use std::test::Fail;
 
 const FOLDER: &str = "am_journal_test";
 
@@ -13,21 +12,27 @@ const PATH: &str = "am_journal_test/log";
 // A whole block of the batch 5 50, followed by a torn one.
 const TORN: [u8; 14] = [1, 2, 0, 0, 0, 0, 0, 0, 0, 5, 50, 1, 9, 0];
 
-#[test]
-fn a_torn_block_is_dropped(rt: HostRuntime) -> Result<(), Fail> {
-    let alloc = rt.alloc();
+// A log of the batch 5 50.
+const ONE: [u8; 12] = [1, 2, 0, 0, 0, 0, 0, 0, 0, 5, 50, 0];
+
+// A log of the batches 5 50 and 6.
+const TWO: [u8; 22] = [
+    1, 2, 0, 0, 0, 0, 0, 0, 0, 5, 50, 1, 1, 0, 0, 0, 0, 0, 0, 0, 6, 0,
+];
+
+/// Returns whether a torn block is dropped behind a whole one, and nothing is read after it.
+pub fn drops_a_torn_block(alloc: Global) -> Option<bool> {
     let mut batches = Batches::new(alloc);
     let mut left = TORN.as_slice();
-    let first = batches.next(&mut left)?;
-    assert_eq!(rt; first.as_deref(), Some([5, 50].as_slice()));
-    assert!(rt; batches.next(&mut left)?.is_none());
-    assert_eq!(rt; batches.end(), 11);
-    assert_eq!(rt; batches.behind(), 3);
-    assert!(rt; matches!(batches.next(&mut left), Err(LogError::Closed)));
-    Ok(())
+    let first = batches.next(&mut left).ok()?;
+    let has_first = first.as_deref() == Some([5, 50].as_slice());
+    let is_dropped = batches.next(&mut left).ok()?.is_none();
+    let is_counted = batches.end() == 11 && batches.behind() == 3;
+    let is_closed = matches!(batches.next(&mut left), Err(LogError::Closed));
+    Some(has_first && is_dropped && is_counted && is_closed)
 }
 
-/// Returns the journal of an empty file after the batches 5 50 and 6.
+// Returns the journal of an empty file after the batches 5 50 and 6.
 #[tactic(auto, unfolding(am_store::specs::Blocks::recovered, am_store::specs::Blocks::recovered_within))]
 fn written(alloc: Global) -> Result<Journal<Memory>, LogError> {
     let file = Memory::new(alloc, Vec::new(alloc));
@@ -41,16 +46,12 @@ fn written(alloc: Global) -> Result<Journal<Memory>, LogError> {
     Ok(journal)
 }
 
-#[test]
-fn batches_are_written(rt: HostRuntime) -> Result<(), Fail> {
-    let journal = written(rt.alloc())?;
-    assert_eq!(rt; journal.len(), 21);
+/// Returns whether batches are written one behind another.
+pub fn writes_batches(alloc: Global) -> Option<bool> {
+    let journal = written(alloc).ok()?;
+    let len = journal.len();
     let file = journal.into_device();
-    let two = [
-        1, 2, 0, 0, 0, 0, 0, 0, 0, 5, 50, 1, 1, 0, 0, 0, 0, 0, 0, 0, 6, 0,
-    ];
-    assert_eq!(rt; file.bytes(), two.as_slice());
-    Ok(())
+    Some(len == 21 && file.bytes() == TWO.as_slice())
 }
 
 fn open_log(rt: &HostRuntime) -> Result<Journal<LogFile<Found>>, LogError> {
@@ -73,27 +74,32 @@ fn open_log(rt: &HostRuntime) -> Result<Journal<LogFile<Found>>, LogError> {
     open_file(file, found)
 }
 
-#[test]
-fn a_file_is_opened_again(rt: HostRuntime) -> Result<(), Fail> {
-    let _ = fs::remove_dir_all(&rt, FOLDER);
-    fs::create_dir(&rt, FOLDER)?;
-    let mut journal = open_log(&rt)?;
-    journal.commit(rt.alloc(), &[5, 50])?;
+// Returns whether a new file has the batch that is committed to it.
+fn is_begun(rt: &HostRuntime) -> Option<bool> {
+    let mut journal = open_log(rt).ok()?;
+    journal.commit(rt.alloc(), &[5, 50]).ok()?;
     drop(journal);
-    let torn = fs::read(&rt, PATH)?;
-    assert_eq!(rt;
-        torn.as_slice(),
-        [1, 2, 0, 0, 0, 0, 0, 0, 0, 5, 50, 0].as_slice()
-    );
-    fs::write(&rt, PATH, TORN.as_slice())?;
-    let mut journal = open_log(&rt)?;
-    assert_eq!(rt; journal.len(), 11);
-    journal.commit(rt.alloc(), &[6])?;
+    let log = fs::read(rt, PATH).ok()?;
+    Some(log.as_slice() == ONE.as_slice())
+}
+
+// Returns whether a file with a torn block goes on behind its whole one.
+fn goes_on(rt: &HostRuntime) -> Option<bool> {
+    fs::write(rt, PATH, TORN.as_slice()).ok()?;
+    let mut journal = open_log(rt).ok()?;
+    let len = journal.len();
+    journal.commit(rt.alloc(), &[6]).ok()?;
     drop(journal);
-    let two = [
-        1, 2, 0, 0, 0, 0, 0, 0, 0, 5, 50, 1, 1, 0, 0, 0, 0, 0, 0, 0, 6, 0,
-    ];
-    assert_eq!(rt; fs::read(&rt, PATH)?.as_slice(), two.as_slice());
-    fs::remove_dir_all(&rt, FOLDER)?;
-    Ok(())
+    let log = fs::read(rt, PATH).ok()?;
+    Some(len == 11 && log.as_slice() == TWO.as_slice())
+}
+
+/// Returns whether a log in a file goes on when it is opened again, in a folder that is made for this and removed.
+pub fn opens_a_file_again(rt: &HostRuntime) -> Option<bool> {
+    let _ = fs::remove_dir_all(rt, FOLDER);
+    fs::create_dir(rt, FOLDER).ok()?;
+    let is_begun = is_begun(rt);
+    let goes_on = goes_on(rt);
+    fs::remove_dir_all(rt, FOLDER).ok()?;
+    Some(is_begun? && goes_on?)
 }

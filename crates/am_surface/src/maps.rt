@@ -4,7 +4,6 @@ use crate::notes::{Note, at, mixed};
 use am_merge::Held;
 use am_version_order::{Moment, Version};
 use std::alloc::{AllocError, Global};
-use std::test::Fail;
 
 /// The buckets that notes are in, and one that no note is in.
 const BUCKETS: [&[u8]; 5] = [b"", b"x", b"y", b"z", b"none"];
@@ -158,13 +157,14 @@ fn merge_as_lists(alloc: Global, count: u64, others: u64) -> Result<bool, AllocE
     Ok(merge_many(&mut twins, 2, others)? && twins.agree())
 }
 
-#[test]
-fn large_maps_merge_as_lists_do(rt: HostRuntime) -> Result<(), Fail> {
+/// Returns whether large maps merge as lists do.
+pub fn all_merge_as_lists(alloc: Global) -> Option<bool> {
     for (count, others) in [(0, 300), (80, 600), (600, 600), (600, 80), (600, 1)] {
-        let agree = merge_as_lists(rt.alloc(), count, others)?;
-        assert!(rt; agree, "{others} notes merged into {count}");
+        if !merge_as_lists(alloc, count, others).ok()? {
+            return Some(false);
+        }
     }
-    Ok(())
+    Some(true)
 }
 
 // Makes the event that a number decides. Returns `false` if map and list answer differently.
@@ -180,12 +180,14 @@ fn step(twins: &mut Twins, number: u64) -> Result<bool, AllocError> {
     Ok(true)
 }
 
-#[test]
-fn random_runs_agree_with_a_plain_list(rt: HostRuntime) -> Result<(), Fail> {
-    let mut twins = Twins::new(rt.alloc());
+/// Returns whether a map and a list agree after each of 400 events.
+pub fn agree_with_a_plain_list(alloc: Global) -> Option<bool> {
+    let mut twins = Twins::new(alloc);
     for number in 0..400 {
-        let agree = step(&mut twins, number)? && twins.agree();
-        assert!(rt; agree, "at step {number}");
+        let is_answered_alike = step(&mut twins, number).ok()?;
+        if !is_answered_alike || !twins.agree() {
+            return Some(false);
+        }
     }
-    Ok(())
+    Some(true)
 }

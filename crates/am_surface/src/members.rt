@@ -1,4 +1,4 @@
-//! The member that tests use, and the moment of its next event.
+//! The member that other modules use, and the moment of its next event.
 
 use am_instance::{Config, Instance};
 use am_merge::Held;
@@ -54,8 +54,8 @@ impl Clock for Standing {
     }
 }
 
-#[test]
-fn the_next_moment_is_the_clocks_where_it_can_be_read(rt: HostRuntime) {
-    assert!(rt; next_moment(&Standing(Some(Duration::from_secs(20))), at(10)) == at(20));
-    assert!(rt; next_moment(&Standing(None), at(10)) == at(10));
+/// Returns whether the next moment is the clock's if that can be read, and else the last one.
+pub fn follow_clocks() -> bool {
+    next_moment(&Standing(Some(Duration::from_secs(20))), at(10)) == at(20)
+        && next_moment(&Standing(None), at(10)) == at(10)
 }

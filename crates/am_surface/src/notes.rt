@@ -1,4 +1,4 @@
-//! The versions that tests use, and the numbers that runs follow from.
+//! Versions of a type of this crate's own, and the numbers that runs follow from.
 
 ghost use Rattle.std.specs.Prelude.{◌≡◌};
 ghost use Rattle.std.proofs.Common.{refl, sym};
@@ -9,7 +9,7 @@ use am_version_order::{Interval, Moment, Version};
 use std::alloc::{AllocError, Global};
 
 /// Two bytes under a letter. The first byte is the bucket, unless it is 0.
-#[derive(Clone, Copy, Debug, PartialEq, Eq)]
+#[derive(Clone, Copy, PartialEq, Eq)]
 pub struct Note {
     pub id: u8,
     pub updated: Moment,

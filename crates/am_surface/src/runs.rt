@@ -33,7 +33,7 @@ enum Verb {
 type Act = (Verb, usize, u32);
 
 /// The reports on a run.
-#[derive(Clone, Copy, Debug)]
+#[derive(Clone, Copy)]
 struct Tally {
     /// True if a report ever differed from that of plain loops.
     differs: bool,
@@ -201,25 +201,20 @@ fn told(alloc: Global, draw: Draw, seeds: u64) -> Result<Tally, AllocError> {
     Ok(tally)
 }
 
-// Returns whether plain loops gave the same reports, and runs were timely, and untimely, at least `both` times each.
-fn has_agreed(told: &Result<Tally, AllocError>, both: usize) -> bool {
-    match told {
-        Ok(tally) => !tally.differs && tally.timely.min(tally.untimely) >= both,
-        Err(_) => false,
-    }
+/// Returns whether plain loops gave the same reports on drawn runs, and the runs were timely, and untimely, at least 20 times
+/// each.
+pub fn are_told_as_by_loops(alloc: Global) -> Option<bool> {
+    let tally = told(alloc, Draw::Crowd, 10).ok()?;
+    Some(!tally.differs && tally.timely.min(tally.untimely) >= 20)
 }
 
-#[test]
-fn drawn_runs_are_told_of_as_plain_loops_do(rt: HostRuntime) {
-    let told = told(rt.alloc(), Draw::Crowd, 10);
-    assert!(rt; has_agreed(&told, 20), "{told:?}");
-}
-
-#[test]
-fn what_was_lost_far_from_where_it_came_is_missed_until_it_comes_again(rt: HostRuntime) {
+/// Returns whether plain loops gave the same reports, and what was lost far from where it came is missed until it comes again.
+pub fn miss_what_was_lost(alloc: Global) -> Option<bool> {
     for taken_again in [false, true] {
-        let told = told(rt.alloc(), Draw::Far(taken_again), 1);
-        let last = told.map(|tally| tally.last);
-        assert!(rt; has_agreed(&told, 0) && last == Ok(taken_again), "{told:?}");
+        let tally = told(alloc, Draw::Far(taken_again), 1).ok()?;
+        if tally.differs || tally.last != taken_again {
+            return Some(false);
+        }
     }
+    Some(true)
 }

@@ -17,7 +17,7 @@ use std::io::{self, Read};
 const MOST: usize = 67_108_864;
 
 /// A thing that is made from a text of some length.
-#[derive(Clone, Copy, Debug)]
+#[derive(Clone, Copy)]
 enum Made {
     /// The bytes of a silence that has the text as its comment.
     Silence,
@@ -61,28 +61,34 @@ fn is_limit(alloc: Global, made: Made, beside: usize) -> bool {
         && length(alloc, made, len.saturating_add(1)) == Err(SilenceError::TooLarge)
 }
 
-#[test]
-fn versions_and_rows_have_no_byte_more(rt: HostRuntime) {
+/// Returns whether versions and rows are made of exactly the maximum, and of no byte more.
+pub fn bound_versions_and_rows(alloc: Global) -> bool {
     for (made, beside) in [
         (Made::Silence, 30),
         (Made::Held, 40),
         (Made::Row, 44),
         (Made::Entry, 31),
     ] {
-        assert!(rt; is_limit(rt.alloc(), made, beside), "{made:?}");
+        if !is_limit(alloc, made, beside) {
+            return false;
+        }
     }
+    true
 }
 
-#[test]
-fn versions_of_posts_and_ends_have_no_byte_more(rt: HostRuntime) {
+/// Returns whether posts and ends make versions of exactly the maximum, and of no byte more.
+pub fn bound_posts_and_ends(alloc: Global) -> bool {
     for (made, beside) in [
         (Made::Posted, 75),
         (Made::Updated, 40),
         (Made::Replaced, 45),
         (Made::Ended, 45),
     ] {
-        assert!(rt; is_limit(rt.alloc(), made, beside), "{made:?}");
+        if !is_limit(alloc, made, beside) {
+            return false;
+        }
     }
+    true
 }
 
 fn of_wire(error: WireError) -> SilenceError {
@@ -237,12 +243,15 @@ fn answered_by(alloc: Global, len: usize) -> Option<Answered> {
     answered(alloc, &mut member)
 }
 
-// A version of the maximum size is made, and is too large for a Delta to either peer; with one byte more none is made.
-#[test]
-fn a_member_makes_no_version_of_a_byte_more(rt: HostRuntime) {
+/// Returns whether a member makes a version of the maximum size, which is too large for a Delta to either peer, and none with
+/// one byte more.
+pub fn bound_members(alloc: Global) -> Option<bool> {
     for (len, wanted) in [(MOST - 45, (false, 0, 2)), (MOST - 44, (true, 0, 0))] {
-        assert!(rt; answered_by(rt.alloc(), len) == Some(wanted), "{len}");
+        if answered_by(alloc, len)? != wanted {
+            return Some(false);
+        }
     }
+    Some(true)
 }
 
 // Returns the entry of a group key of `len` letters `g` and the receiver `r`, `w`, 0, at 10 s, with 1 and 2 firing.
@@ -269,12 +278,15 @@ fn length_of_entry(alloc: Global, len: usize) -> Result<usize, WireError> {
 /// The length of a row of 67,108,866 bytes, of which an input has the maximum that it may have, or one more.
 const TOO_LONG: [u8; 4] = [0xFE, 0xFF, 0xFF, 0x1F];
 
-#[test]
-fn a_byte_past_the_limit_is_too_large(rt: HostRuntime) {
+/// Returns whether an input that ends within its row is too large at one byte past the maximum, and not before.
+pub fn bound_inputs(alloc: Global) -> bool {
     let cut = SnapshotError::Wire(WireError::Truncated { at: 0 });
     for (bytes, fault) in [(67_108_864, cut), (67_108_865, SnapshotError::TooLarge)] {
         let mut reader = TOO_LONG.as_slice().chain(io::repeat(b'a')).take(bytes);
-        let answer = load::<MeshSilence, _>(rt.alloc(), &mut reader).err();
-        assert!(rt; answer == Some(fault), "{bytes}");
+        let answer = load::<MeshSilence, _>(alloc, &mut reader).err();
+        if answer != Some(fault) {
+            return false;
+        }
     }
+    true
 }
