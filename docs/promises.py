@@ -57,7 +57,7 @@ HEAD = """# What is proved
 
 Every function is proved safe: it returns on every input, without undefined behaviour. Each row below is a promise, with the clause that says it. docs/promises.py writes this page. A *law* is a function that does nothing; its clauses hold for all values. [MODEL](MODEL.md) explains the words.
 
-- **Memory.** A call that allocates may answer `Memory` instead of what is promised.
+- **Memory.** A call that allocates may answer `Memory` instead of what is promised, and frames for which there is none are counted as not sent.
 - **Bytes.** Clauses about readers and writers speak of known bytes, not of sockets or files. Those of the loop speak of what its streams noted: all that their two calls read and wrote.
 - **Calm** is a premise, and nothing that comes for free: a replica that is cut off for longer than the retention may no longer be calm.
 """
@@ -91,7 +91,7 @@ TAIL = """## Only tested
 
 - **That definitions mean what people want**: [cases/](CASES.md), worked out by hand.
 - **That the loop** is fair, keeps deadlines, closes the right connection, hands on an answer once the peer ends, and counts unfinished bytes, and that replies come: tests/upkeep.py, tests/edges.py. Members under faults of network, process and disk: tests/chaos.py.
-- **That with `--log`** a new log stands before a file is written anew, that what is appended to it between the stretches, which is another file, changes nothing there (the laws speak of the calls of the rewriting alone), that a rewriting stops where the old log can't be removed, and that a start reads both logs, so that members with logs are durable: tests/disk.py.
+- **That with `--log`** a new log stands before a file is written anew, that what is appended to it between the stretches, which is another file, changes nothing there (the laws speak of the calls of the rewriting alone; those of a file's saves are recorded apart from them), that a rewriting stops where the old log can't be removed, that a log which a save couldn't begin anew isn't trusted (a clause of `StateLog::begin_anew`, and not of `StateFile::save`), and that a start reads both logs, so that members with logs are durable: tests/disk.py.
 - **A member's turns, figures, readiness and first pull**, that a decision is broken off at its limit and not before, and that it gives each step the right moment: tests/turns.py, tests/operations.py, tests/three_members.py, tests/machines.py.
 - **That pages go out**, and only once if nothing fails: tests/pages.py; with real Alertmanagers, if one is installed, tests/real_shims.py.
 - **Command lines, what is read from a path, a server or logs, the counts of `diff --prometheus`, what `mend` does in turn, pictures' layout, the page for people**: tests/command_line.py, live_sources.py, log_sources.py, gossip.py, pictures.py, page.py (with chromium).
