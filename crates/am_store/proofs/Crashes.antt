@@ -1,9 +1,11 @@
 -- What a crash leaves of a save.
-use Rattle.std.proofs.Common.{◌≡◌, ◌≢◌, inl, inr, ⊎_elim, ℕ, ◌==◌, if◌then◌else◌, Bool, true, false, List, [], ◌∷◌, ◌++◌, length, codes, Option, Some, None, IfSome, option_map, refl, sym, ◌∙◌, ap, subst, arith, length-append, ne_eqb}
+use Rattle.std.proofs.Common.{◌≡◌, ◌≢◌, inl, inr, ⊎_elim, ℕ, ◌==◌, if◌then◌else◌, Bool, true, false, List, [], ◌∷◌, ◌++◌, length, get_or, codes, Option, Some, None, IfSome, option_map, refl, sym, ◌∙◌, ap, subst, arith, length-append, ne_eqb}
 use Rattle.std.proofs.lemmas.Bool.{cases_eq, eq-eqb}
+use Rattle.std.proofs.lemmas.List.{append_cancel_left}
 use Rattle.std.proofs.Math.Seq.{get_or-append_seam}
 use Rattle.am_store.specs.Calls.{Call, Event, Remove, Make, Permit, Sync, Rename, SyncDirectory}
 use Rattle.am_store.specs.Saves.{HasNoSlash, IsCut, IsDirectoryOf, Lack, Permissions, Row, Safety, Name, Stop, Unnamed, Unmade, Unreplaced, Unsettled, beside, replacing, replacing_until, saving, saving_until}
+use Rattle.am_store.specs.Rewrites.{old_log, own_log}
 use Rattle.am_store.specs.Crashes.{Names, Disk, Remains, IsAmong, MayLeave, Keeps, Does, MayDo, Changes, Runs, MayLeaveDuring, bytes_at, with_names}
 
 -- ---- a file has one directory
@@ -38,6 +40,27 @@ one_directory path a b (inr p) (inr q) =
 -- ---- the new file
 pub apart : (path : List ℕ) → path ≢ beside path
 apart path e = omega (arith, ap length e, length-append path (codes ".new"))
+
+pub old_behind : (path : List ℕ) → path ≢ old_log path
+old_behind path e = omega (arith, ap length e, length-append path (codes ".log.old"))
+
+old_apart : (path : List ℕ) → old_log path ≢ path
+old_apart path e = old_behind path (sym e)
+
+own_apart : (path : List ℕ) → own_log path ≢ path
+own_apart path e = omega (arith, ap length e, length-append path (codes ".log"))
+
+old_aside : (path : List ℕ) → old_log path ≢ beside path
+old_aside path e = omega (arith, ap length e, length-append path (codes ".log.old"), length-append path (codes ".new"))
+
+two_letters : ◌≡◌ {A = ℕ} 108 110 → ⊥
+two_letters e = omega (arith, e)
+
+own_aside : (path : List ℕ) → own_log path ≢ beside path
+own_aside path e = absurd (two_letters (ap (λ (l : List ℕ). get_or l 1 0) (append_cancel_left path (codes ".log") (codes ".new") e)))
+
+logs_apart : (path : List ℕ) → own_log path ≢ old_log path
+logs_apart path e = omega (arith, ap length e, length-append path (codes ".log"), length-append path (codes ".log.old"))
 
 synced_as : (disk : Disk) (left : Remains) (bytes : List ℕ) → MayLeave disk left → disk.synced disk.created ≡ Some bytes → left.bytes disk.created ≡ bytes
 synced_as disk left bytes may is = subst (λ (o : Option (List ℕ)). IfSome o (λ b. left.bytes disk.created ≡ b)) is (may.files disk.created)
@@ -113,29 +136,48 @@ module _ (path row : List ℕ) where
       ∙ directory_stays (beside path) disk a (removing (beside path) stood disk a remove) in
       subst (λ (x : Disk). Keeps x path (Some row)) (sym last) (at_rest directory e f settle (one_directory path directory disk.directory other its ∙ sym stays) placed)
 
--- ---- whatever a crash leaves, Q holds of what is at the path, and at another one
-module _ (path row other : List ℕ) (aside : other ≢ beside path) (Q : Option (List ℕ) → Option (List ℕ) → Type 0) where
+-- ---- whatever a crash leaves, Q holds of what is at the paths of the file, of its old log and of its log
+module _ (path row : List ℕ) (Q : Option (List ℕ) → Option (List ℕ) → Option (List ℕ) → Type 0) where
+  abbrev pub Fine : Remains → Type 0
+  Fine left = Q (bytes_at left path) (bytes_at left (old_log path)) (bytes_at left (own_log path))
+
   abbrev pub Safe : Disk → Type 0
-  Safe disk = (left : Remains) → MayLeave disk left → Q (bytes_at left path) (bytes_at left other)
+  Safe disk = (left : Remains) → MayLeave disk left → Fine left
+
+  -- the same files are at the three paths
+  pub moved : (names : Names) (left : Remains) → names path ≡ left.names path → names (old_log path) ≡ left.names (old_log path)
+      → names (own_log path) ≡ left.names (own_log path) → Fine (record { names = names; bytes = left.bytes }) → Fine left
+  moved names left a b c fine =
+      let at : Option ℕ → Option (List ℕ) = λ o. option_map left.bytes o in
+      subst (λ (o : Option ℕ). Q (at o) (bytes_at left (old_log path)) (bytes_at left (own_log path))) a
+      (subst (λ (o : Option ℕ). Q (at (names path)) (at o) (bytes_at left (own_log path))) b
+      (subst (λ (o : Option ℕ). Q (at (names path)) (at (names (old_log path))) (at o)) c fine))
 
   -- ---- what a call does
-  -- another moment, with the same at both paths
-  more : (disk : Disk) (names : Names) (file : ℕ) → names path ≡ disk.names path → names other ≡ disk.names other → Safe disk → Safe (record (with_names disk names) { created = file })
-  more disk names file same there safe left may = elim may.names [
+  -- what holds of the names of this moment
+  pub before : (disk : Disk) → Safe disk → (left : Remains) → ((file : ℕ) → IfSome (disk.synced file) (λ bytes. left.bytes file ≡ bytes))
+      → Fine (record { names = disk.names; bytes = left.bytes })
+  before disk safe left files = safe (record { names = disk.names; bytes = left.bytes }) (record { names = inl refl; files = files })
+
+  -- another moment, with the same at the paths
+  more : (disk : Disk) (names : Names) (file : ℕ) → names path ≡ disk.names path → names (old_log path) ≡ disk.names (old_log path)
+      → names (own_log path) ≡ disk.names (own_log path) → Safe disk → Safe (record (with_names disk names) { created = file })
+  more disk names file a b c safe left may = elim may.names [
     | inl now ↦
-        subst (λ (found : Option (List ℕ)). Q found (bytes_at left other)) (ap (λ (o : Option ℕ). option_map left.bytes o) (sym (ap (λ (n : Names). n path) now ∙ same)))
-        (subst (λ (found : Option (List ℕ)). Q (option_map left.bytes (disk.names path)) found) (ap (λ (o : Option ℕ). option_map left.bytes o) (sym (ap (λ (n : Names). n other) now ∙ there)))
-        (safe (record { names = disk.names; bytes = left.bytes }) (record { names = inl refl; files = may.files })))
-    | inr before ↦ safe left (record { names = before; files = may.files })
+        let same : (p : List ℕ) → names p ≡ disk.names p → disk.names p ≡ left.names p = λ p e. sym (ap (λ (n : Names). n p) now ∙ e) in
+        moved disk.names left (same path a) (same (old_log path) b) (same (own_log path) c) (before disk safe left may.files)
+    | inr earlier ↦ safe left (record { names = earlier; files = may.files })
   ]
 
-  pub removed : (name : List ℕ) → path ≢ name → other ≢ name → (disk next : Disk) → MayDo (Remove name) disk next → Safe disk → Safe next
-  removed name a b disk next (inl same) safe = subst Safe (sym same) safe
-  removed name a b disk next (inr does) safe = subst Safe (sym does.3) (more disk does.0 disk.created (does.2 path a) (does.2 other b) safe)
+  removed : (disk next : Disk) → MayDo (Remove (beside path)) disk next → Safe disk → Safe next
+  removed disk next (inl same) safe = subst Safe (sym same) safe
+  removed disk next (inr does) safe =
+      subst Safe (sym does.3) (more disk does.0 disk.created (does.2 path (apart path)) (does.2 (old_log path) (old_aside path)) (does.2 (own_log path) (own_aside path)) safe)
 
   made : (disk next : Disk) → MayDo (Make (beside path)) disk next → Safe disk → Safe next
   made disk next (inl same) safe = subst Safe (sym same) safe
-  made disk next (inr does) safe = subst Safe (sym does.5) (more disk does.0 does.1 (does.4 path (apart path)) (does.4 other aside) safe)
+  made disk next (inr does) safe =
+      subst Safe (sym does.5) (more disk does.0 does.1 (does.4 path (apart path)) (does.4 (old_log path) (old_aside path)) (does.4 (own_log path) (own_aside path)) safe)
 
   permitted : (disk next : Disk) → MayDo (Permit path) disk next → next ≡ disk
   permitted disk next (inl same) = same
@@ -158,11 +200,31 @@ module _ (path row other : List ℕ) (aside : other ≢ beside path) (Q : Option
     files = may.files;
   }))
 
-  module _ (new : (there : Option (List ℕ)) → Q (Some row) there) where
+  pub log_removed : (closed : (found there log : Option (List ℕ)) → Q found there log → Q found None log) (disk next : Disk) → MayDo (Remove (old_log path)) disk next → Safe disk → Safe next
+  log_removed closed disk next (inl same) safe = subst Safe (sym same) safe
+  log_removed closed disk next (inr does) safe = subst Safe (sym does.3) (λ left may. elim may.names [
+    | inl now ↦
+        let at : Option ℕ → Option (List ℕ) = λ o. option_map left.bytes o in
+        let same : (p : List ℕ) → p ≢ old_log path → disk.names p ≡ left.names p = λ p e. sym (ap (λ (n : Names). n p) now ∙ does.2 p e) in
+        subst (λ (o : Option ℕ). Q (bytes_at left path) (at o) (bytes_at left (own_log path))) (sym (ap (λ (n : Names). n (old_log path)) now ∙ does.1))
+        (subst (λ (o : Option ℕ). Q (at o) None (bytes_at left (own_log path))) (same path (old_behind path))
+        (subst (λ (o : Option ℕ). Q (at (disk.names path)) None (at o)) (same (own_log path) (logs_apart path))
+        (closed (at (disk.names path)) (at (disk.names (old_log path))) (at (disk.names (own_log path))) (before disk safe left may.files))))
+    | inr earlier ↦ safe left (record { names = earlier; files = may.files })
+  ])
+
+  module _ (new : (found there log : Option (List ℕ)) → Q found there log → Q (Some row) there log) where
     renamed : (disk next : Disk) → Does (Rename (beside path) path) disk next → Whole path row disk → Safe disk → Safe next
     renamed disk next does file safe = subst Safe (sym does.3) (λ left may. elim may.names [
-      | inl now ↦ subst (λ (found : Option (List ℕ)). Q found (bytes_at left other)) (sym (at_file (with_names disk does.0) left path row may (ap (λ (n : Names). n path) now ∙ does.1 ∙ file.0) file.1)) (new (bytes_at left other))
-      | inr before ↦ safe left (record { names = before; files = may.files })
+      | inl now ↦
+          let at : Option ℕ → Option (List ℕ) = λ o. option_map left.bytes o in
+          let found : bytes_at left path ≡ Some row = at_file (with_names disk does.0) left path row may (ap (λ (n : Names). n path) now ∙ does.1 ∙ file.0) file.1 in
+          let same : (p : List ℕ) → p ≢ beside path → p ≢ path → disk.names p ≡ left.names p = λ p b a. sym (ap (λ (n : Names). n p) now ∙ does.2 p b a) in
+          subst (λ (o : Option (List ℕ)). Q o (bytes_at left (old_log path)) (bytes_at left (own_log path))) (sym found)
+          (subst (λ (o : Option ℕ). Q (Some row) (at o) (bytes_at left (own_log path))) (same (old_log path) (old_aside path) (old_apart path))
+          (subst (λ (o : Option ℕ). Q (Some row) (at (disk.names (old_log path))) (at o)) (same (own_log path) (own_aside path) (own_apart path))
+          (new (at (disk.names path)) (at (disk.names (old_log path))) (at (disk.names (own_log path))) (before disk safe left may.files))))
+      | inr earlier ↦ safe left (record { names = earlier; files = may.files })
     ])
 
     may_be_renamed : (disk next : Disk) → MayDo (Rename (beside path) path) disk next → Whole path row disk → Safe disk → Safe next
@@ -171,47 +233,40 @@ module _ (path row other : List ℕ) (aside : other ≢ beside path) (Q : Option
 
     -- ---- a crash during calls
     module _ (left : Remains) where
-      abbrev Fine : Type 0
-      Fine = Q (bytes_at left path) (bytes_at left other)
-
       -- it comes during the first one, or later
       either : (call : Call) (done : Bool) (events : List Event) (disk : Disk) → ((next : Disk) → MayDo call disk next → Safe next)
-          → ((next : Disk) → Changes (call, done) disk next → MayLeaveDuring events next left → Fine) → MayLeaveDuring ((call, done) ∷ events) disk left → Fine
+          → ((next : Disk) → Changes (call, done) disk next → MayLeaveDuring events next left → Fine left) → MayLeaveDuring ((call, done) ∷ events) disk left → Fine left
       either call done events disk during later may = ⊎_elim (λ it. during it.0 it.1 left it.2) (λ it. later it.0 it.1 it.2) may
 
-      removes_at : (name : List ℕ) → path ≢ name → other ≢ name → (done : Bool) (events : List Event) (disk : Disk) → Safe disk
-          → ((next : Disk) → Safe next → MayLeaveDuring events next left → Fine) → MayLeaveDuring ((Remove name, done) ∷ events) disk left → Fine
-      removes_at name a b done events disk safe goes_on = either (Remove name) done events disk (λ next may. removed name a b disk next may safe)
-          (λ next changes. goes_on next (removed name a b disk next (removing name done disk next changes) safe))
+      removes : (done : Bool) (events : List Event) (disk : Disk) → Safe disk → ((next : Disk) → Safe next → MayLeaveDuring events next left → Fine left)
+          → MayLeaveDuring ((Remove (beside path), done) ∷ events) disk left → Fine left
+      removes done events disk safe goes_on = either (Remove (beside path)) done events disk (λ next may. removed disk next may safe)
+          (λ next changes. goes_on next (removed disk next (removing (beside path) done disk next changes) safe))
 
-      removes : (done : Bool) (events : List Event) (disk : Disk) → Safe disk → ((next : Disk) → Safe next → MayLeaveDuring events next left → Fine)
-          → MayLeaveDuring ((Remove (beside path), done) ∷ events) disk left → Fine
-      removes = removes_at (beside path) (apart path) aside
-
-      ends : (disk : Disk) → Safe disk → (done : Bool) → MayLeaveDuring ((Remove (beside path), done) ∷ []) disk left → Fine
+      ends : (disk : Disk) → Safe disk → (done : Bool) → MayLeaveDuring ((Remove (beside path), done) ∷ []) disk left → Fine left
       ends disk safe done = removes done [] disk safe (λ next still. still left)
 
       -- a call fails, and the new file is removed
       fails : (call : Call) (disk : Disk) → ((next : Disk) → MayDo call disk next → Safe next) → (done : Bool)
-          → MayLeaveDuring ((call, false) ∷ (Remove (beside path), done) ∷ []) disk left → Fine
+          → MayLeaveDuring ((call, false) ∷ (Remove (beside path), done) ∷ []) disk left → Fine left
       fails call disk during done = either call false ((Remove (beside path), done) ∷ []) disk during (λ next may. ends next (during next may) done)
 
-      permits : (events : List Event) (disk : Disk) → Safe disk → Made path row disk → ((next : Disk) → Safe next → Made path row next → MayLeaveDuring events next left → Fine)
-          → MayLeaveDuring ((Permit path, true) ∷ events) disk left → Fine
+      permits : (events : List Event) (disk : Disk) → Safe disk → Made path row disk → ((next : Disk) → Safe next → Made path row next → MayLeaveDuring events next left → Fine left)
+          → MayLeaveDuring ((Permit path, true) ∷ events) disk left → Fine left
       permits events disk safe file goes_on = either (Permit path) true events disk (λ next may. subst Safe (sym (permitted disk next may)) safe)
           (λ next same. goes_on next (subst Safe (sym same) safe) (subst (Made path row) (sym same) file))
 
-      syncs : (events : List Event) (disk : Disk) → Safe disk → Made path row disk → ((next : Disk) → Safe next → Whole path row next → MayLeaveDuring events next left → Fine)
-          → MayLeaveDuring ((Sync (Some row), true) ∷ events) disk left → Fine
+      syncs : (events : List Event) (disk : Disk) → Safe disk → Made path row disk → ((next : Disk) → Safe next → Whole path row next → MayLeaveDuring events next left → Fine left)
+          → MayLeaveDuring ((Sync (Some row), true) ∷ events) disk left → Fine left
       syncs events disk safe file goes_on = either (Sync (Some row)) true events disk (λ next same. subst Safe (sym same) safe)
           (λ next does. goes_on next (synced disk next does file.1 safe) (is_whole path row disk next does file))
 
-      renames : (events : List Event) (disk : Disk) → Safe disk → Whole path row disk → ((next : Disk) → Safe next → MayLeaveDuring events next left → Fine)
-          → MayLeaveDuring ((Rename (beside path) path, true) ∷ events) disk left → Fine
+      renames : (events : List Event) (disk : Disk) → Safe disk → Whole path row disk → ((next : Disk) → Safe next → MayLeaveDuring events next left → Fine left)
+          → MayLeaveDuring ((Rename (beside path) path, true) ∷ events) disk left → Fine left
       renames events disk safe file goes_on = either (Rename (beside path) path) true events disk (λ next may. may_be_renamed disk next may file safe)
           (λ next does. goes_on next (renamed disk next does file safe))
 
-      settles : (directory : List ℕ) (done : Bool) (disk : Disk) → Safe disk → MayLeaveDuring ((SyncDirectory directory, done) ∷ []) disk left → Fine
+      settles : (directory : List ℕ) (done : Bool) (disk : Disk) → Safe disk → MayLeaveDuring ((SyncDirectory directory, done) ∷ []) disk left → Fine left
       settles directory true disk safe = either (SyncDirectory directory) true [] disk (λ next same. subst Safe (sym same) safe)
           (λ next does. settled directory disk next does safe left)
       settles directory false disk safe = either (SyncDirectory directory) false [] disk (λ next same. subst Safe (sym same) safe)
@@ -219,7 +274,7 @@ module _ (path row other : List ℕ) (aside : other ≢ beside path) (Q : Option
 
       -- the new file is there, and takes the place or doesn't
       replaces : (directory : List ℕ) (done : Bool) (disk : Disk) → Safe disk → Made path row disk
-          → MayLeaveDuring (replacing path row ++ (SyncDirectory directory, done) ∷ []) disk left → Fine
+          → MayLeaveDuring (replacing path row ++ (SyncDirectory directory, done) ∷ []) disk left → Fine left
       replaces directory done disk safe file =
           let last : List Event = (SyncDirectory directory, done) ∷ [] in
           let renaming : List Event = (Rename (beside path) path, true) ∷ last in
@@ -227,7 +282,7 @@ module _ (path row other : List ℕ) (aside : other ≢ beside path) (Q : Option
           syncs renaming a safe_a made_a (λ b safe_b whole_b. renames last b safe_b whole_b (settles directory done)))
 
       lacks : (lack : Lack) (done : Bool) (disk : Disk) → Safe disk → Made path row disk
-          → MayLeaveDuring (replacing_until lack path row ++ (Remove (beside path), done) ∷ []) disk left → Fine
+          → MayLeaveDuring (replacing_until lack path row ++ (Remove (beside path), done) ∷ []) disk left → Fine left
       lacks Permissions done disk safe file = fails (Permit path) disk (λ next may. subst Safe (sym (permitted disk next may)) safe) done
       lacks Row done disk safe file = permits ((Remove (beside path), done) ∷ []) disk safe file (λ a safe_a made_a. ends a safe_a done)
       lacks Safety done disk safe file = permits ((Sync (Some row), false) ∷ (Remove (beside path), done) ∷ []) disk safe file
@@ -237,26 +292,29 @@ module _ (path row other : List ℕ) (aside : other ≢ beside path) (Q : Option
           permits ((Sync (Some row), true) ∷ last) disk safe file (λ a safe_a made_a. syncs last a safe_a made_a
           (λ b safe_b whole_b. fails (Rename (beside path) path) b (λ next may. may_be_renamed b next may whole_b safe_b) done))
 
-      begins : (stood : Bool) (events : List Event) (disk : Disk) → Safe disk → ((next : Disk) → Safe next → Made path row next → MayLeaveDuring events next left → Fine)
-          → MayLeaveDuring ((Remove (beside path), stood) ∷ (Make (beside path), true) ∷ events) disk left → Fine
+      begins : (stood : Bool) (events : List Event) (disk : Disk) → Safe disk → ((next : Disk) → Safe next → Made path row next → MayLeaveDuring events next left → Fine left)
+          → MayLeaveDuring ((Remove (beside path), stood) ∷ (Make (beside path), true) ∷ events) disk left → Fine left
       begins stood events disk safe goes_on = removes stood ((Make (beside path), true) ∷ events) disk safe (λ a safe_a.
           either (Make (beside path)) true events a (λ next may. made a next may safe_a)
           (λ next does. goes_on next (made a next (inr does) safe_a) (is_made path row a next does)))
 
-      pub is_saved : (stood : Bool) (directory : List ℕ) (disk : Disk) → Safe disk → MayLeaveDuring (saving stood path directory row) disk left → Fine
+      pub is_saved : (stood : Bool) (directory : List ℕ) (disk : Disk) → Safe disk → MayLeaveDuring (saving stood path directory row) disk left → Fine left
       is_saved stood directory disk safe = begins stood (replacing path row ++ (SyncDirectory directory, true) ∷ []) disk safe (replaces directory true)
 
-      pub is_stopped : (stop : Stop) (stood done : Bool) (disk : Disk) → Safe disk → MayLeaveDuring (saving_until stop stood done path row) disk left → Fine
+      pub is_stopped : (stop : Stop) (stood done : Bool) (disk : Disk) → Safe disk → MayLeaveDuring (saving_until stop stood done path row) disk left → Fine left
       is_stopped Unnamed stood done disk safe = safe left
       is_stopped Unmade stood done disk safe = removes stood ((Make (beside path), false) ∷ []) disk safe (λ a safe_a.
           either (Make (beside path)) false [] a (λ next may. made a next may safe_a) (λ next may. made a next may safe_a left))
       is_stopped (Unreplaced lack) stood done disk safe = begins stood (replacing_until lack path row ++ (Remove (beside path), done) ∷ []) disk safe (lacks lack done)
       is_stopped (Unsettled directory) stood done disk safe = begins stood (replacing path row ++ (SyncDirectory directory, false) ∷ []) disk safe (replaces directory false)
 
-      -- ---- the end of another file, at a path that isn't this one
-      pub ends_other : (name : List ℕ) → path ≢ name → other ≢ name → (done : Bool) (disk : Disk) → Safe disk → MayLeaveDuring ((Remove name, done) ∷ []) disk left → Fine
-      ends_other name a b done disk safe = removes_at name a b done [] disk safe (λ next still. still left)
+      -- ---- the end of the old log
+      pub log_ends : (closed : (found there log : Option (List ℕ)) → Q found there log → Q found None log) (ended done : Bool) (directory : List ℕ) (disk : Disk) → Safe disk
+          → MayLeaveDuring ((Remove (old_log path), ended) ∷ (SyncDirectory directory, done) ∷ []) disk left → Fine left
+      log_ends closed ended done directory disk safe = either (Remove (old_log path)) ended ((SyncDirectory directory, done) ∷ []) disk (λ next may. log_removed closed disk next may safe)
+          (λ next changes. settles directory done next (log_removed closed disk next (removing (old_log path) ended disk next changes) safe))
 
-      pub ends_for_good : (name : List ℕ) → path ≢ name → other ≢ name → (ended : Bool) (directory : List ℕ) (done : Bool) (disk : Disk) → Safe disk
-          → MayLeaveDuring ((Remove name, ended) ∷ (SyncDirectory directory, done) ∷ []) disk left → Fine
-      ends_for_good name a b ended directory done disk safe = removes_at name a b ended ((SyncDirectory directory, done) ∷ []) disk safe (settles directory done)
+      pub log_may_end : (closed : (found there log : Option (List ℕ)) → Q found there log → Q found None log) (done : Bool) (disk : Disk) → Safe disk
+          → MayLeaveDuring ((Remove (old_log path), done) ∷ []) disk left → Fine left
+      log_may_end closed done disk safe = either (Remove (old_log path)) done [] disk (λ next may. log_removed closed disk next may safe)
+          (λ next changes. log_removed closed disk next (removing (old_log path) done disk next changes) safe left)

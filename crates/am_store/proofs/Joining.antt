@@ -19,7 +19,7 @@ module _ {K X : Type 0} (seen : X → Version K) where
       cc
   not_below u v w false below above above_that = refl
 
-  unbeaten_past : (u v w : X) → is_below (seen u) (seen v) ≡ false → is_below (seen v) (seen w) ≡ false → is_below (seen u) (seen w) ≡ false
+  pub unbeaten_past : (u v w : X) → is_below (seen u) (seen v) ≡ false → is_below (seen v) (seen w) ≡ false → is_below (seen u) (seen w) ≡ false
   unbeaten_past u v w = not_below u v w (is_below (seen u) (seen w)) refl
 
   -- the best of the best of a set and of another set are those of both

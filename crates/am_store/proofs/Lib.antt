@@ -9,6 +9,9 @@ mod ReadingLemmas
 mod Standing
 mod RewriteCrashes
 mod RewriteRows
+mod ReadRows
+mod Outlasting
+mod RewriteOutlasting
 mod Rewrites
 mod UnsyncedSaves
 pub mod Appended

@@ -1,10 +1,11 @@
 -- What a crash leaves of a rewriting.
+use Rattle.std.specs.Prelude.{⊤}
 use Rattle.std.proofs.Common.{◌≡◌, ◌≢◌, ◌⊎◌, inl, inr, ⊎_elim, ℕ, Bool, true, false, List, [], ◌∷◌, ◌++◌, length, codes, Option, Some, None, refl, sym, ◌∙◌, ap, subst, arith, length-append}
-use Rattle.am_store.specs.Calls.{Event, Remove, SyncDirectory}
+use Rattle.am_store.specs.Calls.{Call, Event, Remove, Make, Permit, Write, Sync, Rename, SyncDirectory}
 use Rattle.am_store.specs.Saves.{IsDirectoryOf, Permissions, Row, Safety, Name, Unnamed, Unmade, Unreplaced, Unsettled, beside, saving}
 use Rattle.am_store.specs.Crashes.{Disk, Remains, MayLeave, Keeps, Does, MayDo, Changes, Runs, MayLeaveDuring, Stays, bytes_at}
-use Rattle.am_store.specs.Rewrites.{HasWhole, Place, End, RewritingStop, Unsaved, LogUnnamed, LogKept, LogUnsettled, old_log, rewriting, rewriting_until}
-use Rattle.am_store.proofs.Crashes.{Safe, apart, ends_for_good, ends_other, is_done, is_saved, is_stopped, removed, removing, right_after, settled}
+use Rattle.am_store.specs.Rewrites.{HasWhole, Place, End, RewritingStop, Unsaved, LogUnnamed, LogKept, LogUnsettled, old_log, own_log, rewriting, rewriting_until}
+use Rattle.am_store.proofs.Crashes.{Fine, Safe, is_done, is_saved, is_stopped, log_ends, log_may_end, log_removed, removing, right_after, settled}
 
 -- a crash during calls comes during the first ones, or once these are made
 during : (first second : List Event) (disk : Disk) (left : Remains) → MayLeaveDuring (first ++ second) disk left
@@ -20,139 +21,142 @@ runs_in_parts (event ∷ events) second disk new (next, changes, runs) =
     let rest = runs_in_parts events second next new runs in
     (rest.0, (next, changes, rest.1), rest.2)
 
--- ---- the paths are apart
-log_apart : (path : List ℕ) → path ≢ old_log path
-log_apart path e = omega (arith, ap length e, length-append path (codes ".log.old"))
+-- a call may do nothing, so a crash during the first calls is one during all
+does_nothing : (call : Call) (disk : Disk) → MayDo call disk disk
+does_nothing (Remove path) disk = inl refl
+does_nothing (Make path) disk = inl refl
+does_nothing (Permit path) disk = inl refl
+does_nothing (Write bytes) disk = inl refl
+does_nothing (Sync bytes) disk = refl
+does_nothing (Rename from to) disk = inl refl
+does_nothing (SyncDirectory path) disk = refl
 
-pub log_aside : (path : List ℕ) → old_log path ≢ beside path
-log_aside path e = omega (arith, ap length e, length-append path (codes ".log.old"), length-append path (codes ".new"))
+pub sooner : (first second : List Event) (disk : Disk) (left : Remains) → MayLeaveDuring first disk left → MayLeaveDuring (first ++ second) disk left
+sooner [] [] disk left may = may
+sooner [] ((call, done) ∷ events) disk left may = inl (disk, does_nothing call disk, may)
+sooner ((call, done) ∷ events) second disk left (inl now) = inl now
+sooner ((call, done) ∷ events) second disk left (inr (next, changes, may)) = inr (next, changes, sooner events second next left may)
 
-module _ (path row : List ℕ) where
-  -- ---- whatever a crash leaves, Q holds of what is at the path
-  module _ (Q : Option (List ℕ) → Type 0) (new : Q (Some row)) (disk : Disk) (safe : (left : Remains) → MayLeave disk left → Q (bytes_at left path)) (left : Remains) where
-    abbrev Both : Option (List ℕ) → Option (List ℕ) → Type 0
-    Both found there = Q found
+-- ---- Old holds of what is at the three paths before, and New of the two logs beside a new file
+module _ (path : List ℕ) (disk : Disk) (left : Remains) (Old : Option (List ℕ) → Option (List ℕ) → Option (List ℕ) → Type 0) (New : Option (List ℕ) → Option (List ℕ) → Type 0)
+    (renews : (found there log : Option (List ℕ)) → Old found there log → New there log)
+    (gone : (there log : Option (List ℕ)) → New there log → New None log)
+    (before : (l : Remains) → MayLeave disk l → Old (bytes_at l path) (bytes_at l (old_log path)) (bytes_at l (own_log path))) where
+  abbrev pub OldOrNew : List ℕ → Option (List ℕ) → Option (List ℕ) → Option (List ℕ) → Type 0
+  OldOrNew row found there log = Old found there log ⊎ ((found ≡ Some row) × New there log)
 
-    saved : (stood : Bool) (directory : List ℕ) (l : Remains) → MayLeaveDuring (saving stood path directory row) disk l → Q (bytes_at l path)
-    saved stood directory l may = is_saved path row path (apart path) Both (λ there. new) l stood directory disk safe may
+  new : (row : List ℕ) (found there log : Option (List ℕ)) → OldOrNew row found there log → OldOrNew row (Some row) there log
+  new row found there log (inl old) = inr (refl, renews found there log old)
+  new row found there log (inr is) = inr (refl, is.1)
 
-    after : (stood : Bool) (directory : List ℕ) (mid : Disk) → Runs (saving stood path directory row) disk mid → Safe path row path (apart path) Both mid
-    after stood directory mid runs l may = saved stood directory l (right_after (saving stood path directory row) disk mid l runs may)
+  logs : (row : List ℕ) (found there log : Option (List ℕ)) → OldOrNew row found there log → New there log
+  logs row found there log (inl old) = renews found there log old
+  logs row found there log (inr is) = is.1
 
-    log_ends : (stood ended done : Bool) (directory : List ℕ)
-        → MayLeaveDuring (saving stood path directory row ++ (Remove (old_log path), ended) ∷ (SyncDirectory directory, done) ∷ []) disk left → Q (bytes_at left path)
-    log_ends stood ended done directory may = ⊎_elim (saved stood directory left)
-        (λ late. ends_for_good path row path (apart path) Both (λ there. new) left (old_log path) (log_apart path) (log_apart path) ended directory done late.0 (after stood directory late.0 late.1) late.2)
-        (during (saving stood path directory row) ((Remove (old_log path), ended) ∷ (SyncDirectory directory, done) ∷ []) disk left may)
+  saved : (row : List ℕ) (stood : Bool) (directory : List ℕ) (l : Remains) → MayLeaveDuring (saving stood path directory row) disk l → Fine path row (OldOrNew row) l
+  saved row stood directory l may = is_saved path row (OldOrNew row) (new row) l stood directory disk (λ m it. inl (before m it)) may
 
-    pub is_rewritten : (stood ended : Bool) (directory : List ℕ) → MayLeaveDuring (rewriting stood ended path directory row) disk left → Q (bytes_at left path)
-    is_rewritten stood ended directory = log_ends stood ended true directory
+  after : (row : List ℕ) (stood : Bool) (directory : List ℕ) (mid : Disk) → Runs (saving stood path directory row) disk mid → Safe path row (OldOrNew row) mid
+  after row stood directory mid runs l may = saved row stood directory l (right_after (saving stood path directory row) disk mid l runs may)
 
-    pub stops : (stop : RewritingStop) (stood gone ended : Bool) (directory : List ℕ) → MayLeaveDuring (rewriting_until stop stood gone ended path directory row) disk left → Q (bytes_at left path)
-    stops (Unsaved stop) stood gone ended directory may = is_stopped path row path (apart path) Both (λ there. new) left stop stood gone disk safe may
-    stops LogUnnamed stood gone ended directory may = saved stood directory left may
-    stops LogKept stood gone ended directory may = ⊎_elim (saved stood directory left)
-        (λ late. ends_other path row path (apart path) Both (λ there. new) left (old_log path) (log_apart path) (log_apart path) false late.0 (after stood directory late.0 late.1) late.2)
-        (during (saving stood path directory row) ((Remove (old_log path), false) ∷ []) disk left may)
-    stops LogUnsettled stood gone ended directory may = log_ends stood ended false directory may
+  -- what is left of a rewriting that stopped has its row only if that is whole
+  module _ {K : Type 0} (row : List ℕ) (place : Place K) where
+    abbrev pub OldOrWhole : Type 0
+    OldOrWhole = Old (bytes_at left path) (bytes_at left (old_log path)) (bytes_at left (own_log path))
+        ⊎ ((place ≡ End) × (bytes_at left path ≡ Some row) × New (bytes_at left (old_log path)) (bytes_at left (own_log path)))
+
+    whole : place ≡ End → Fine path row (OldOrNew row) left → OldOrWhole
+    whole is either = ⊎_elim (λ old. inl old) (λ new. inr (is, new.0, new.1)) either
+
+    two_rows : (found : Option (List ℕ)) → found ≡ Some [] → found ≡ Some (0 ∷ []) → ⊥
+    two_rows found a b = absurd cc
+
+    old_one : Fine path [] (OldOrNew []) left → Fine path (0 ∷ []) (OldOrNew (0 ∷ [])) left → OldOrWhole
+    old_one one other = ⊎_elim (λ old. inl old) (λ a. ⊎_elim (λ old. inl old) (λ b. absurd (two_rows (bytes_at left path) a.0 b.0)) other) one
+
+  -- Ended holds once the new file is saved
+  module _ (Ended : List ℕ → Option (List ℕ) → Option (List ℕ) → Option (List ℕ) → Type 0) (Its : List ℕ → Type 0)
+      (fresh : (row : List ℕ) (found there log : Option (List ℕ)) → Ended row found there log → Ended row (Some row) there log)
+      (closed : (row : List ℕ) (found there log : Option (List ℕ)) → Ended row found there log → Ended row found None log)
+      (weaker : (row : List ℕ) (found there log : Option (List ℕ)) → Ended row found there log → OldOrNew row found there log)
+      (ended : (row : List ℕ) (stood : Bool) (directory : List ℕ) (mid : Disk) → Its directory → Runs (saving stood path directory row) disk mid → Safe path row (Ended row) mid) where
+    log_goes : (row : List ℕ) (stood removed done : Bool) (directory : List ℕ) → Its directory
+        → MayLeaveDuring (saving stood path directory row ++ (Remove (old_log path), removed) ∷ (SyncDirectory directory, done) ∷ []) disk left → Fine path row (OldOrNew row) left
+    log_goes row stood removed done directory its may = ⊎_elim (saved row stood directory left)
+        (λ late. weaker row (bytes_at left path) (bytes_at left (old_log path)) (bytes_at left (own_log path))
+        (log_ends path row (Ended row) (fresh row) left (closed row) removed done directory late.0 (ended row stood directory late.0 its late.1) late.2))
+        (during (saving stood path directory row) ((Remove (old_log path), removed) ∷ (SyncDirectory directory, done) ∷ []) disk left may)
+
+    module _ (stood removed last : Bool) (directory : List ℕ) where
+      rewritten : (row : List ℕ) → Its directory → MayLeaveDuring (rewriting stood last path directory row) disk left → Fine path row (OldOrNew row) left
+      rewritten row its may = log_goes row stood last true directory its may
+
+      stops : (row : List ℕ) (stop : RewritingStop) → (stop ≡ LogKept → Its directory) → (stop ≡ LogUnsettled → Its directory)
+          → MayLeaveDuring (rewriting_until stop stood removed last path directory row) disk left → Fine path row (OldOrNew row) left
+      stops row (Unsaved stop) k u may = is_stopped path row (OldOrNew row) (new row) left stop stood removed disk (λ m it. inl (before m it)) may
+      stops row LogUnnamed k u may = saved row stood directory left may
+      stops row LogKept k u may = ⊎_elim (saved row stood directory left)
+          (λ late. weaker row (bytes_at left path) (bytes_at left (old_log path)) (bytes_at left (own_log path))
+          (log_may_end path row (Ended row) (fresh row) left (closed row) false late.0 (ended row stood directory late.0 (k refl) late.1) late.2))
+          (during (saving stood path directory row) ((Remove (old_log path), false) ∷ []) disk left may)
+      stops row LogUnsettled k u may = log_goes row stood last false directory (u refl) may
+
+      module _ {K : Type 0} (row : List ℕ) (place : Place K) where
+        leaves : (stop : RewritingStop) → HasWhole stop place → (stop ≡ LogKept → Its directory) → (stop ≡ LogUnsettled → Its directory)
+            → MayLeaveDuring (rewriting_until stop stood removed last path directory row) disk left → OldOrWhole row place
+        leaves (Unsaved Unnamed) is k u may = old_one row place (stops [] (Unsaved Unnamed) k u may) (stops (0 ∷ []) (Unsaved Unnamed) k u may)
+        leaves (Unsaved Unmade) is k u may = old_one row place (stops [] (Unsaved Unmade) k u may) (stops (0 ∷ []) (Unsaved Unmade) k u may)
+        leaves (Unsaved (Unreplaced Permissions)) is k u may = old_one row place (stops [] (Unsaved (Unreplaced Permissions)) k u may) (stops (0 ∷ []) (Unsaved (Unreplaced Permissions)) k u may)
+        leaves (Unsaved (Unreplaced Row)) is k u may = old_one row place (stops [] (Unsaved (Unreplaced Row)) k u may) (stops (0 ∷ []) (Unsaved (Unreplaced Row)) k u may)
+        leaves (Unsaved (Unreplaced Safety)) is k u may = whole row place is (stops row (Unsaved (Unreplaced Safety)) k u may)
+        leaves (Unsaved (Unreplaced Name)) is k u may = whole row place is (stops row (Unsaved (Unreplaced Name)) k u may)
+        leaves (Unsaved (Unsettled d)) is k u may = whole row place is (stops row (Unsaved (Unsettled d)) k u may)
+        leaves LogUnnamed is k u may = whole row place is (stops row LogUnnamed k u may)
+        leaves LogKept is k u may = whole row place is (stops row LogKept k u may)
+        leaves LogUnsettled is k u may = whole row place is (stops row LogUnsettled k u may)
+
+  -- ---- Old holds without the old log, too
+  module _ (lost : (found there log : Option (List ℕ)) → Old found there log → Old found None log) where
+    still : (row : List ℕ) (found there log : Option (List ℕ)) → OldOrNew row found there log → OldOrNew row found None log
+    still row found there log (inl old) = inl (lost found there log old)
+    still row found there log (inr is) = inr (is.0, gone there log is.1)
+
+    pub is_rewritten : (row : List ℕ) (stood last : Bool) (directory : List ℕ) → MayLeaveDuring (rewriting stood last path directory row) disk left → Fine path row (OldOrNew row) left
+    is_rewritten row stood last directory =
+        rewritten OldOrNew (λ d. ⊤) new still (λ r f t l is. is) (λ r s d mid its runs. after r s d mid runs) stood false last directory row tt
+
+    pub leaves_whole : {K : Type 0} (row : List ℕ) (place : Place K) (stood removed last : Bool) (directory : List ℕ) (stop : RewritingStop) → HasWhole stop place
+        → MayLeaveDuring (rewriting_until stop stood removed last path directory row) disk left → OldOrWhole row place
+    leaves_whole row place stood removed last directory stop is =
+        leaves OldOrNew (λ d. ⊤) new still (λ r f t l is. is) (λ r s d mid its runs. after r s d mid runs) stood removed last directory row place stop is (λ e. tt) (λ e. tt)
 
   -- ---- the old log goes only once FILE is the new one for good
-  module _ (disk : Disk) (its : IsDirectoryOf path disk.directory) where
-    abbrev IsNew : Option (List ℕ) → Type 0
-    IsNew found = found ≡ Some row
+  module _ (its : IsDirectoryOf path disk.directory) where
+    abbrev Renewed : List ℕ → Option (List ℕ) → Option (List ℕ) → Option (List ℕ) → Type 0
+    Renewed row found there log = (found ≡ Some row) × New there log
 
-    abbrev Covered : Option (List ℕ) → Option (List ℕ) → Type 0
-    Covered found log = (log ≢ None) ⊎ (found ≡ Some row)
+    renewed : (row : List ℕ) (stood : Bool) (directory : List ℕ) (mid : Disk) → IsDirectoryOf path directory → Runs (saving stood path directory row) disk mid → Safe path row (Renewed row) mid
+    renewed row stood directory mid standing runs l may =
+        (is_done path row stood directory disk mid its standing runs l may, logs row (bytes_at l path) (bytes_at l (old_log path)) (bytes_at l (own_log path)) (after row stood directory mid runs l may))
 
-    module _ (stays : Stays disk (old_log path)) (left : Remains) where
-      covered : (stood : Bool) (directory : List ℕ) → MayLeaveDuring (saving stood path directory row) disk left → Covered (bytes_at left path) (bytes_at left (old_log path))
-      covered stood directory = is_saved path row (old_log path) (log_aside path) Covered (λ there. inr refl) left stood directory disk (λ l may. inl (stays l may))
+    pub log_covers : (row : List ℕ) (stood last : Bool) (directory : List ℕ) → IsDirectoryOf path directory → MayLeaveDuring (rewriting stood last path directory row) disk left
+        → Fine path row (OldOrNew row) left
+    log_covers row stood last directory standing =
+        rewritten Renewed (IsDirectoryOf path) (λ r f t l is. (refl, is.1)) (λ r f t l is. (is.0, gone t l is.1)) (λ r f t l is. inr is) renewed stood false last directory row standing
 
-      kept_new : (stood : Bool) (directory : List ℕ) (mid : Disk) → IsDirectoryOf path directory → Runs (saving stood path directory row) disk mid → Keeps mid path (Some row)
-      kept_new stood directory mid standing = is_done path row stood directory disk mid its standing
+    pub leaves_new : {K : Type 0} (row : List ℕ) (place : Place K) (stood removed last : Bool) (directory : List ℕ) (stop : RewritingStop) → HasWhole stop place
+        → (stop ≡ LogKept → IsDirectoryOf path directory) → (stop ≡ LogUnsettled → IsDirectoryOf path directory)
+        → MayLeaveDuring (rewriting_until stop stood removed last path directory row) disk left
+        → OldOrWhole row place
+    leaves_new row place stood removed last directory =
+        leaves Renewed (IsDirectoryOf path) (λ r f t l is. (refl, is.1)) (λ r f t l is. (is.0, gone t l is.1)) (λ r f t l is. inr is) renewed stood removed last directory row place
 
-      log_goes : (stood ended done : Bool) (directory : List ℕ) → IsDirectoryOf path directory
-          → MayLeaveDuring (saving stood path directory row ++ (Remove (old_log path), ended) ∷ (SyncDirectory directory, done) ∷ []) disk left
-          → Covered (bytes_at left path) (bytes_at left (old_log path))
-      log_goes stood ended done directory standing may = ⊎_elim (covered stood directory)
-          (λ late. inr (ends_for_good path row path (apart path) (λ found there. IsNew found) (λ there. refl) left (old_log path) (log_apart path) (log_apart path) ended directory done late.0
-          (kept_new stood directory late.0 standing late.1) late.2))
-          (during (saving stood path directory row) ((Remove (old_log path), ended) ∷ (SyncDirectory directory, done) ∷ []) disk left may)
-
-      pub log_covers : (stood ended : Bool) (directory : List ℕ) → IsDirectoryOf path directory → MayLeaveDuring (rewriting stood ended path directory row) disk left
-          → Covered (bytes_at left path) (bytes_at left (old_log path))
-      log_covers stood ended = log_goes stood ended true
-
-      pub log_covers_stop : (stop : RewritingStop) (stood gone ended : Bool) (directory : List ℕ) → (stop ≡ LogKept → IsDirectoryOf path directory) → (stop ≡ LogUnsettled → IsDirectoryOf path directory)
-          → MayLeaveDuring (rewriting_until stop stood gone ended path directory row) disk left → Covered (bytes_at left path) (bytes_at left (old_log path))
-      log_covers_stop (Unsaved stop) stood gone ended directory k u may = is_stopped path row (old_log path) (log_aside path) Covered (λ there. inr refl) left stop stood gone disk (λ l m. inl (stays l m)) may
-      log_covers_stop LogUnnamed stood gone ended directory k u may = covered stood directory may
-      log_covers_stop LogKept stood gone ended directory k u may = ⊎_elim (covered stood directory)
-          (λ late. inr (ends_other path row path (apart path) (λ found there. IsNew found) (λ there. refl) left (old_log path) (log_apart path) (log_apart path) false late.0
-          (kept_new stood directory late.0 (k refl) late.1) late.2))
-          (during (saving stood path directory row) ((Remove (old_log path), false) ∷ []) disk left may)
-      log_covers_stop LogUnsettled stood gone ended directory k u may = log_goes stood ended false directory (u refl) may
-
-    -- ---- the end
-    pub is_rewriting_done : (stood ended : Bool) (directory : List ℕ) (new : Disk) → IsDirectoryOf path directory → Runs (rewriting stood ended path directory row) disk new → Keeps new path (Some row)
-    is_rewriting_done stood ended directory new standing runs =
-        let parts = runs_in_parts (saving stood path directory row) ((Remove (old_log path), ended) ∷ (SyncDirectory directory, true) ∷ []) disk new runs in
-        let kept : Keeps parts.0 path (Some row) = is_done path row stood directory disk parts.0 its standing parts.1 in
-        let gone = removed path row path (apart path) (λ found there. IsNew found) (old_log path) (log_apart path) (log_apart path) parts.0 parts.2.0 (removing (old_log path) ended parts.0 parts.2.0 parts.2.1) kept in
-        let last = settled path row path (apart path) (λ found there. IsNew found) directory parts.2.0 parts.2.2.0 parts.2.2.1 gone in
-        subst (λ (d : Disk). Keeps d path (Some row)) (sym parts.2.2.2) last
-
--- ---- what is left of a rewriting that stopped: its row, if that is whole
-two_rows : (found old : Option (List ℕ)) → (found ≡ old) ⊎ (found ≡ Some []) → (found ≡ old) ⊎ (found ≡ Some (0 ∷ [])) → found ≡ old
-two_rows found old (inl a) other = a
-two_rows found old (inr a) (inl b) = b
-two_rows found old (inr a) (inr b) = absurd cc
-
-module _ {K : Type 0} (path row : List ℕ) (disk : Disk) (left : Remains) (stood gone ended : Bool) (directory : List ℕ) (place : Place K) where
-  module _ (old : Option (List ℕ)) (keeps : Keeps disk path old) where
-    one_of : (any : List ℕ) (stop : RewritingStop) → MayLeaveDuring (rewriting_until stop stood gone ended path directory any) disk left
-        → (bytes_at left path ≡ old) ⊎ (bytes_at left path ≡ Some any)
-    one_of any stop = stops path any (λ (found : Option (List ℕ)). (found ≡ old) ⊎ (found ≡ Some any)) (inr refl) disk (λ l may. inl (keeps l may)) left stop stood gone ended directory
-
-    whole_one : (stop : RewritingStop) → place ≡ End → MayLeaveDuring (rewriting_until stop stood gone ended path directory row) disk left
-        → (bytes_at left path ≡ old) ⊎ ((place ≡ End) × (bytes_at left path ≡ Some row))
-    whole_one stop whole may = ⊎_elim (λ was. inl was) (λ new. inr (whole, new)) (one_of row stop may)
-
-    old_one : (stop : RewritingStop) → MayLeaveDuring (rewriting_until stop stood gone ended path directory []) disk left
-        → MayLeaveDuring (rewriting_until stop stood gone ended path directory (0 ∷ [])) disk left → (bytes_at left path ≡ old) ⊎ ((place ≡ End) × (bytes_at left path ≡ Some row))
-    old_one stop a b = inl (two_rows (bytes_at left path) old (one_of [] stop a) (one_of (0 ∷ []) stop b))
-
-    pub leaves_whole : (stop : RewritingStop) → HasWhole stop place → MayLeaveDuring (rewriting_until stop stood gone ended path directory row) disk left
-        → (bytes_at left path ≡ old) ⊎ ((place ≡ End) × (bytes_at left path ≡ Some row))
-    leaves_whole (Unsaved Unnamed) whole may = old_one (Unsaved Unnamed) may may
-    leaves_whole (Unsaved Unmade) whole may = old_one (Unsaved Unmade) may may
-    leaves_whole (Unsaved (Unreplaced Permissions)) whole may = old_one (Unsaved (Unreplaced Permissions)) may may
-    leaves_whole (Unsaved (Unreplaced Row)) whole may = old_one (Unsaved (Unreplaced Row)) may may
-    leaves_whole (Unsaved (Unreplaced Safety)) whole may = whole_one (Unsaved (Unreplaced Safety)) whole may
-    leaves_whole (Unsaved (Unreplaced Name)) whole may = whole_one (Unsaved (Unreplaced Name)) whole may
-    leaves_whole (Unsaved (Unsettled d)) whole may = whole_one (Unsaved (Unsettled d)) whole may
-    leaves_whole LogUnnamed whole may = whole_one LogUnnamed whole may
-    leaves_whole LogKept whole may = whole_one LogKept whole may
-    leaves_whole LogUnsettled whole may = whole_one LogUnsettled whole may
-
-  module _ (its : IsDirectoryOf path disk.directory) (stays : Stays disk (old_log path)) (none : bytes_at left (old_log path) ≡ None) where
-    new_one : (any : List ℕ) (stop : RewritingStop) → (stop ≡ LogKept → IsDirectoryOf path directory) → (stop ≡ LogUnsettled → IsDirectoryOf path directory)
-        → MayLeaveDuring (rewriting_until stop stood gone ended path directory any) disk left → bytes_at left path ≡ Some any
-    new_one any stop k u may = ⊎_elim (λ there. absurd (there none)) (λ new. new) (log_covers_stop path any disk its stays left stop stood gone ended directory k u may)
-
-    no_one : (stop : RewritingStop) → (stop ≡ LogKept → IsDirectoryOf path directory) → (stop ≡ LogUnsettled → IsDirectoryOf path directory)
-        → MayLeaveDuring (rewriting_until stop stood gone ended path directory []) disk left → MayLeaveDuring (rewriting_until stop stood gone ended path directory (0 ∷ [])) disk left → ⊥
-    no_one stop k u a b = let x = new_one [] stop k u a in let y = new_one (0 ∷ []) stop k u b in absurd cc
-
-    pub leaves_new : (stop : RewritingStop) → HasWhole stop place → (stop ≡ LogKept → IsDirectoryOf path directory) → (stop ≡ LogUnsettled → IsDirectoryOf path directory)
-        → MayLeaveDuring (rewriting_until stop stood gone ended path directory row) disk left → (place ≡ End) × (bytes_at left path ≡ Some row)
-    leaves_new (Unsaved Unnamed) whole k u may = absurd (no_one (Unsaved Unnamed) k u may may)
-    leaves_new (Unsaved Unmade) whole k u may = absurd (no_one (Unsaved Unmade) k u may may)
-    leaves_new (Unsaved (Unreplaced Permissions)) whole k u may = absurd (no_one (Unsaved (Unreplaced Permissions)) k u may may)
-    leaves_new (Unsaved (Unreplaced Row)) whole k u may = absurd (no_one (Unsaved (Unreplaced Row)) k u may may)
-    leaves_new (Unsaved (Unreplaced Safety)) whole k u may = (whole, new_one row (Unsaved (Unreplaced Safety)) k u may)
-    leaves_new (Unsaved (Unreplaced Name)) whole k u may = (whole, new_one row (Unsaved (Unreplaced Name)) k u may)
-    leaves_new (Unsaved (Unsettled d)) whole k u may = (whole, new_one row (Unsaved (Unsettled d)) k u may)
-    leaves_new LogUnnamed whole k u may = (whole, new_one row LogUnnamed k u may)
-    leaves_new LogKept whole k u may = (whole, new_one row LogKept k u may)
-    leaves_new LogUnsettled whole k u may = (whole, new_one row LogUnsettled k u may)
+-- ---- the end
+pub is_rewriting_done : (path row : List ℕ) (disk : Disk) → IsDirectoryOf path disk.directory → (stood last : Bool) (directory : List ℕ) (new : Disk) → IsDirectoryOf path directory
+    → Runs (rewriting stood last path directory row) disk new → Keeps new path (Some row)
+is_rewriting_done path row disk its stood last directory new standing runs =
+    let parts = runs_in_parts (saving stood path directory row) ((Remove (old_log path), last) ∷ (SyncDirectory directory, true) ∷ []) disk new runs in
+    let kept : Keeps parts.0 path (Some row) = is_done path row stood directory disk parts.0 its standing parts.1 in
+    let gone = log_removed path row (λ found there log. found ≡ Some row) (λ found there log is. is) parts.0 parts.2.0 (removing (old_log path) last parts.0 parts.2.0 parts.2.1) kept in
+    let end = settled path row (λ found there log. found ≡ Some row) directory parts.2.0 parts.2.2.0 parts.2.2.1 gone in
+    subst (λ (d : Disk). Keeps d path (Some row)) (sym parts.2.2.2) end

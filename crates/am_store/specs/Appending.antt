@@ -1,5 +1,5 @@
 -- A log to which rows are appended, as contracts see it.
-use Rattle.std.specs.Prelude.{◌≡◌, ℕ, Bool, is_some, List, [], ◌∷◌, ◌++◌, Option, Some, None, ⊤}
+use Rattle.std.specs.Prelude.{◌≡◌, ℕ, Bool, false, is_some, List, [], ◌∷◌, ◌++◌, Option, Some, None, IfSome, ⊤}
 use Rattle.am_store.specs.Blocks.{recovered}
 use Rattle.am_store.specs.Journal.{device_of}
 use Rattle.am_store.specs.declared.device.Device.{Ghosts}
@@ -59,3 +59,7 @@ IfKept relation (Some old) (Some new) = relation old new
 abbrev pub IsBegunAnew : Option LogRows → Type 0
 IsBegunAnew None = ⊤
 IsBegunAnew (Some rows) = rows.waiting ≡ []
+
+-- the log beside a file isn't trusted, if one is kept
+abbrev pub IsNotTrusted : StateFile → Type 0
+IsNotTrusted file = IfSome file.log (λ log. trusted log ≡ false)

@@ -18,3 +18,4 @@ pub mod StandIn
 pub mod Appending
 pub mod Logs
 pub mod Recovering
+pub mod Outlasting

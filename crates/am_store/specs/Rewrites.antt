@@ -27,6 +27,10 @@ path_of file = path_buf_bytes file.path
 abbrev pub old_log : List ℕ → List ℕ
 old_log path = path ++ codes ".log.old"
 
+-- the path FILE.log
+abbrev pub own_log : List ℕ → List ℕ
+own_log path = path ++ codes ".log"
+
 -- ---- what the new file holds
 -- the most bytes in a piece, unless one version alone has more
 abbrev pub stretch : ℕ
@@ -228,3 +232,10 @@ new_bytes file = Some (written_in file.log.events)
 -- a compaction has come to its stage, with pieces of these maps
 abbrev pub IsUnderWay : {K X : Type 0} → (X → Version K) → (K → K → Ordering) → List ℕ → ℕ → List (List X) → Compaction K → Type 0
 IsUnderWay seen cmp path most maps compaction = HasCome seen cmp path most new_bytes maps (stage_of compaction) (calls_of compaction)
+
+-- these are the calls of a rewriting with pieces of these states, which is done, or stopped, or is under way
+abbrev pub AreOfRewriting : {K X : Type 0} → (X → Version K) → (K → K → Ordering) → List ℕ → ℕ → List (List X) → List Event → Type 0
+AreOfRewriting {K} {X} seen cmp path most states calls =
+    IsRewritten seen cmp path most states calls
+    ⊎ ((state : List X) × (fault : FileFault) × StopsRewriting seen cmp path most state states calls fault)
+    ⊎ ((compaction : Compaction K) × IsUnderWay seen cmp path most states compaction × (calls_of compaction ≡ calls))

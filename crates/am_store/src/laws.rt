@@ -1,17 +1,22 @@
 //! Laws about what a crash leaves of a save, and of a file that is written anew in stretches.
 
-ghost use Rattle.std.specs.Prelude.{◌≡◌, ◌⊎◌, ℕ, false, List, [], ◌++◌, All, Option, Some, None, codes};
-ghost use Rattle.am_merge.specs.Maps.{IsMap};
+ghost use Rattle.std.specs.Prelude.{◌≡◌, ◌⊎◌, ◌<◌, ◌^◌, ℕ, false, List, [], ◌++◌, All, Contains, Option, Some, None, codes};
+ghost use Rattle.am_version_order.specs.Versions.{IsLive};
+ghost use Rattle.am_merge.specs.Maps.{IsJoin, IsMap, swept};
 ghost use Rattle.am_snapshot.specs.Texts.{row_text};
 ghost use Rattle.am_snapshot.specs.Saving.{FitsRow};
 ghost use Rattle.am_store.specs.declared.file_fault.FileFault.{FileFault};
+ghost use Rattle.am_wire.specs.declared.unknown.Unknown.{Unknown};
+ghost use Rattle.am_store.specs.Blocks.{IsBeforeOrAfter};
 ghost use Rattle.am_store.specs.Calls.{Event};
 ghost use Rattle.am_store.specs.Saves.{IsDirectoryOf, IsSaved, IsStopped, saving};
 ghost use Rattle.am_store.specs.Crashes.{Disk, Remains, Keeps, MayLeave, MayLeaveDuring, Runs, Stays, bytes_at};
-ghost use Rattle.am_store.specs.Rewrites.{End, IsRewritten, IsWritten, StopsRewriting, old_log};
+ghost use Rattle.am_store.specs.Outlasting.{HasAtLeast, InBatches, IsKept, IsKnown, IsState, Outlasts, OutlastsDuring, Stands, StartsWith, content_at};
+ghost use Rattle.am_store.specs.Rewrites.{AreOfRewriting, End, IsRewritten, IsWritten, StopsRewriting, old_log, own_log};
 ghost use Rattle.am_store.specs.UnsyncedSaves.{one_file, without_the_file, without_the_directory};
 
 use am_version_order::Version;
+use am_wire::Record;
 
 /// States that a crash at any moment of a save leaves the file that was there, or none if none was, or else the new one; and
 /// after a save that is done, the new one.
@@ -95,4 +100,41 @@ pub fn pieces_of_one_map_are_its_row<V: Version>()
     // PROMISE: A state that doesn't change while its file is written anew is in the new file as a save writes it.
     ensures { (map : List V) (maps : List (List V)) (row : List ℕ) → IsMap V.seen V.Key.cmp map → All (λ (other : List V). other ≡ map) maps →
         IsWritten V.seen V.Key.cmp maps row End → row ≡ row_text V.seen map }
+{}
+
+/// States that no crash loses a version while a file is written anew, whenever it comes: of a version that a start has after any
+/// crash before, and that each state has which the file is written from, a start has that version then, too, or a greater one of
+/// its key. A log that is written meanwhile isn't synced, as far as these disks know, and may hold anything: what it acknowledged
+/// is in it.
+pub fn no_crash_loses_a_version<V: Record>()
+    ensures stands { (unknown : Unknown) (path : List ℕ) (v : V) (left : Remains) →
+        Stands V.seen (V.reads unknown) path v left → IsKept V.seen (V.reads unknown) path v left }
+    // PROMISE: After any crash a start has each version that a log acknowledged, or a greater one of its key.
+    ensures acknowledged { (unknown : Unknown) (path : List ℕ) (batches : List (List ℕ)) (batch : List ℕ) (v : V) (left : Remains) →
+        InBatches V.seen (V.reads unknown) batches v → IsBeforeOrAfter batches batch (content_at left (own_log path)) →
+        IsKept V.seen (V.reads unknown) path v left }
+    // PROMISE: No crash while a file is written anew loses a version that no crash before would have lost, and that each state has from which the file is written: a start has it, or a greater one of its key.
+    ensures outlasts { (unknown : Unknown) (path : List ℕ) (most : ℕ) (states : List (List V)) (calls : List Event) (disk : Disk) (v : V) →
+        most < 2 ^ 32 → IsDirectoryOf path disk.directory → All (IsState V.seen V.Key.cmp V.Version.is_value V.plain unknown) states →
+        AreOfRewriting V.seen V.Key.cmp path most states calls →
+        Outlasts V.seen (V.reads unknown) path v disk → All (HasAtLeast V.seen v) states →
+        OutlastsDuring V.seen (V.reads unknown) path v calls disk }
+    ensures after { (unknown : Unknown) (path : List ℕ) (calls : List Event) (disk new : Disk) (v : V) →
+        Runs calls disk new → OutlastsDuring V.seen (V.reads unknown) path v calls disk → Outlasts V.seen (V.reads unknown) path v new }
+    // PROMISE: After such a crash a start has no version that was never read or taken: each is in the log, or was in the file or its old log, or in a state from which the file is written.
+    ensures nothing_new { (unknown : Unknown) (path : List ℕ) (most : ℕ) (states : List (List V)) (calls : List Event) (disk : Disk) (left : Remains)
+        (map : List V) (v : V) →
+        most < 2 ^ 32 → IsDirectoryOf path disk.directory → All (IsState V.seen V.Key.cmp V.Version.is_value V.plain unknown) states →
+        AreOfRewriting V.seen V.Key.cmp path most states calls → MayLeaveDuring calls disk left →
+        StartsWith V.seen (V.reads unknown) path left map → Contains map v →
+        IsKnown V.seen (V.reads unknown) path states disk left v }
+{}
+
+/// States that a state keeps a version, or a greater one of its key, as it takes others and is swept, unless the one that it had
+/// has expired.
+pub fn a_state_keeps_what_it_has<V: Version>()
+    ensures joined { (state other joined : List V) (v : V) → IsMap V.seen V.Key.cmp state →
+        IsJoin V.seen V.Key.cmp state other joined → HasAtLeast V.seen v state → HasAtLeast V.seen v joined }
+    ensures swept { (now : ℕ) (state : List V) (v : V) (has : HasAtLeast V.seen v state) →
+        IsLive now (V.seen has.version) → HasAtLeast V.seen v (swept V.seen now state) }
 {}

@@ -1,9 +1,9 @@
 //! The files of a state, which belong to one process for as long as it lives.
 
-ghost use Rattle.std.specs.Prelude.{◌≡◌, is_some, IfErr, IfOk, OnOk};
+ghost use Rattle.std.specs.Prelude.{◌≡◌, ◌⊎◌, is_some, IfErr, IfOk, OnErr, OnOk};
 ghost use Rattle.am_snapshot.specs.Texts.{row_text};
 ghost use Rattle.am_snapshot.specs.Saving.{FitsRow};
-ghost use Rattle.am_store.specs.Appending.{Appends, Commits, IfKept, IsBegunAnew, log_of};
+ghost use Rattle.am_store.specs.Appending.{Appends, Commits, IfKept, IsBegunAnew, IsNotTrusted, log_of};
 ghost use Rattle.am_store.specs.Rewrites.{path_of};
 ghost use Rattle.am_store.specs.Saves.{IsSaved, IsStopped, IsTried, saves_of};
 
@@ -142,7 +142,7 @@ impl StateFile {
     ///
     /// # Errors
     ///
-    /// The reason why the state isn't saved, or the log not begun.
+    /// The reason why the state isn't saved, or the log not begun. If the state is saved, the log isn't trusted then.
     pub fn save<V: Version, R: Files<File = File> + AllocGlobal>(
         &mut self,
         rt: &R,
@@ -154,6 +154,10 @@ impl StateFile {
         // PROMISE: A save puts just the row of the state into its own file.
         ensures saved { OnOk result (IsSaved (path_of self.old) (row_text V.seen held.now) (saves_of self.old) (saves_of self.new)) }
         ensures failed { IfErr result (IsTried (FitsRow V.seen most held.now) (path_of self.old) (row_text V.seen held.now) (saves_of self.old) (saves_of self.new)) }
+        // PROMISE: If a log can't be begun anew after a save, it is no longer trusted.
+        ensures untrusted { IfErr result (λ fault.
+            IsStopped (FitsRow V.seen most held.now) (path_of self.old) (row_text V.seen held.now) (saves_of self.old) (saves_of self.new) fault
+            ⊎ IsNotTrusted self.new) }
     {
         // (want of room may be the reason for this save)
         self.spent.close();
@@ -186,6 +190,7 @@ impl StateFile {
         ensures path { path_of self.new ≡ path_of self.old }
         ensures saves { saves_of self.new ≡ saves_of self.old }
         ensures anew { OnOk result (IsBegunAnew (log_of self.new)) }
+        ensures untrusted { OnErr result (IsNotTrusted self.new) }
     {
         let path = self.path.as_str();
         match &mut self.log {

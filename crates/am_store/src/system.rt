@@ -41,14 +41,6 @@ pub struct SystemFile<F: Drop> {
 }
 
 impl<'r, R: Files> SystemDisk<'r, R> {
-    /// Returns a file system of which nothing has been called yet.
-    pub fn new(system: &'r R) -> SystemDisk<'r, R> {
-        SystemDisk {
-            system,
-            log: Record::new(),
-        }
-    }
-
     /// Returns a file system of which these calls were made.
     pub(crate) fn after(system: &'r R, calls: Record) -> SystemDisk<'r, R>
         ensures { result.log.events ≡ calls.events }

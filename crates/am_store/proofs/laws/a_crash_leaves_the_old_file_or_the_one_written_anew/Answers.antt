@@ -1,4 +1,5 @@
-use Rattle.std.proofs.Common.{◌≡◌, ◌⊎◌, inl, inr, List, ℕ, Option, Some, refl, subst}
+use Rattle.std.specs.Prelude.{⊤}
+use Rattle.std.proofs.Common.{◌≡◌, ◌⊎◌, inl, inr, ⊎_elim, List, ℕ, Option, Some, refl, subst}
 use Rattle.am_store.specs.Calls.{Event}
 use Rattle.am_store.specs.Crashes.{Runs, MayLeaveDuring}
 use Rattle.am_store.proofs.RewriteCrashes.{is_rewriting_done, is_rewritten, leaves_whole}
@@ -6,13 +7,16 @@ use Rattle.am_store.proofs.laws.a_crash_leaves_the_old_file_or_the_one_written_a
 
 pub returns-clause-rewritten : goal.returns-clause-rewritten
 returns-clause-rewritten g c = λ path most maps old calls disk left keeps anew may.
-    is_rewritten path anew.row (λ (found : Option (List ℕ)). (found ≡ old) ⊎ (found ≡ Some anew.row)) (inr refl) disk (λ l m. inl (keeps l m)) left
-    anew.stood anew.ended anew.directory (subst (λ (events : List Event). MayLeaveDuring events disk left) anew.calls may)
+    ⊎_elim (λ was. inl was) (λ new. inr new.0)
+    (is_rewritten path disk left (λ found there log. found ≡ old) (λ there log. ⊤) (λ found there log is. tt) (λ there log is. tt) keeps (λ found there log is. is)
+    anew.row anew.stood anew.ended anew.directory (subst (λ (events : List Event). MayLeaveDuring events disk left) anew.calls may))
 
 pub returns-clause-stopped : goal.returns-clause-stopped
 returns-clause-stopped g c = λ path most map maps old calls fault disk left keeps stops may.
-    leaves_whole path stops.row disk left stops.stood stops.removed stops.ended stops.directory stops.place old keeps stops.stop stops.whole
-    (subst (λ (events : List Event). MayLeaveDuring events disk left) stops.calls may)
+    ⊎_elim (λ was. inl was) (λ new. inr (new.0, new.1))
+    (leaves_whole path disk left (λ found there log. found ≡ old) (λ there log. ⊤) (λ found there log is. tt) (λ there log is. tt) keeps (λ found there log is. is)
+    stops.row stops.place stops.stood stops.removed stops.ended stops.directory stops.stop stops.whole
+    (subst (λ (events : List Event). MayLeaveDuring events disk left) stops.calls may))
 
 pub returns-clause-done : goal.returns-clause-done
 returns-clause-done g c = λ path most maps calls disk new its anew runs.
