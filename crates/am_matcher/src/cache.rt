@@ -21,6 +21,15 @@ use std::marker::Model;
 /// The maximum number of bytes that are counted for all patterns.
 const MOST_BYTES: usize = 128 << 20;
 
+/// The use of a cache by a call that asks for patterns.
+#[derive(Clone, Copy)]
+pub(crate) enum CacheUse {
+    /// Patterns that are kept are used, and those that are compiled are kept if there is room.
+    Fill,
+    /// Patterns that are kept are used, and no other one is kept.
+    LookUp,
+}
+
 /// The result of preparing a pattern.
 #[derive(Clone, Copy, PartialEq, Eq)]
 pub struct Prepared {
@@ -100,17 +109,17 @@ impl PatternCache {
         long_steps(self.entries.as_slice(), length)
     }
 
-    /// Returns whether the value matches the pattern from end to end. The pattern may be kept if `keeps` is true.
+    /// Returns whether the value matches the pattern from end to end.
     pub(crate) fn is_match(
         &mut self,
         dialect: Dialect,
         pattern: &str,
         value: &str,
-        keeps: bool,
+        cache_use: CacheUse,
     ) -> Result<bool, BuildError>
         ensures answer { IfOk result (IsAnswer dialect pattern.now value.now) }
         ensures broken { IsErrOf result BuildError.BadPattern → IsBrokenIn dialect pattern.now }
-        ensures same { keeps ≡ false → self.new ≡ self.old }
+        ensures same { cache_use ≡ CacheUse.LookUp → self.new ≡ self.old }
         ensures kept { (test : List ℕ → Bool) → test pattern.now ≡ true → TextsPass test self.old → TextsPass test self.new }
     {
         if let Some(found) = ask(&mut self.entries, dialect, pattern, value) {
@@ -118,10 +127,12 @@ impl PatternCache {
         }
         let mut built = Kept::build(self.alloc, dialect, pattern)?;
         let found = built.is_match(value);
-        if !keeps {
-            return found;
+        match cache_use {
+            CacheUse::Fill => {
+                let _ = self.keep(built);
+            }
+            CacheUse::LookUp => {}
         }
-        let _ = self.keep(built);
         found
     }
 

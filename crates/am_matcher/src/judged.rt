@@ -6,7 +6,7 @@ ghost use Rattle.am_matcher.specs.Matching.{has_regexp, IsSoundMatcher, IsBroken
 ghost use Rattle.am_matcher.specs.Dialects.{DoMatch, DoesMatch, IsRefusedMatcher, IsVerdictIn};
 ghost use Rattle.am_matcher.specs.Uses.{PatternsPass, TextsPass};
 
-use crate::cache::PatternCache;
+use crate::cache::{CacheUse, PatternCache};
 use crate::compiled::{BuildError, as_wanted};
 use crate::dialect::Dialect;
 use crate::label_names::takes_names;
@@ -14,49 +14,48 @@ use crate::labels::NamedLabels;
 use am_silence::{Matcher, MatcherIter, MatcherRef, Matchers, Verdict};
 use std::alloc::{AllocError, Global};
 
-/// Returns whether the label's value satisfies a matcher. Its pattern may be kept if `keeps` is true.
+/// Returns whether the label's value satisfies a matcher.
 fn judge(
     patterns: &mut PatternCache,
     dialect: Dialect,
     matcher: &MatcherRef<'_>,
     labels: &NamedLabels<'_>,
-    keeps: bool,
+    cache_use: CacheUse,
 ) -> Result<bool, BuildError>
     ensures answer { IfOk result (DoesMatch dialect matcher.now labels.now) }
     ensures broken { IsErrOf result BuildError.BadPattern → IsRefusedMatcher dialect matcher.now }
     ensures failed { OnErr result (is_regexp matcher.now.kind ≡ true) }
-    ensures same { keeps ≡ false → patterns.new ≡ patterns.old }
+    ensures same { cache_use ≡ CacheUse.LookUp → patterns.new ≡ patterns.old }
     ensures kept { (test : List ℕ → Bool) → (is_regexp matcher.now.kind ≡ true → test matcher.now.pattern ≡ true) →
         TextsPass test patterns.old → TextsPass test patterns.new }
 {
     let value = labels.value(matcher.name());
     let found = if matcher.kind().is_regexp() {
-        patterns.is_match(dialect, matcher.pattern(), value, keeps)?
+        patterns.is_match(dialect, matcher.pattern(), value, cache_use)?
     } else {
         matcher.pattern() == value
     };
     Ok(as_wanted(matcher.kind(), found))
 }
 
-/// Returns whether the labels satisfy all of the matchers. All patterns are judged, whatever the labels are, and may be
-/// kept if `keeps` is true.
+/// Returns whether the labels satisfy all of the matchers. All patterns are judged, whatever the labels are.
 pub fn judge_all(
     patterns: &mut PatternCache,
     dialect: Dialect,
     matchers: MatcherIter<'_>,
     labels: &NamedLabels<'_>,
-    keeps: bool,
+    cache_use: CacheUse,
 ) -> Result<bool, BuildError>
     ensures answer { IfOk result (DoMatch dialect matchers.entry labels.now) }
     ensures broken { IsErrOf result BuildError.BadPattern → Any (IsRefusedMatcher dialect) matchers.entry }
     ensures failed { OnErr result (has_regexp matchers.entry ≡ true) }
-    ensures same { keeps ≡ false → patterns.new ≡ patterns.old }
+    ensures same { cache_use ≡ CacheUse.LookUp → patterns.new ≡ patterns.old }
     ensures kept { (test : List ℕ → Bool) → PatternsPass test matchers.entry →
         TextsPass test patterns.old → TextsPass test patterns.new }
 {
     let mut all = true;
     for matcher in matchers {
-        let matches = judge(patterns, dialect, &matcher, labels, keeps)?;
+        let matches = judge(patterns, dialect, &matcher, labels, cache_use)?;
         all &= matches;
     }
     Ok(all)
@@ -74,7 +73,7 @@ pub fn judge_by_no_labels(
     ensures same { patterns.new ≡ patterns.old }
 {
     let labels = NamedLabels::none(patterns.alloc());
-    judge_all(patterns, dialect, matchers, &labels, false)
+    judge_all(patterns, dialect, matchers, &labels, CacheUse::LookUp)
 }
 
 /// Returns whether the empty text satisfies all of the matchers. All patterns are judged.
@@ -93,7 +92,7 @@ fn judge_each(alloc: Global, matchers: &[Matcher]) -> Result<bool, BuildError>
             Dialect::Regex,
             &matcher.borrowed(),
             &labels,
-            false,
+            CacheUse::LookUp,
         )?;
         every &= matches;
     }

@@ -5,7 +5,7 @@ ghost use Rattle.am_silence.specs.Mesh.{Mesh};
 ghost use Rattle.am_matcher.specs.Mutes.{is_active, IsEffect, IsUnread, if_mutes, if_broken, AreMuted, AreMutedIn};
 ghost use Rattle.am_matcher.specs.Uses.{is_among, is_used_by, PatternsPass, SilencesPass, TextsPass};
 
-use crate::cache::PatternCache;
+use crate::cache::{CacheUse, PatternCache};
 use crate::compiled::BuildError;
 use crate::dialect::Dialect;
 use crate::gathering::{buckets_for, gather};
@@ -31,6 +31,15 @@ pub enum Effect {
     Broken,
 }
 
+/// The way in which alerts are held against silences: by the dialect of their patterns, at a moment, and with this use of the
+/// cache.
+#[derive(Drop)]
+struct Judging {
+    dialect: Dialect,
+    moment: Moment,
+    cache_use: CacheUse,
+}
+
 /// Returns whether a silence is in view, has begun and hasn't ended.
 fn is_active(version: &MeshSilence, now: Moment) -> bool
     ensures { result ≡ is_active now version.now }
@@ -45,27 +54,30 @@ fn is_unread(version: &MeshSilence) -> bool
     version.matchers().is_empty() && !version.is_plain()
 }
 
-/// Returns the effect of a silence on an alert with these labels. Patterns are read only if the silence is active, and may
-/// be kept if `keeps` is true.
+/// Returns the effect of a silence on an alert with these labels. Patterns are read only if the silence is active.
 fn effect_of(
     patterns: &mut PatternCache,
-    dialect: Dialect,
+    judging: &Judging,
     version: &MeshSilence,
     labels: &NamedLabels<'_>,
-    now: Moment,
-    keeps: bool,
 ) -> Result<Effect, AllocError>
-    ensures effect { IfOk result (IsEffect dialect labels.now now version.now) }
+    ensures effect { IfOk result (IsEffect judging.now.dialect labels.now judging.now.moment version.now) }
     ensures kept { (test : List ℕ → Bool) → PatternsPass test version.now.silence.matchers →
         TextsPass test patterns.old → TextsPass test patterns.new }
 {
-    if !is_active(version, now) {
+    if !is_active(version, judging.moment) {
         return Ok(Effect::Idle);
     }
     if is_unread(version) {
         return Ok(Effect::Broken);
     }
-    match judge_all(patterns, dialect, version.matchers(), labels, keeps) {
+    match judge_all(
+        patterns,
+        judging.dialect,
+        version.matchers(),
+        labels,
+        judging.cache_use,
+    ) {
         Ok(true) => Ok(Effect::Mutes),
         Ok(false) => Ok(Effect::Passes),
         Err(BuildError::BadPattern) => Ok(Effect::Broken),
@@ -92,24 +104,22 @@ fn put_id(
     Ok(())
 }
 
-/// Returns the silences that mute an alert, and the broken ones. Patterns may be kept if `keeps` is true.
+/// Returns the silences that mute an alert, and the broken ones.
 fn mutes_among(
     alloc: Global,
     patterns: &mut PatternCache,
-    dialect: Dialect,
+    judging: &Judging,
     silences: &[&MeshSilence],
     labels: &NamedLabels<'_>,
-    now: Moment,
-    keeps: bool,
 ) -> Result<Mutes, AllocError>
-    ensures muted { IfOk result (λ m. AreMutedIn dialect labels.now now (map (λ m. m.now) silences.now) m.ids m.broken) }
+    ensures muted { IfOk result (λ m. AreMutedIn judging.now.dialect labels.now judging.now.moment (map (λ m. m.now) silences.now) m.ids m.broken) }
     ensures kept { (test : List ℕ → Bool) → SilencesPass test (map (λ m. m.now) silences.now) →
         TextsPass test patterns.old → TextsPass test patterns.new }
 {
     let mut ids = Vec::new(alloc);
     let mut broken = Vec::new(alloc);
     for &version in silences {
-        let effect = effect_of(patterns, dialect, version, labels, now, keeps)?;
+        let effect = effect_of(patterns, judging, version, labels)?;
         put_id(alloc, version.key(), effect, &mut ids, &mut broken)?;
     }
     Ok(Mutes {
@@ -118,16 +128,14 @@ fn mutes_among(
     })
 }
 
-/// Returns the silences of a map that mute an alert, and the broken ones. Patterns may be kept if `keeps` is true.
+/// Returns the silences of a map that mute an alert, and the broken ones.
 fn mutes_by(
     patterns: &mut PatternCache,
-    dialect: Dialect,
+    judging: &Judging,
     held: &Held<MeshSilence>,
     labels: &[Label],
-    now: Moment,
-    keeps: bool,
 ) -> Result<Mutes, AllocError>
-    ensures muted { IfOk result (λ m. AreMutedIn dialect labels.now now held.now m.ids m.broken) }
+    ensures muted { IfOk result (λ m. AreMutedIn judging.now.dialect labels.now judging.now.moment held.now m.ids m.broken) }
     ensures kept { (test : List ℕ → Bool) → SilencesPass test held.now →
         TextsPass test patterns.old → TextsPass test patterns.new }
 {
@@ -135,7 +143,7 @@ fn mutes_by(
     let buckets = buckets_for(alloc, labels)?;
     let silences = gather(alloc, held, &buckets)?;
     let named = NamedLabels::new(alloc, labels)?;
-    let muted = mutes_among(alloc, patterns, dialect, &silences, &named, now, keeps)?;
+    let muted = mutes_among(alloc, patterns, judging, &silences, &named)?;
     Ok(muted)
 }
 
@@ -176,7 +184,12 @@ impl PatternCache {
         // Each pattern that is kept afterwards was kept before, or belongs to a silence.
         ensures kept { TextsPass (λ text. is_among self.old text || is_used_by held.now text) self.new }
     {
-        mutes_by(self, dialect, held, labels.as_slice(), now, true)
+        let judging = Judging {
+            dialect,
+            moment: now,
+            cache_use: CacheUse::Fill,
+        };
+        mutes_by(self, &judging, held, labels.as_slice())
     }
 }
 
@@ -200,12 +213,15 @@ pub fn mutes(
     // PROMISE: An alert is muted by exactly the active silences that can be judged and whose matchers all match.
     ensures { IfOk result (λ m. AreMuted labels.now now held.now m.ids m.broken) }
 {
+    let judging = Judging {
+        dialect: Dialect::Regex,
+        moment: now,
+        cache_use: CacheUse::LookUp,
+    };
     mutes_by(
         &mut PatternCache::new(alloc),
-        Dialect::Regex,
+        &judging,
         held,
         labels.as_slice(),
-        now,
-        false,
     )
 }

@@ -23,7 +23,7 @@ loop-version-preserved c =
     let within : c.loop-version.version-index < length all = omega (arith, length-map c.args.silences.now (λ (m : Silence). m.now)) in
     let is : item.now ≡ get_or all c.loop-version.version-index item.now = among c.args.silences.now c.loop-version.version-index item c.loop-version-test.true c.version-item.is in record {
       muted =
-          muted_more c.args.dialect c.args.labels.now c.args.now all c.loop-version.version-index item.now c.in_ok-effect.effect c.loop-version.ids.items c.loop-version.broken.items _ _ within is
+          muted_more c.args.judging.now.dialect c.args.labels.now c.args.judging.now.moment all c.loop-version.version-index item.now c.in_ok-effect.effect c.loop-version.ids.items c.loop-version.broken.items _ _ within is
           c.in_ok-effect.ensures.effect c.loop-version.invariant.muted
           (c.in_ok-put_id.ensures.ids ∙ ap (λ id. c.loop-version.ids.items ++ if_mutes c.in_ok-effect.effect id) c.key.ensures)
           (c.in_ok-put_id.ensures.broken ∙ ap (λ id. c.loop-version.broken.items ++ if_broken c.in_ok-effect.effect id) c.key.ensures);

@@ -5,6 +5,6 @@ use Rattle.am_matcher.proofs.muting.mutes_among.Given as goal
 
 abbrev pub invariant-loop-version : goal.invariant-loop-version
 invariant-loop-version l = record {
-  muted : AreMutedIn l.dialect l.labels l.now (take l.version-index (map (λ m. m.now) l.silences)) l.ids.items l.broken.items;
+  muted : AreMutedIn l.judging.dialect l.labels l.judging.moment (take l.version-index (map (λ m. m.now) l.silences)) l.ids.items l.broken.items;
   kept : (test : List ℕ → Bool) → SilencesPass test (map (λ m. m.now) l.silences) → TextsPass test l.fn.patterns → TextsPass test l.patterns;
 }

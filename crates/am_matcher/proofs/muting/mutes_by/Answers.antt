@@ -16,8 +16,8 @@ returns-clause-muted c =
     let labels = c.args.labels.now in
     let found : silences c.deref-2.result.now ≡ filter (is_in (buckets_for labels)) c.args.held.now =
     ap silences c.deref-2.ensures.value ∙ c.in_ok-silences.ensures ∙ ap (λ bs. filter (is_in bs) c.args.held.now) (c.deref.ensures.value ∙ c.in_ok-buckets.ensures) in
-    muted_among_all c.args.dialect labels c.args.now (is_in (buckets_for labels)) c.args.held.now ids broken (λ m no. other_bucket labels c.args.dialect m no) (subst (λ ms. AreMutedIn c.args.dialect labels c.args.now ms ids broken) found
-    (subst (λ (ls : List Label). AreMutedIn c.args.dialect ls c.args.now (silences c.deref-2.result.now) ids broken) c.in_ok-named.ensures c.in_ok-muted.ensures.muted))
+    muted_among_all c.args.judging.now.dialect labels c.args.judging.now.moment (is_in (buckets_for labels)) c.args.held.now ids broken (λ m no. other_bucket labels c.args.judging.now.dialect m no) (subst (λ ms. AreMutedIn c.args.judging.now.dialect labels c.args.judging.now.moment ms ids broken) found
+    (subst (λ (ls : List Label). AreMutedIn c.args.judging.now.dialect ls c.args.judging.now.moment (silences c.deref-2.result.now) ids broken) c.in_ok-named.ensures c.in_ok-muted.ensures.muted))
 
 pub returns-clause-kept : goal.returns-clause-kept
 returns-clause-kept c = λ test pass old.
