@@ -139,16 +139,15 @@ impl Instance {
         ensures stopped { OnErr result (StopsDelivering now (before_fault (rows_of self.old.config.unknown part.now)) self.old self.new taken.old taken.new) }
     {
         let taking = Taking {
+            unknown: self.config.unknown(),
             moment: now,
             key: part.key,
             route: self.route(sender),
         };
-        let unknown = self.config.unknown();
         let row = part.bytes.as_slice();
         match part.key {
             StateKey::Sil => merge_row::<MeshSilence>(
                 self.alloc,
-                unknown,
                 &mut self.silences,
                 row,
                 &taking,
@@ -157,7 +156,6 @@ impl Instance {
             ),
             StateKey::Nfl => merge_row::<MeshEntry>(
                 self.alloc,
-                unknown,
                 &mut self.log,
                 row,
                 &taking,

@@ -38,10 +38,11 @@ pub fn validate_row<V: Message>(
     Ok(())
 }
 
-/// The context in which the versions of a row are taken: the moment, their state, and the members to which versions that
-/// change a map are sent.
+/// The context in which the versions of a row are taken: the policy for unknown fields, the moment, their state, and the
+/// members to which versions that change a map are sent.
 #[derive(Clone, Copy)]
 pub struct Taking {
+    pub unknown: Unknown,
     pub moment: Moment,
     pub key: StateKey,
     pub route: Route,
@@ -95,34 +96,32 @@ fn take_one<V: Version>(
     Ok(())
 }
 
-/// Takes the versions of a row in order, read by the policy for unknown fields, and counts them. Versions that change the
-/// map are sent on.
+/// Takes the versions of a row in order, and counts them. Versions that change the map are sent on.
 ///
 /// # Errors
 ///
 /// [`AllocError`] if memory runs out. The versions that were counted were taken.
 pub fn merge_row<V: Record>(
     alloc: Global,
-    unknown: Unknown,
     held: &mut Held<V>,
     row: &[u8],
     taking: &Taking,
     outbox: &mut FrameSender,
     taken: &mut usize,
 ) -> Result<(), AllocError>
-    requires { first_fault (messages_of (V.reads unknown) row.now) ≡ None }
+    requires { first_fault (messages_of (V.reads taking.now.unknown) row.now) ≡ None }
     ensures map { OnOk result ((key : V.Key) → at V.seen V.Key.cmp held.new key
         ≡ after_all V.seen V.Key.cmp (at V.seen V.Key.cmp held.old)
-        (takings taking.now.moment (before_fault (messages_of (V.reads unknown) row.now))) key) }
-    ensures count { OnOk result (taken.new ≡ taken.old + length (before_fault (messages_of (V.reads unknown) row.now))) }
+        (takings taking.now.moment (before_fault (messages_of (V.reads taking.now.unknown) row.now))) key) }
+    ensures count { OnOk result (taken.new ≡ taken.old + length (before_fault (messages_of (V.reads taking.now.unknown) row.now))) }
     ensures sent { OnOk result (Sends (deltas_of V.seen taking.now.key
         (places_but taking.now.route.members taking.now.route.own taking.now.route.origin)
         (changed V.seen V.Key.cmp taking.now.moment (at V.seen V.Key.cmp held.old)
-        (before_fault (messages_of (V.reads unknown) row.now)))) outbox.old outbox.new) }
+        (before_fault (messages_of (V.reads taking.now.unknown) row.now)))) outbox.old outbox.new) }
     ensures stopped { OnErr result (IsStoppedRow V.seen V.Key.cmp taking.now.moment held.old
-        (before_fault (messages_of (V.reads unknown) row.now)) held.new taken.old taken.new) }
+        (before_fault (messages_of (V.reads taking.now.unknown) row.now)) held.new taken.old taken.new) }
 {
-    for message in Messages::<V>::within(alloc, unknown, row, 0) {
+    for message in Messages::<V>::within(alloc, taking.unknown, row, 0) {
         let Ok(version) = message else {
             return Err(AllocError);
         };
