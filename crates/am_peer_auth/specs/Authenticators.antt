@@ -99,20 +99,20 @@ UnsealsFrom (Some sender) lock place out session bytes it way session' = TakesSe
 abbrev pub Unseals : Lock → Sequence → ℕ → Standing → List ℕ → Told → Way → Standing → Type 0
 Unseals lock place out session bytes it way session' = UnsealsFrom (name_of session) lock place out session bytes it way session'
 
--- the session hears the greeting, and the bytes behind it are sealed frames of its sender, the first ones behind this challenge,
--- of which nothing was sent yet; unless the session has no memory for the greeting
-pub record IsGreeted (lock : Lock) (challenge : List ℕ) (name : List ℕ) (session : Standing) (text behind : List ℕ) (it : Told) (way : Way) (session' : Standing) : Type 0 where
+-- the session hears the greeting, and the bytes behind it are sealed frames of its sender, from this place on, of whose challenge
+-- nothing was sent yet; unless the session has no memory for the greeting
+pub record IsGreeted (lock : Lock) (name : List ℕ) (place : Sequence) (session : Standing) (text behind : List ℕ) (it : Told) (way : Way) (session' : Standing) : Type 0 where
   pub said : Spoken
   pub mid : Standing
   pub greets : Feeds session text said mid
-  pub frames : said.fault ≡ None → TakesSealed lock name (first_in challenge) 0 mid behind it way session'
+  pub frames : said.fault ≡ None → TakesSealed lock name place 0 mid behind it way session'
   pub lacks : (fault : _) → said.fault ≡ Some fault → (it ≡ told said) × (way ≡ shut) × (session' ≡ mid)
 
 -- the greeting isn't whole; or it is; or it is at fault
 abbrev pub GreetsBy : Result (Option (List ℕ × ℕ)) FrameError → Lock → List ℕ → Standing → List ℕ → Told → Way → Standing → Type 0
 GreetsBy (Ok None) lock challenge session bytes it way session' = Waits (greeting bytes) session it way session'
 GreetsBy (Ok (Some hello)) lock challenge session bytes it way session' =
-    IsGreeted lock challenge hello.0 session (take hello.1 bytes) (drop hello.1 bytes) it way session'
+    IsGreeted lock hello.0 (first_in challenge) session (take hello.1 bytes) (drop hello.1 bytes) it way session'
 GreetsBy (Err error) lock challenge session bytes it way session' = IsFailed error session it way session'
 
 -- the output for the bytes behind the first byte of a sealed connection, if this challenge is sent back

@@ -62,17 +62,61 @@ impl Authenticator {
         ensures accepts { self.new.accepts ≡ self.old.accepts }
     {
         let state = mem::replace(&mut self.state, AuthState::Closed);
-        let (heard, next) = next_of(
-            self.alloc,
-            self.accepts,
-            state,
-            session,
-            lock,
-            challenge,
-            piece,
-        );
+        let (heard, next) = self.next_of(state, session, lock, challenge, piece);
         self.state = next;
         heard
+    }
+
+    /// Returns what the next piece says in this state of the connection, and the next state.
+    fn next_of(
+        &self,
+        state: AuthState,
+        session: &mut Session,
+        lock: Option<Lock<'_>>,
+        challenge: [u8; CHALLENGE],
+        piece: &[u8],
+    ) -> (Heard, AuthState)
+        ensures { Passes self.now.accepts lock.entry challenge (way_of state) session.old piece.now (told_by result.0) (way_of result.1) session.new }
+    {
+        match (state, lock) {
+            (AuthState::Fresh, _) => self.begin(session, lock, challenge, piece),
+            (AuthState::Open, _) => pass_on(session, piece),
+            (AuthState::Greeting(bytes), Some(lock)) => {
+                greet_on(self.alloc, session, lock, challenge, bytes, piece)
+            }
+            (AuthState::Sealed(sealing), Some(lock)) => {
+                unseal(self.alloc, session, lock, sealing, piece)
+            }
+            _ => wait(self.alloc, AuthState::Closed),
+        }
+    }
+
+    /// Returns what the first piece says, and the next state.
+    fn begin(
+        &self,
+        session: &mut Session,
+        lock: Option<Lock<'_>>,
+        challenge: [u8; CHALLENGE],
+        piece: &[u8],
+    ) -> (Heard, AuthState)
+        ensures { Passes self.now.accepts lock.entry challenge before session.old piece.now (told_by result.0) (way_of result.1) session.new }
+    {
+        let alloc = self.alloc;
+        match piece.split_first() {
+            None => wait(alloc, AuthState::Fresh),
+            Some((first, _)) if *first >= LEAST_OF_REQUESTS => match self.accepts {
+                AcceptedProtocols::Frames => turn_back(alloc, session, AuthFault::Requests),
+                _ => pass_on(session, piece),
+            },
+            Some((first, behind)) => match (self.accepts, lock) {
+                (AcceptedProtocols::Requests, _) => turn_back(alloc, session, AuthFault::Frames),
+                (_, None) => pass_on(session, piece),
+                (_, Some(lock)) if *first == SEALED => {
+                    greet_on(alloc, session, lock, challenge, Vec::new(alloc), behind)
+                }
+                _ => turn_back(alloc, session, AuthFault::Unsealed),
+            },
+        }
     }
 
     /// Ends the input.
@@ -123,56 +167,5 @@ impl Authenticator {
         if let AuthState::Sealed(sealing) = &mut self.state {
             sealing.sent(count);
         }
-    }
-}
-
-/// Returns what the next piece says.
-fn next_of(
-    alloc: Global,
-    accepts: AcceptedProtocols,
-    state: AuthState,
-    session: &mut Session,
-    lock: Option<Lock<'_>>,
-    challenge: [u8; CHALLENGE],
-    piece: &[u8],
-) -> (Heard, AuthState)
-    ensures { Passes accepts lock.entry challenge (way_of state) session.old piece.now (told_by result.0) (way_of result.1) session.new }
-{
-    match (state, lock) {
-        (AuthState::Fresh, _) => begin(alloc, accepts, session, lock, challenge, piece),
-        (AuthState::Open, _) => pass_on(session, piece),
-        (AuthState::Greeting(bytes), Some(lock)) => {
-            greet_on(alloc, session, lock, challenge, bytes, piece)
-        }
-        (AuthState::Sealed(sealing), Some(lock)) => unseal(alloc, session, lock, sealing, piece),
-        _ => wait(alloc, AuthState::Closed),
-    }
-}
-
-/// Returns what the first piece says.
-fn begin(
-    alloc: Global,
-    accepts: AcceptedProtocols,
-    session: &mut Session,
-    lock: Option<Lock<'_>>,
-    challenge: [u8; CHALLENGE],
-    piece: &[u8],
-) -> (Heard, AuthState)
-    ensures { Passes accepts lock.entry challenge before session.old piece.now (told_by result.0) (way_of result.1) session.new }
-{
-    match piece.split_first() {
-        None => wait(alloc, AuthState::Fresh),
-        Some((first, _)) if *first >= LEAST_OF_REQUESTS => match accepts {
-            AcceptedProtocols::Frames => turn_back(alloc, session, AuthFault::Requests),
-            _ => pass_on(session, piece),
-        },
-        Some((first, behind)) => match (accepts, lock) {
-            (AcceptedProtocols::Requests, _) => turn_back(alloc, session, AuthFault::Frames),
-            (_, None) => pass_on(session, piece),
-            (_, Some(lock)) if *first == SEALED => {
-                greet_on(alloc, session, lock, challenge, Vec::new(alloc), behind)
-            }
-            _ => turn_back(alloc, session, AuthFault::Unsealed),
-        },
     }
 }

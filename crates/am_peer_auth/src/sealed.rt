@@ -68,28 +68,21 @@ pub fn unseal(
     keep(session, opened, out, waiting)
 }
 
-/// Returns what a greeting says, and the sealed frames behind it that answer a challenge.
+/// Returns what a greeting says, and the sealed frames of this origin behind it.
 fn greeted(
     alloc: Global,
     session: &mut Session,
-    lock: Lock<'_>,
-    challenge: [u8; CHALLENGE],
-    name: &str,
+    origin: Origin<'_>,
     greeting: &[u8],
     behind: &[u8],
 ) -> (Heard, AuthState)
-    ensures { IsGreeted lock.entry challenge name.now session.old greeting.now behind.now (told_by result.0) (way_of result.1) session.new }
+    ensures { IsGreeted origin.entry.lock origin.entry.sender.now origin.entry.place session.old greeting.now behind.now (told_by result.0) (way_of result.1) session.new }
 {
     let said = session.feed(greeting);
     if said.fault.is_some() {
         return (Heard { said, fault: None }, AuthState::Closed);
     }
     let mut waiting = Waiting::new(alloc);
-    let origin = Origin {
-        lock,
-        sender: name,
-        place: Sequence::new(challenge),
-    };
     let opened = open_piece(alloc, origin, &mut waiting, behind);
     keep(session, opened, 0, waiting)
 }
@@ -117,7 +110,12 @@ fn greet(
     match read_hello(bytes) {
         Ok(Some((name, len))) => {
             let (greeting, behind) = bytes.split_at(len);
-            greeted(alloc, session, lock, challenge, name, greeting, behind)
+            let origin = Origin {
+                lock,
+                sender: name,
+                place: Sequence::new(challenge),
+            };
+            greeted(alloc, session, origin, greeting, behind)
         }
         Ok(None) => match wait_on(alloc, bytes) {
             Some(state) => wait(alloc, state),

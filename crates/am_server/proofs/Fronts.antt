@@ -97,7 +97,7 @@ module _ (fed front : List ℕ) (told : Told) (way' : Way) (session' : Standing)
       goes_on_fronts takes.1 (after (length takes.0) place) out takes.2 mid is long begins takes.4.goes_on
 
   module _ (lock : Lock) (challenge : List ℕ) (session : Standing) (long : length challenge ≡ 32) (none : front ≡ []) (begins : BeginsSealed fed) where
-    greeted_fronts : (name text behind : List ℕ) (is : IsGreetedSealed lock challenge name session text behind told way' session') (fault : Option SessionFault) →
+    greeted_fronts : (name text behind : List ℕ) (is : IsGreetedSealed lock name (first_in challenge) session text behind told way' session') (fault : Option SessionFault) →
         is.said.fault ≡ fault → Fronts
     greeted_fronts name text behind is None e = takes_fronts lock name (first_in challenge) 0 is.mid behind none long begins (is.frames e)
     greeted_fronts name text behind is (Some fault) e = fronts shut (is.lacks fault e).1 (inl none)

@@ -672,11 +672,11 @@ module _ (way : Way) (session : Standing) (piece : List ℕ) (told : Told) (way'
   takes_through lock sender place out bytes greeting_ mid met takes =
       goes_on_through greeting_ mid takes.0 takes.1 (after (length takes.0) place) out takes.2 met takes.4.said takes.4.goes_on
 
-  greeted_by : (lock : Lock) (challenge name text behind : List ℕ) (is : IsGreetedSealed lock challenge name session text behind told way' session') (fault : Option SessionFault) →
+  greeted_by : (lock : Lock) (name : List ℕ) (place : Sequence) (text behind : List ℕ) (is : IsGreetedSealed lock name place session text behind told way' session') (fault : Option SessionFault) →
       is.said.fault ≡ fault → GoesThrough way session piece told.said way' session'
-  greeted_by lock challenge name text behind is None e =
-      takes_through lock name (first_in challenge) 0 behind text is.mid (inr (is.said, is.greets, e)) (is.frames e)
-  greeted_by lock challenge name text behind is (Some fault) e =
+  greeted_by lock name place text behind is None e =
+      takes_through lock name place 0 behind text is.mid (inr (is.said, is.greets, e)) (is.frames e)
+  greeted_by lock name place text behind is (Some fault) e =
       let lacks = is.lacks fault e in
       inl (record {
         came = FedAnyhow text;
@@ -688,7 +688,7 @@ module _ (way : Way) (session : Standing) (piece : List ℕ) (told : Told) (way'
   hello_through : (lock : Lock) (challenge bytes : List ℕ) (hello : Result (Option (List ℕ × ℕ)) FrameError) → GreetsBy hello lock challenge session bytes told way' session' →
       GoesThrough way session piece told.said way' session'
   hello_through lock challenge bytes (Ok None) waits = waits_through (greeting bytes) (λ fed turns more. tt) waits
-  hello_through lock challenge bytes (Ok (Some hello)) is = greeted_by lock challenge hello.0 (take hello.1 bytes) (drop hello.1 bytes) is is.said.fault refl
+  hello_through lock challenge bytes (Ok (Some hello)) is = greeted_by lock hello.0 (first_in challenge) (take hello.1 bytes) (drop hello.1 bytes) is is.said.fault refl
   hello_through lock challenge bytes (Err error) failed = failed_through error failed
 
   greets_through : (lock : Lock) (challenge bytes : List ℕ) → GreetsSealed lock challenge session bytes told way' session' → GoesThrough way session piece told.said way' session'
