@@ -11,6 +11,7 @@ use crate::error::ClusterError;
 use crate::journal::Mark;
 use crate::line_events::to_event;
 use crate::resolved_event::ResolvedEvent;
+use crate::writing::Entry;
 use am_instance::Reply;
 use am_schedule::{Action, LineEvent, Step};
 use am_version_order::Moment;
@@ -55,9 +56,15 @@ impl Cluster {
             return Err(self.refuse_at(place, cause, now, line));
         }
         match self.asked(place, event)? {
-            ResolvedEvent::Event { event, source } => self.apply_event(
-                place, event, source, now, line,
-            ),
+            ResolvedEvent::Event { event, source } => {
+                let entry = Entry {
+                    place,
+                    moment: now,
+                    source,
+                    line,
+                };
+                self.apply_event(entry, event)
+            }
             ResolvedEvent::Start => self.start_at(place, now, line),
             ResolvedEvent::NoMember => {
                 Err(self.refuse(ClusterError::UnknownPeer, Mark::Refused { now }, line))
