@@ -63,6 +63,14 @@ where
     dropped: u64,
 }
 
+/// The member's own state beside one of an answer: the versions that it holds, its policy for unknown fields, and the moment.
+#[derive(Drop)]
+pub struct OwnState<'a, V: Version> {
+    pub held: &'a Held<V>,
+    pub unknown: Unknown,
+    pub now: Moment,
+}
+
 /// Returns the number of matchers, receivers and moments in the versions of a row that have fields which aren't known.
 fn count_dropped(alloc: Global, key: StateKey, row: &[u8]) -> Result<u64, AllocError> {
     let kind = match key {
@@ -121,8 +129,7 @@ where
         (self.key, mem::replace(&mut self.given, Vec::new(alloc)))
     }
 
-    /// Does another stretch of the state with this row, read by the policy for unknown fields, beside a member that holds these
-    /// versions, and returns what comes in.
+    /// Does another stretch of the state with this row, beside the member's own, and returns what comes in.
     ///
     /// # Errors
     ///
@@ -130,19 +137,17 @@ where
     pub fn resume(
         &mut self,
         alloc: Global,
-        unknown: Unknown,
         row: &[u8],
-        own: &Held<V>,
-        now: Moment,
+        own: &OwnState<'_, V>,
     ) -> Result<Option<Part>, AnswerError> {
         match mem::replace(&mut self.stage, AnswerStage::Done) {
             AnswerStage::Reading => {
-                self.read_on(alloc, unknown, row)?;
+                self.read_on(alloc, own.unknown, row)?;
                 Ok(None)
             }
-            AnswerStage::Taking(from) => Ok(self.take_on(alloc, own, from)?),
+            AnswerStage::Taking(from) => Ok(self.take_on(alloc, own.held, from)?),
             AnswerStage::Giving(from) => {
-                self.give_on(alloc, own, from, now)?;
+                self.give_on(alloc, own, from)?;
                 Ok(None)
             }
             AnswerStage::Done => Ok(None),
@@ -229,12 +234,11 @@ where
     fn give_on(
         &mut self,
         alloc: Global,
-        own: &Held<V>,
+        own: &OwnState<'_, V>,
         from: Option<V::Key>,
-        now: Moment,
     ) -> Result<(), AllocError> {
-        let left = left_of(own, from.as_ref());
-        let filter = VersionFilter::Given(&self.held, now);
+        let left = left_of(own.held, from.as_ref());
+        let filter = VersionFilter::Given(&self.held, own.now);
         let tally = &mut self.tally;
         let RowPiece { row, next } = sift(
             alloc,

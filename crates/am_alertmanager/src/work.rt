@@ -1,6 +1,6 @@
 //! The work on an answer, a stretch at a time.
 
-use crate::answer_state::AnswerState;
+use crate::answer_state::{AnswerState, OwnState};
 use crate::candidate::Candidate;
 use crate::pending_versions::PendingVersions;
 use crate::told::{Telling, ToldRows};
@@ -84,10 +84,20 @@ impl AnswerWork {
             AnswerWork::Answer(answer) => unpack_on(alloc, answer),
             AnswerWork::Rows(telling) => search_on(alloc, telling),
             AnswerWork::Silences(rows, side) => {
-                resume_silences(alloc, unknown, rows, side, silences, pending_versions, now)
+                let own = OwnState {
+                    held: silences,
+                    unknown,
+                    now,
+                };
+                resume_silences(alloc, rows, side, &own, pending_versions)
             }
             AnswerWork::Entries(row, side) => {
-                resume_entries(alloc, unknown, row, side, entries, pending_versions, now)
+                let own = OwnState {
+                    held: entries,
+                    unknown,
+                    now,
+                };
+                resume_entries(alloc, row, side, &own, pending_versions)
             }
         }
     }
@@ -121,17 +131,15 @@ fn goes_on(work: AnswerWork) -> Stretch {
 /// to its pending versions in the end.
 fn look_at<V: Candidate + Message>(
     alloc: Global,
-    unknown: Unknown,
     side: &mut AnswerState<V>,
     row: &[u8],
-    own: &Held<V>,
+    own: &OwnState<'_, V>,
     pending_versions: &mut PendingVersions,
-    now: Moment,
 ) -> Result<Option<Frame>, AnswerError>
 where
     V::Key: Drop,
 {
-    let part = side.resume(alloc, unknown, row, own, now)?;
+    let part = side.resume(alloc, row, own)?;
     pending_versions.count_dropped(side.take_dropped());
     let frame = some_frame(alloc, part)?;
     if side.is_done() {
@@ -144,23 +152,13 @@ where
 /// Looks at a stretch of the silences.
 fn resume_silences(
     alloc: Global,
-    unknown: Unknown,
     rows: ToldRows,
     side: AnswerState<MeshSilence>,
-    own: &Held<MeshSilence>,
+    own: &OwnState<'_, MeshSilence>,
     pending_versions: &mut PendingVersions,
-    now: Moment,
 ) -> Result<Stretch, AnswerError> {
     let mut side = side;
-    let frame = look_at(
-        alloc,
-        unknown,
-        &mut side,
-        &rows.silences,
-        own,
-        pending_versions,
-        now,
-    )?;
+    let frame = look_at(alloc, &mut side, &rows.silences, own, pending_versions)?;
     pending_versions.count(side.take_tally(alloc))?;
     let left = if side.is_done() {
         AnswerWork::Entries(rows.entries, AnswerState::new(alloc, StateKey::Nfl))
@@ -176,15 +174,13 @@ fn resume_silences(
 /// Looks at a stretch of the log.
 fn resume_entries(
     alloc: Global,
-    unknown: Unknown,
     row: Vec<u8>,
     side: AnswerState<MeshEntry>,
-    own: &Held<MeshEntry>,
+    own: &OwnState<'_, MeshEntry>,
     pending_versions: &mut PendingVersions,
-    now: Moment,
 ) -> Result<Stretch, AnswerError> {
     let mut side = side;
-    let frame = look_at(alloc, unknown, &mut side, &row, own, pending_versions, now)?;
+    let frame = look_at(alloc, &mut side, &row, own, pending_versions)?;
     pending_versions.lack(side.take_tally(alloc).passed);
     let left = if side.is_done() {
         None
