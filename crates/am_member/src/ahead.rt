@@ -26,6 +26,15 @@ const BESIDE_TEXT: usize = 64;
 /// The number of bytes, as they are counted for what is kept, after whose compiling a stretch ends: a few simple patterns.
 const ENOUGH_BYTES: usize = 64 << 10;
 
+/// The patterns that a pass compiles: those of the set from the next one on, or all of them. Of the ones before, there is no room
+/// for those that aren't kept.
+#[derive(Drop)]
+struct Compiling {
+    found: PatternSet,
+    next: Option<Text>,
+    unkept: Unkept,
+}
+
 /// The stage of a pass over the silences.
 #[derive(Drop)]
 enum Pass {
@@ -33,8 +42,8 @@ enum Pass {
     Due,
     /// Those from an identifier on weren't looked at, and the others have these patterns.
     Looking(PatternSet, Text),
-    /// All were looked at. Their patterns from one on, or all of them, aren't compiled; of the others, there is no room for some.
-    Compiling(PatternSet, Option<Text>, Unkept),
+    /// All were looked at, and these patterns are compiled.
+    Compiling(Compiling),
     /// All patterns are compiled, and there is no room for some.
     Over(Unkept),
     /// There was no memory to go on.
@@ -160,9 +169,9 @@ fn go_on(
         Pass::Looking(found, id) => {
             look_on(alloc, patterns, found, silences.iter_from(&id), now)
         }
-        Pass::Compiling(found, next, unkept) => {
+        Pass::Compiling(compiling) => {
             let dialect = instance.config().dialect();
-            compile_on(alloc, patterns, dialect, found, next, unkept)
+            compile_on(alloc, patterns, dialect, compiling)
         }
         over => Ok(over),
     }
@@ -186,7 +195,11 @@ fn look_on(
             } else {
                 Unkept::none()
             };
-            Ok(Pass::Compiling(found, None, unkept))
+            Ok(Pass::Compiling(Compiling {
+                found,
+                next: None,
+                unkept,
+            }))
         }
     }
 }
@@ -239,19 +252,20 @@ fn compile_on(
     alloc: Global,
     patterns: &mut PatternCache,
     dialect: Dialect,
-    found: PatternSet,
-    next: Option<Text>,
-    unkept: Unkept,
+    compiling: Compiling,
 ) -> Result<Pass, AllocError> {
-    let mut unkept = unkept;
-    match compile(
-        alloc,
-        patterns,
-        dialect,
-        found.iter_from(&next),
-        &mut unkept,
-    )? {
-        Some(pattern) => Ok(Pass::Compiling(found, Some(pattern), unkept)),
+    let Compiling {
+        found,
+        next,
+        mut unkept,
+    } = compiling;
+    let left = found.iter_from(&next);
+    match compile(alloc, patterns, dialect, left, &mut unkept)? {
+        Some(pattern) => Ok(Pass::Compiling(Compiling {
+            found,
+            next: Some(pattern),
+            unkept,
+        })),
         None => Ok(Pass::Over(unkept)),
     }
 }
