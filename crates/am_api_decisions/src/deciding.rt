@@ -11,7 +11,7 @@ use crate::answer::Verdict;
 use crate::asked::Question;
 use crate::group::Group;
 use crate::message::Alert;
-use crate::settling::{Judgement, settle};
+use crate::settling::{JudgedGroup, Judgement, settle};
 use crate::table;
 use crate::tally::Tally;
 use crate::timing::Timing;
@@ -152,7 +152,12 @@ impl Deciding {
                     tally,
                     longest: _,
                 } = deciding;
-                settle(alloc, instance, group, tally, Judgement::Whole, timing)
+                let whole = JudgedGroup {
+                    group,
+                    tally,
+                    judgement: Judgement::Whole,
+                };
+                settle(alloc, instance, whole, timing)
             }
             Err(refusal) => Verdict::refusal(alloc, &refusal),
         }
@@ -174,7 +179,14 @@ impl Deciding {
             longest: _,
         } = self;
         match tally.add_unasked(alloc, left) {
-            Ok(()) => settle(alloc, instance, group, tally, Judgement::Partial, timing),
+            Ok(()) => {
+                let partial = JudgedGroup {
+                    group,
+                    tally,
+                    judgement: Judgement::Partial,
+                };
+                settle(alloc, instance, partial, timing)
+            }
             Err(_) => Verdict::short(),
         }
     }

@@ -31,6 +31,14 @@ pub enum Judgement {
     Partial,
 }
 
+/// A group whose alerts have been counted, and the part of them that was held against the silences.
+#[derive(Drop)]
+pub struct JudgedGroup {
+    pub group: Group,
+    pub tally: Tally,
+    pub judgement: Judgement,
+}
+
 /// Returns why a group is notified, or why not.
 fn why_of(judgement: Judgement, decision: Decision) -> Why
     ensures { result ≡ why_of judgement decision }
@@ -104,19 +112,17 @@ fn told_of(alloc: Global, timing: Timing, group: Group, tally: Tally, why: Why) 
 }
 
 /// Returns the reply that says what a step decided of a group.
-fn told_by(
-    alloc: Global,
-    judgement: Judgement,
-    timing: Timing,
-    group: Group,
-    tally: Tally,
-    reply: Reply,
-) -> Verdict
-    ensures says { Says (IsDecisionBytes judgement timing group tally reply) result.reply }
+fn told_by(alloc: Global, judged: JudgedGroup, timing: Timing, reply: Reply) -> Verdict
+    ensures says { Says (IsDecisionBytes judged.judgement timing judged.group judged.tally reply) result.reply }
     ensures reason { GivesReason result.why result.reply }
 {
     match reply {
         Reply::Decided(decision) => {
+            let JudgedGroup {
+                group,
+                tally,
+                judgement,
+            } = judged;
             let why = why_of(judgement, decision);
             told_of(alloc, timing, group, tally, why)
         }
@@ -128,19 +134,17 @@ fn told_by(
 fn decide_by_step(
     alloc: Global,
     instance: &mut Instance,
-    group: Group,
-    tally: Tally,
-    judgement: Judgement,
+    judged: JudgedGroup,
     timing: Timing,
 ) -> Verdict
-    ensures decided { IsDecidedByStep judgement timing group tally instance.old result.reply instance.new }
+    ensures decided { IsDecidedByStep judged.judgement timing judged.group judged.tally instance.old result.reply instance.new }
     ensures reason { GivesReason result.why result.reply }
 {
-    let Ok(event) = group.event(alloc, &tally) else {
+    let Ok(event) = judged.group.event(alloc, &judged.tally) else {
         return Verdict::short();
     };
     match instance.step(event, timing.now) {
-        Ok(outcome) => told_by(alloc, judgement, timing, group, tally, outcome.reply),
+        Ok(outcome) => told_by(alloc, judged, timing, outcome.reply),
         Err(error) => Verdict::refusal(alloc, &table::refused(error)),
     }
 }
@@ -149,16 +153,19 @@ fn decide_by_step(
 pub fn settle(
     alloc: Global,
     instance: &mut Instance,
-    group: Group,
-    tally: Tally,
-    judgement: Judgement,
+    judged: JudgedGroup,
     timing: Timing,
 ) -> Verdict
-    ensures settled { IsSettled judgement timing group tally instance.old result.reply instance.new }
+    ensures settled { IsSettled judged.judgement timing judged.group judged.tally instance.old result.reply instance.new }
     ensures reason { GivesReason result.why result.reply }
 {
-    if tally.has_none() {
+    if judged.tally.has_none() {
+        let JudgedGroup {
+            group,
+            tally,
+            judgement: _,
+        } = judged;
         return told_of(alloc, timing, group, tally, Why::Muted);
     }
-    decide_by_step(alloc, instance, group, tally, judgement, timing)
+    decide_by_step(alloc, instance, judged, timing)
 }

@@ -6,4 +6,4 @@ use Rattle.am_api_decisions.proofs.settling.told_by.Goals as goal
 
 pub returns-in-Decided-clause-says : goal.returns-in-Decided-clause-says
 returns-in-Decided-clause-says c =
-    rw c.in-Decided.is (subst (λ (why : Why). Says (IsAnswerBytes c.args.timing c.args.group c.args.tally why) c.told_of.result.reply) c.why_of-why.ensures c.told_of.ensures.says)
+    rw c.in-Decided.is (subst (λ (why : Why). Says (IsAnswerBytes c.args.timing c.args.judged.group c.args.judged.tally why) c.told_of.result.reply) c.why_of-why.ensures c.told_of.ensures.says)
