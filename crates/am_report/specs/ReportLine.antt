@@ -42,23 +42,23 @@ module _ {K X : Type 0} (seen : X → Version K) where
       then begins key ++ codes " missing " ++ names_word (holders None holdings) ++ codes "\n"
       else []
 
-  module _ (begins : K → List ℕ) (told : X → List ℕ) where
-    -- KEY RELATION NAMES VERSION
-    unfoldable pub group_words : List ℕ → K → List (Holding X) → X → List ℕ
-    group_words relation key holdings v =
-        begins key ++ codes " " ++ relation ++ codes " " ++ names_word (holders (Some v) holdings) ++ codes " " ++ told v
+  -- RELATION NAMES VERSION, behind a space
+  unfoldable pub group_words : (X → List ℕ) → List ℕ → List (Holding X) → X → List ℕ
+  group_words told relation holdings v =
+      codes " " ++ relation ++ codes " " ++ names_word (holders (Some v) holdings) ++ codes " " ++ told v
 
+  module _ (begins : K → List ℕ) (told : X → List ℕ) where
     module _ (more : X → X → List ℕ) where
       -- KEY greatest NAMES VERSION
       abbrev pub greatest_line : K → List (Holding X) → X → List ℕ
       greatest_line key holdings greatest =
-          group_words (codes "greatest") key holdings greatest ++ codes "\n" ++ more greatest greatest
+          begins key ++ group_words told (codes "greatest") holdings greatest ++ codes "\n" ++ more greatest greatest
 
       module _ (by : X → X → List ℕ) where
         -- KEY behind NAMES VERSION by WHAT
         abbrev pub behind_line : K → List (Holding X) → X → X → List ℕ
         behind_line key holdings greatest v =
-            group_words (codes "behind") key holdings v ++ codes " by " ++ by v greatest ++ codes "\n"
+            begins key ++ group_words told (codes "behind") holdings v ++ codes " by " ++ by v greatest ++ codes "\n"
             ++ more v greatest
 
         -- the lines of all versions that are held, given in their order

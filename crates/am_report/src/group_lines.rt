@@ -13,19 +13,18 @@ use crate::names::{append_names, is_held, nothing};
 use crate::report_line::ReportLine;
 use std::alloc::AllocError;
 
-/// Appends the words of a line about the sources that have this version, in their relation to the others.
+/// Appends the words, behind those of the key, of a line about the sources that have this version, in their relation to the
+/// others.
 fn append_group<V: ReportLine>(
     out: &mut String,
     sides: &[MergeCursor<'_, V>],
-    key: &V::Key,
     relation: &str,
     version: &V,
     format: &Format,
 ) -> Result<(), AllocError>
     ensures { OnOk result (string_bytes out.new ≡ string_bytes out.old
-        ++ group_words V.seen V.begins (V.told format.now) relation.now key.now (map holding_of sides.now) version.now) }
+        ++ group_words V.seen (V.told format.now) relation.now (map holding_of sides.now) version.now) }
 {
-    V::append_key(out, key)?;
     write!(out, " {relation} ")?;
     append_names(out, sides, Some(version))?;
     write!(out, " ")?;
@@ -42,7 +41,8 @@ pub fn append_greatest<V: ReportLine>(
     ensures { OnOk result (string_bytes out.new ≡ string_bytes out.old
         ++ greatest_line V.seen V.begins (V.told format.now) (V.more format.now) (V.seen greatest.now).key (map holding_of sides.now) greatest.now) }
 {
-    append_group(out, sides, greatest.key(), "greatest", greatest, format)?;
+    V::append_key(out, greatest.key())?;
+    append_group(out, sides, "greatest", greatest, format)?;
     writeln!(out)?;
     greatest.append_more(out, greatest, format)
 }
@@ -60,7 +60,8 @@ pub fn append_behind<V: ReportLine>(
         ++ behind_line V.seen V.begins (V.told format.now) (V.more format.now) (less_word V.seen V.unknown_of V.known_of) (V.seen greatest.now).key (map holding_of sides.now) greatest.now version.now) }
 {
     let part = less_by(*out.allocator(), version, greatest)?;
-    append_group(out, sides, greatest.key(), "behind", version, format)?;
+    V::append_key(out, greatest.key())?;
+    append_group(out, sides, "behind", version, format)?;
     writeln!(out, " by {part}")?;
     version.append_more(out, greatest, format)
 }

@@ -7,4 +7,4 @@ pub returns : goal.returns
 unfolding group_words
 returns g c =
     IfOk-equal c.append_told.result _ _ _ c.append_told.ensures
-    (rw (c.in_ok-write-2.ensures.bytes, c.in_ok-append_names.ensures, c.in_ok-write.ensures.bytes, c.in_ok-append_key.ensures) (simp append_assoc))
+    (rw (c.in_ok-write-2.ensures.bytes, c.in_ok-append_names.ensures, c.in_ok-write.ensures.bytes) (simp append_assoc))
