@@ -32,17 +32,12 @@ pub fn live<'a, U: Backend, R: Net + Clock + Input>(
 ) -> io::Result<()>
     // PROMISE: At each moment, what the program's member holds comes of one life of its connections; and over the stream of each just one reply goes out, behind its challenge where frames are sealed: that of its own request's step; the decision, the outcome of a notice or the log's list that its own request asks for; the line of a refusal with a status from 400 on; or a page about the member or the recent alerts.
     ensures lived { (left : ℕ → Option (Line ConnectionState NotedStream))
-        × (history : Leads ⟦<Member<'a, U> as Service>⟧.does ⟦<Member<'a, U> as Service>⟧.begins (IsCall ⟦<Member<'a, U> as Service>⟧.acts ⟦<Member<'a, U> as Service>⟧.loses
-        ⟦<Member<'a, U> as Service>⟧.answers ⟦<Member<'a, U> as Service>⟧.gives ⟦<Member<'a, U> as Service>⟧.offers ⟦<Member<'a, U> as Service>⟧.asks)
-        ⟦<Member<'a, U> as Service>⟧.pending arrived_over gone_over member.old no_lines member.new left)
-        × IsAlwaysLived ⟦<Member<'a, U> as Service>⟧.does ⟦<Member<'a, U> as Service>⟧.begins (IsCall ⟦<Member<'a, U> as Service>⟧.acts ⟦<Member<'a, U> as Service>⟧.loses
-        ⟦<Member<'a, U> as Service>⟧.answers ⟦<Member<'a, U> as Service>⟧.gives ⟦<Member<'a, U> as Service>⟧.offers ⟦<Member<'a, U> as Service>⟧.asks)
-        ⟦<Member<'a, U> as Service>⟧.pending arrived_over gone_over (λ (m : Member U). m.instance) (λ (connection : ConnectionState). IsInAccord (talk_of connection)) IsReplied
+        × (history : Leads ⟦<Member<'a, U> as Service>⟧ (IsCall ⟦<Member<'a, U> as Service>⟧) arrived_over gone_over member.old no_lines member.new left)
+        × IsAlwaysLived ⟦<Member<'a, U> as Service>⟧ (IsCall ⟦<Member<'a, U> as Service>⟧) arrived_over gone_over
+        (λ (m : Member U). m.instance) (λ (connection : ConnectionState). IsInAccord (talk_of connection)) IsReplied
         member.old [] member.old no_lines history.happenings member.new left history.happens }
     // (for the links to its peers and the exchanges with them, by what its server says of the bytes that it gives)
-    ensures peered { LoopGoesFromNone ⟦<Member<'a, U> as Service>⟧.does ⟦<Member<'a, U> as Service>⟧.begins ⟦<Member<'a, U> as Service>⟧.acts ⟦<Member<'a, U> as Service>⟧.pending
-        arrived_over gone_over ⟦<Member<'a, U> as Service>⟧.loses ⟦<Member<'a, U> as Service>⟧.answers ⟦<Member<'a, U> as Service>⟧.gives
-        ⟦<Member<'a, U> as Service>⟧.offers ⟦<Member<'a, U> as Service>⟧.asks member.old member.new }
+    ensures peered { LoopGoesFromNone ⟦<Member<'a, U> as Service>⟧ member.old member.new }
 {
     am_server::run(alloc, rt, entrances, peers, member, limits)
 }

@@ -192,8 +192,7 @@ impl<'a, U: Backend> MemberService for Member<'a, U> {
     ghost begins_fresh = { λ member connection member' begins. record { same = begins.0.1; accord = fresh_in_accord (talk_of connection) begins.1 } };
 
     ghost acts_alone = { λ member member' call.
-        let alone = acts_alone member.instance member'.instance (call_alone (λ m. m.instance) ⟦<Member<'a, U> as Service>⟧.acts ⟦<Member<'a, U> as Service>⟧.loses ⟦<Member<'a, U> as Service>⟧.answers
-        ⟦<Member<'a, U> as Service>⟧.gives ⟦<Member<'a, U> as Service>⟧.offers ⟦<Member<'a, U> as Service>⟧.asks (λ _ _ acts. acts.1) (λ _ _ _ _ same. same.1)
+        let alone = acts_alone member.instance member'.instance (call_alone (λ m. m.instance) ⟦<Member<'a, U> as Service>⟧ (λ _ _ acts. acts.1) (λ _ _ _ _ same. same.1)
         (λ _ _ _ _ same. same.1) (λ _ _ _ _ _ given. given.0.1) (λ _ _ _ _ offered. offered.0.1) (λ _ _ _ _ same. same.1) member member' call) in
         record { deeds = alone.0; own = alone.1; life = alone.2 } };
 

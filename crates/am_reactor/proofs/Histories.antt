@@ -5,6 +5,7 @@ use Rattle.am_reactor.specs.Deeds.{Deed, ending, feeds, joined, sends}
 use Rattle.am_reactor.specs.declared.connection.Connection.{Connection}
 use Rattle.am_reactor.specs.declared.connection.Phase.{Phase}
 use Rattle.am_reactor.specs.declared.connection.Phase.TheVariants.{Open, Lingering}
+use Rattle.am_reactor.specs.declared.service.Service.{Ghosts as Service}
 use Rattle.am_reactor.specs.Connections.{KeepsOthers}
 use Rattle.am_reactor.specs.History.{Line, Happening, line_of, lines, leaves_in, AreSame, fed_in, out_in, with_line, Acts, ActsOn, Calls, Closes, Stays, StaysUnder, Throws, Makes, Happens, Leads, LeadsOn, LeadsUnder}
 use Rattle.am_reactor.specs.History.Happening.{Came, TurnedAway, Called, Thrown, Closed, Acted}
@@ -52,11 +53,10 @@ module _ {T C : Type 0} where
       → AreSame new (with_line key line old)
   same_with key line old new e h other = grind (arith, nat_tests, e, h other)
 
-module _ {S T C : Type 0} (does : S → T → Deed → S → T → Type 0) (begins : S → T → S → Type 0) (acts : S → S → Type 0)
-    (pending : T → List ℕ) (arrived : C → Arrival) (gone : C → List ℕ) where
+module _ {S T C : Type 0} (law : Service S T) (acts : S → S → Type 0) (arrived : C → Arrival) (gone : C → List ℕ) where
   -- a happening, between what is the same
   makes_same : (h : Happening) (s : S) (t n : ℕ → Option (Line T C)) (s' : S) (t' n' : ℕ → Option (Line T C)) → AreSame n t → AreSame n' t'
-      → Makes does begins acts pending arrived gone s n h s' t' → Makes does begins acts pending arrived gone s t h s' n'
+      → Makes law acts arrived gone s n h s' t' → Makes law acts arrived gone s t h s' n'
   makes_same (Came key) s t n s' t' n' e f m =
       (m.0, sym (e key) ∙ m.1, m.2, m.3, m.4, λ other. f other ∙ (m.5 other ∙ same_at key _ t n e other))
   makes_same TurnedAway s t n s' t' n' e f m = (m.0, λ other. f other ∙ (m.1 other ∙ e other))
@@ -68,50 +68,50 @@ module _ {S T C : Type 0} (does : S → T → Deed → S → T → Type 0) (begi
   makes_same (Acted count) s t n s' t' n' e f m = (m.0, λ other. f other ∙ (m.1 other ∙ e other))
 
   pub happens_more : (hs : List Happening) (h : Happening) (s : S) (t : ℕ → Option (Line T C)) (m : S) (n : ℕ → Option (Line T C)) (s' : S) (t' : ℕ → Option (Line T C))
-      → Happens does begins acts pending arrived gone s t hs m n → Makes does begins acts pending arrived gone m n h s' t'
-      → Happens does begins acts pending arrived gone s t (hs ++ h ∷ []) s' t'
+      → Happens law acts arrived gone s t hs m n → Makes law acts arrived gone m n h s' t'
+      → Happens law acts arrived gone s t (hs ++ h ∷ []) s' t'
   happens_more [] h s t m n s' t' same makes =
-      (s', t', subst (λ x. Makes does begins acts pending arrived gone x t h s' t') same.0 (makes_same h m t n s' t' t' same.1 (λ _. refl) makes), (refl, λ _. refl))
+      (s', t', subst (λ x. Makes law acts arrived gone x t h s' t') same.0 (makes_same h m t n s' t' t' same.1 (λ _. refl) makes), (refl, λ _. refl))
   happens_more (g ∷ gs) h s t m n s' t' happens makes =
       (happens.0, happens.1, happens.2, happens_more gs h happens.0 happens.1 m n s' t' happens.3 makes)
 
   pub happens_same : (hs : List Happening) (s : S) (t : ℕ → Option (Line T C)) (m : S) (n n' : ℕ → Option (Line T C)) → AreSame n' n
-      → Happens does begins acts pending arrived gone s t hs m n → Happens does begins acts pending arrived gone s t hs m n'
+      → Happens law acts arrived gone s t hs m n → Happens law acts arrived gone s t hs m n'
   happens_same [] s t m n n' e same = (same.0, λ key. e key ∙ same.1 key)
   happens_same (g ∷ gs) s t m n n' e happens = (happens.0, happens.1, happens.2, happens_same gs happens.0 happens.1 m n n' e happens.3)
 
   -- nothing has happened yet
-  pub leads_none : (s : S) (t : ℕ → Option (Line T C)) → Leads does begins acts pending arrived gone s t s t
+  pub leads_none : (s : S) (t : ℕ → Option (Line T C)) → Leads law acts arrived gone s t s t
   leads_none s t = record { happenings = []; happens = (refl, λ _. refl) }
 
   -- one happening more
   pub leads_more : (h : Happening) (m : S) (n : ℕ → Option (Line T C)) (s' : S) (t' : ℕ → Option (Line T C))
-      → Makes does begins acts pending arrived gone m n h s' t' → LeadsOn does begins acts pending arrived gone m n s' t'
+      → Makes law acts arrived gone m n h s' t' → LeadsOn law acts arrived gone m n s' t'
   leads_more h m n s' t' makes s t leads =
       record { happenings = leads.happenings ++ h ∷ []; happens = happens_more leads.happenings h s t m n s' t' leads.happens makes }
 
   -- what is the same is led to alike
-  pub leads_same : (s' : S) (t' n' : ℕ → Option (Line T C)) → AreSame n' t' → LeadsOn does begins acts pending arrived gone s' t' s' n'
+  pub leads_same : (s' : S) (t' n' : ℕ → Option (Line T C)) → AreSame n' t' → LeadsOn law acts arrived gone s' t' s' n'
   leads_same s' t' n' e s t leads = record { happenings = leads.happenings; happens = happens_same leads.happenings s t s' t' n' e leads.happens }
 
   -- calls for one session more
-  pub leads_calls : (deeds : List Deed) (s : S) (c : Line T C) (s' : S) (c' : Line T C) → Calls does begins acts pending arrived gone deeds s c s' c'
-      → LeadsUnder does begins acts pending arrived gone s c s' c'
+  pub leads_calls : (deeds : List Deed) (s : S) (c : Line T C) (s' : S) (c' : Line T C) → Calls law acts arrived gone deeds s c s' c'
+      → LeadsUnder law acts arrived gone s c s' c'
   leads_calls deeds s c s' c' calls key others =
       leads_more (Called key deeds) s _ s' _ (c, c', with_here key (Some c) others, calls, λ other. sym (with_twice key (Some c) (Some c') others other))
 
   -- bytes more that are thrown away
   pub leads_throws : (bytes : List ℕ) (s : S) (c c' : Line T C) → Throws arrived gone bytes c c'
-      → LeadsUnder does begins acts pending arrived gone s c s c'
+      → LeadsUnder law acts arrived gone s c s c'
   leads_throws bytes s c c' throws key others =
       leads_more (Thrown key bytes) s _ s _ (c, c', with_here key (Some c) others, throws, refl, λ other. sym (with_twice key (Some c) (Some c') others other))
 
   -- connections more that are closed
-  pub leads_closes : (s : S) (t t' : ℕ → Option (Line T C)) → Closes t t' → LeadsOn does begins acts pending arrived gone s t s t'
+  pub leads_closes : (s : S) (t t' : ℕ → Option (Line T C)) → Closes t t' → LeadsOn law acts arrived gone s t s t'
   leads_closes s t t' closes = leads_more Closed s t s t' (refl, closes)
 
   -- calls for no session more
-  pub leads_acts : (s s' : S) (t : ℕ → Option (Line T C)) → ActsOn acts s s' → LeadsOn does begins acts pending arrived gone s t s' t
+  pub leads_acts : (s s' : S) (t : ℕ → Option (Line T C)) → ActsOn acts s s' → LeadsOn law acts arrived gone s t s' t
   leads_acts s s' t more = let all = more s (0, refl) in leads_more (Acted all.0) s t s' t (all.1, λ _. refl)
 
 -- ---- what a connection's turn is, as calls
@@ -148,42 +148,41 @@ out_sends (p ∷ ps) = ap (λ l. p ++ l) (out_sends ps)
 first_part : (bytes rest whole : List ℕ) → whole ≡ bytes ++ rest → IsFirstPart bytes whole
 first_part bytes rest whole e = sym (ap (take (length bytes)) e ∙ take_at bytes rest (length bytes) refl)
 
-module _ {S T C : Type 0} (does : S → T → Deed → S → T → Type 0) (begins : S → T → S → Type 0) (acts : S → S → Type 0)
-    (pending : T → List ℕ) (arrived : C → Arrival) (gone : C → List ℕ) where
+module _ {S T C : Type 0} (law : Service S T) (acts : S → S → Type 0) (arrived : C → Arrival) (gone : C → List ℕ) where
   -- what is read of a connection, as calls for its session
-  pub leads_hears : (room : ℕ) (s : S) (c : Connection T C) (s' : S) (c' : Connection T C) → Hears does arrived gone room s c s' c' → leaves_in c.phase ≡ false
-      → LeadsUnder does begins acts pending arrived gone s (line_of c) s' (line_of c')
+  pub leads_hears : (room : ℕ) (s : S) (c : Connection T C) (s' : S) (c' : Connection T C) → Hears law.does arrived gone room s c s' c' → leaves_in c.phase ≡ false
+      → LeadsUnder law acts arrived gone s (line_of c) s' (line_of c')
   leads_hears room s c s' c' h stays =
-      leads_calls does begins acts pending arrived gone (feeds h.pieces ++ ending c.ended c'.ended) s (line_of c) s' (line_of c')
+      leads_calls law acts arrived gone (feeds h.pieces ++ ending c.ended c'.ended) s (line_of c) s' (line_of c')
       (record {
         did = h.did;
         came = subst (Receives (arrived c.stream) (arrived c'.stream)) (sym (fed_pieces h.pieces c.ended c'.ended)) h.came;
         heard = λ _. stays;
         went = subst (Appends (gone c.stream) (gone c'.stream)) (sym (out_pieces h.pieces c.ended c'.ended))
             (subst (λ x. Appends (gone c.stream) x []) (sym h.unwritten) (appends_none (gone c.stream)));
-        first = subst (λ l. IsFirstPart l (pending c.session)) (sym (out_pieces h.pieces c.ended c'.ended)) refl;
+        first = subst (λ l. IsFirstPart l (law.pending c.session)) (sym (out_pieces h.pieces c.ended c'.ended)) refl;
         leaves = ap leaves_in h.phase;
       })
 
   -- what goes out over a connection, as calls for its session
   pub leads_tells : (s : S) (c : Line T C) (s' : S) (c' : Line T C) (counter next : ℕ)
-      → SendsOn does pending s c.session s' c'.session (gone c.stream) (gone c'.stream) counter next → arrived c'.stream ≡ arrived c.stream → c'.leaves ≡ c.leaves
-      → LeadsUnder does begins acts pending arrived gone s c s' c'
+      → SendsOn law.does law.pending s c.session s' c'.session (gone c.stream) (gone c'.stream) counter next → arrived c'.stream ≡ arrived c.stream → c'.leaves ≡ c.leaves
+      → LeadsUnder law acts arrived gone s c s' c'
   leads_tells s c s' c' counter next sent unread leaves =
-      leads_calls does begins acts pending arrived gone (sends sent.pieces) s c s' c'
+      leads_calls law acts arrived gone (sends sent.pieces) s c s' c'
       (record {
         did = sent.did;
         came = subst (Receives (arrived c.stream) (arrived c'.stream)) (sym (fed_sends sent.pieces)) (subst (λ x. Receives (arrived c.stream) x []) (sym unread) (receives_none (arrived c.stream)));
         heard = λ some. absurd (some (fed_sends sent.pieces));
         went = subst (Appends (gone c.stream) (gone c'.stream)) (sym (out_sends sent.pieces)) sent.out.written;
-        first = subst (λ l. IsFirstPart l (pending c.session)) (sym (out_sends sent.pieces)) (first_part (joined sent.pieces) (pending c'.session) (pending c.session) sent.out.rest);
+        first = subst (λ l. IsFirstPart l (law.pending c.session)) (sym (out_sends sent.pieces)) (first_part (joined sent.pieces) (law.pending c'.session) (law.pending c.session) sent.out.rest);
         leaves = leaves;
       })
 
   -- nothing is called, read or written
-  pub leads_still : (s : S) (c c' : Line T C) → Stays arrived gone c c' → LeadsUnder does begins acts pending arrived gone s c s c'
+  pub leads_still : (s : S) (c c' : Line T C) → Stays arrived gone c c' → LeadsUnder law acts arrived gone s c s c'
   leads_still s c c' stays =
-      leads_calls does begins acts pending arrived gone [] s c s c'
+      leads_calls law acts arrived gone [] s c s c'
       (record {
         did = (refl, stays.session);
         came = subst (λ x. Receives (arrived c.stream) x []) (sym stays.unread) (receives_none (arrived c.stream));
@@ -194,40 +193,40 @@ module _ {S T C : Type 0} (does : S → T → Deed → S → T → Type 0) (begi
       })
 
   -- one call that neither reads nor writes
-  pub leads_call : (deed : Deed) (s : S) (c : Line T C) (s' : S) (c' : Line T C) → does s c.session deed s' c'.session → fed_in (deed ∷ []) ≡ [] → out_in (deed ∷ []) ≡ []
-      → c'.stream ≡ c.stream → c'.leaves ≡ c.leaves → LeadsUnder does begins acts pending arrived gone s c s' c'
+  pub leads_call : (deed : Deed) (s : S) (c : Line T C) (s' : S) (c' : Line T C) → law.does s c.session deed s' c'.session → fed_in (deed ∷ []) ≡ [] → out_in (deed ∷ []) ≡ []
+      → c'.stream ≡ c.stream → c'.leaves ≡ c.leaves → LeadsUnder law acts arrived gone s c s' c'
   leads_call deed s c s' c' did unfed unsent stream leaves =
-      leads_calls does begins acts pending arrived gone (deed ∷ []) s c s' c'
+      leads_calls law acts arrived gone (deed ∷ []) s c s' c'
       (record {
         did = (s', c'.session, did, (refl, refl));
         came = subst (Receives (arrived c.stream) (arrived c'.stream)) (sym unfed) (subst (λ x. Receives (arrived c.stream) (arrived x) []) (sym stream) (receives_none (arrived c.stream)));
         heard = λ some. absurd (some unfed);
         went = subst (Appends (gone c.stream) (gone c'.stream)) (sym unsent) (subst (λ x. Appends (gone c.stream) (gone x) []) (sym stream) (appends_none (gone c.stream)));
-        first = subst (λ l. IsFirstPart l (pending c.session)) (sym unsent) refl;
+        first = subst (λ l. IsFirstPart l (law.pending c.session)) (sym unsent) refl;
         leaves = leaves;
       })
 
   -- what leads on for one connection leads on for the table in which it stands
-  pub leads_table : (key : ℕ) (s : S) (c : Line T C) (s' : S) (c' : Line T C) (old new : ℕ → Option (Line T C)) → LeadsUnder does begins acts pending arrived gone s c s' c'
-      → old key ≡ Some c → AreSame new (with_line key (Some c') old) → LeadsOn does begins acts pending arrived gone s old s' new
+  pub leads_table : (key : ℕ) (s : S) (c : Line T C) (s' : S) (c' : Line T C) (old new : ℕ → Option (Line T C)) → LeadsUnder law acts arrived gone s c s' c'
+      → old key ≡ Some c → AreSame new (with_line key (Some c') old) → LeadsOn law acts arrived gone s old s' new
   leads_table key s c s' c' old new under here after first begun leads =
-      leads_same does begins acts pending arrived gone s' (with_line key (Some c') old) new after first begun
-      (under key old first begun (leads_same does begins acts pending arrived gone s old (with_line key (Some c) old) (with_same key (Some c) old here) first begun leads))
+      leads_same law acts arrived gone s' (with_line key (Some c') old) new after first begun
+      (under key old first begun (leads_same law acts arrived gone s old (with_line key (Some c) old) (with_same key (Some c) old here) first begun leads))
 
   -- nothing is called, read or written of what stands under a key
-  pub leads_stays : (key : ℕ) (s : S) (old new : ℕ → Option (Line T C)) → StaysUnder arrived gone key old new → LeadsOn does begins acts pending arrived gone s old s new
-  leads_stays key s old new (inl same) = leads_same does begins acts pending arrived gone s old new same
+  pub leads_stays : (key : ℕ) (s : S) (old new : ℕ → Option (Line T C)) → StaysUnder arrived gone key old new → LeadsOn law acts arrived gone s old s new
+  leads_stays key s old new (inl same) = leads_same law acts arrived gone s old new same
   leads_stays key s old new (inr stays) = leads_table key s stays.0 s stays.1 old new (leads_still s stays.0 stays.1 stays.3) stays.2 stays.4
 
   -- a connection more
-  pub leads_came : (key : ℕ) (s s' : S) (c : Line T C) (old new : ℕ → Option (Line T C)) → begins s c.session s' → c.leaves ≡ false
-      → IsSilent (arrived c.stream) (gone c.stream) → old key ≡ None → AreSame new (with_line key (Some c) old) → LeadsOn does begins acts pending arrived gone s old s' new
+  pub leads_came : (key : ℕ) (s s' : S) (c : Line T C) (old new : ℕ → Option (Line T C)) → law.begins s c.session s' → c.leaves ≡ false
+      → IsSilent (arrived c.stream) (gone c.stream) → old key ≡ None → AreSame new (with_line key (Some c) old) → LeadsOn law acts arrived gone s old s' new
   leads_came key s s' c old new begun stays silent free after =
-      leads_more does begins acts pending arrived gone (Came key) s old s' new (c, free, begun, stays, silent, after)
+      leads_more law acts arrived gone (Came key) s old s' new (c, free, begun, stays, silent, after)
 
   -- one that is turned away
-  pub leads_away : (s : S) (t : T) (s' : S) (old new : ℕ → Option (Line T C)) → begins s t s' → AreSame new old → LeadsOn does begins acts pending arrived gone s old s' new
-  leads_away s t s' old new begun same = leads_more does begins acts pending arrived gone TurnedAway s old s' new ((t, begun), same)
+  pub leads_away : (s : S) (t : T) (s' : S) (old new : ℕ → Option (Line T C)) → law.begins s t s' → AreSame new old → LeadsOn law acts arrived gone s old s' new
+  leads_away s t s' old new begun same = leads_more law acts arrived gone TurnedAway s old s' new ((t, begun), same)
 
 -- ---- what is thrown away
 
@@ -303,26 +302,25 @@ line_same a b session stream phase =
     (subst (λ y. line_of a ≡ record { session = a.session; stream = y; leaves = leaves_in b.phase }) (sym stream)
     (subst (λ z. line_of a ≡ record { session = a.session; stream = a.stream; leaves = leaves_in z }) (sym phase) refl))
 
-module _ {S T C : Type 0} (does : S → T → Deed → S → T → Type 0) (begins : S → T → S → Type 0) (acts : S → S → Type 0)
-    (pending : T → List ℕ) (arrived : C → Arrival) (gone : C → List ℕ) where
+module _ {S T C : Type 0} (law : Service S T) (acts : S → S → Type 0) (arrived : C → Arrival) (gone : C → List ℕ) where
   -- what leads on for a connection, also where it is the same to its service
   pub under_same : (s : S) (c : Line T C) (s' : S) (a b : Connection T C) → b.session ≡ a.session → b.stream ≡ a.stream → b.phase ≡ a.phase
-      → LeadsUnder does begins acts pending arrived gone s c s' (line_of a) → LeadsUnder does begins acts pending arrived gone s c s' (line_of b)
-  under_same s c s' a b session stream phase under = subst (λ l. LeadsUnder does begins acts pending arrived gone s c s' l) (line_same a b session stream phase) under
+      → LeadsUnder law acts arrived gone s c s' (line_of a) → LeadsUnder law acts arrived gone s c s' (line_of b)
+  under_same s c s' a b session stream phase under = subst (λ l. LeadsUnder law acts arrived gone s c s' l) (line_same a b session stream phase) under
 
   -- what leads on for the connection under a key, for the table
   pub leads_written : (key : ℕ) (s s' : S) (table : Slab (Connection T C)) (c c' : Connection T C) (new : Slab (Connection T C)) → new ≡ with_value table key c'
-      → Some c ≡ get table key → LeadsUnder does begins acts pending arrived gone s (line_of c) s' (line_of c')
-      → LeadsOn does begins acts pending arrived gone s (lines table) s' (lines new)
+      → Some c ≡ get table key → LeadsUnder law acts arrived gone s (line_of c) s' (line_of c')
+      → LeadsOn law acts arrived gone s (lines table) s' (lines new)
   leads_written key s s' table c c' new is here under =
       let updates = Updates-with_value table key c' (subst (λ x. IsSome x) here refl) in
-      subst (λ t. LeadsOn does begins acts pending arrived gone s (lines table) s' (lines t)) (sym is)
-      (leads_table does begins acts pending arrived gone key s (line_of c) s' (line_of c') (lines table) (lines (with_value table key c')) under
+      subst (λ t. LeadsOn law acts arrived gone s (lines table) s' (lines t)) (sym is)
+      (leads_table law acts arrived gone key s (line_of c) s' (line_of c') (lines table) (lines (with_value table key c')) under
       (ap (option_map line_of) (sym here)) (lines_with table (with_value table key c') key (Some c') updates.changed updates.others))
 
   -- one call for no session more
-  pub leads_act : (s s' : S) (t : ℕ → Option (Line T C)) → acts s s' → LeadsOn does begins acts pending arrived gone s t s' t
-  leads_act s s' t act = leads_acts does begins acts pending arrived gone s s' t (acts_once acts s s' act)
+  pub leads_act : (s s' : S) (t : ℕ → Option (Line T C)) → acts s s' → LeadsOn law acts arrived gone s t s' t
+  leads_act s s' t act = leads_acts law acts arrived gone s s' t (acts_once acts s s' act)
 
 module _ {T C : Type 0} (arrived : C → Arrival) (gone : C → List ℕ) where
   -- nothing is called, read or written of the connection under a key

@@ -5,6 +5,7 @@ use Rattle.am_reactor.specs.declared.connection.Connection.{Connection}
 use Rattle.am_reactor.specs.declared.connection.Phase.{Phase}
 use Rattle.am_reactor.specs.declared.connection.Phase.TheVariants.{Open, Lingering}
 use Rattle.am_reactor.specs.declared.fault.LinkFault.{LinkFault}
+use Rattle.am_reactor.specs.declared.service.Service.{Ghosts as Service}
 use Rattle.am_reactor.specs.Deeds.{Deed, Did}
 use Rattle.am_reactor.specs.Deeds.Deed.{Fed, Sent}
 use Rattle.am_reactor.specs.Sending.{IsFirstPart}
@@ -79,14 +80,13 @@ out_in (_ ∷ deeds) = out_in deeds
 -- A call that is for no session: one for no peer either; one that tells that what waited for a peer, or was asked of it, is lost;
 -- one that tells what a peer answered; one that asks for more for a peer; or one in which bytes were given for a peer, or were
 -- asked of it.
-abbrev pub IsCall : {S : Type 0} → (S → S → Type 0) → (S → ℕ → LinkFault → S → Type 0) → (S → ℕ → List ℕ → S → Type 0) → (S → ℕ → List ℕ → Option (List ℕ) → S → Type 0)
-    → (S → ℕ → List ℕ → S → Type 0) → (S → ℕ → List ℕ → S → Type 0) → S → S → Type 0
-IsCall acts loses answers gives offers asks service service' = acts service service'
-    ⊎ (((peer : ℕ) × (fault : LinkFault) × loses service peer fault service')
-    ⊎ (((peer : ℕ) × (bytes : List ℕ) × answers service peer bytes service')
-    ⊎ (((peer : ℕ) × (answer : List ℕ) × (more : Option (List ℕ)) × gives service peer answer more service')
-    ⊎ (((peer : ℕ) × (bytes : List ℕ) × offers service peer bytes service')
-    ⊎ ((peer : ℕ) × (bytes : List ℕ) × asks service peer bytes service')))))
+abbrev pub IsCall : {S T : Type 0} → Service S T → S → S → Type 0
+IsCall law service service' = law.acts service service'
+    ⊎ (((peer : ℕ) × (fault : LinkFault) × law.loses service peer fault service')
+    ⊎ (((peer : ℕ) × (bytes : List ℕ) × law.answers service peer bytes service')
+    ⊎ (((peer : ℕ) × (answer : List ℕ) × (more : Option (List ℕ)) × law.gives service peer answer more service')
+    ⊎ (((peer : ℕ) × (bytes : List ℕ) × law.offers service peer bytes service')
+    ⊎ ((peer : ℕ) × (bytes : List ℕ) × law.asks service peer bytes service')))))
 
 -- An event in a loop: a connection comes, under a key that is free, and nothing has passed over its stream; one is turned away
 -- because there is no place for it; calls are made for the session under a key, one after the other; bytes come of a connection
@@ -108,24 +108,23 @@ Acts {S} acts (suc count) service service' = (next : S) × acts service next × 
 abbrev pub ActsOn : {S : Type 0} → (S → S → Type 0) → S → S → Type 0
 ActsOn {S} acts service service' = (first : S) → ((count : ℕ) × Acts acts count first service) → (count : ℕ) × Acts acts count first service'
 
-module _ {S T C : Type 0} (does : S → T → Deed → S → T → Type 0) (begins : S → T → S → Type 0) (acts : S → S → Type 0)
-    (pending : T → List ℕ) (arrived : C → Arrival) (gone : C → List ℕ) where
+module _ {S T C : Type 0} (law : Service S T) (acts : S → S → Type 0) (arrived : C → Arrival) (gone : C → List ℕ) where
   -- Calls are made for the session of a connection: the bytes that they feed came over its own stream, which isn't let go, and the
   -- bytes that they report as sent went out over it, the first of those that waited.
   pub record Calls (deeds : List Deed) (service : S) (line : Line T C) (service' : S) (line' : Line T C) : Type 0 where
-    pub did : Did does service line.session deeds service' line'.session
+    pub did : Did law.does service line.session deeds service' line'.session
     pub came : Receives (arrived line.stream) (arrived line'.stream) (fed_in deeds)
     pub heard : fed_in deeds ≢ [] → line.leaves ≡ false
     pub went : Appends (gone line.stream) (gone line'.stream) (out_in deeds)
-    pub first : IsFirstPart (out_in deeds) (pending line.session)
+    pub first : IsFirstPart (out_in deeds) (law.pending line.session)
     pub leaves : line'.leaves ≡ line.leaves
 
   -- a happening leads from one service and its connections to others
   abbrev pub Makes : S → (ℕ → Option (Line T C)) → Happening → S → (ℕ → Option (Line T C)) → Type 0
   Makes service old (Came key) service' new =
-      (line : Line T C) × (old key ≡ None) × begins service line.session service' × (line.leaves ≡ false) × IsSilent (arrived line.stream) (gone line.stream)
+      (line : Line T C) × (old key ≡ None) × law.begins service line.session service' × (line.leaves ≡ false) × IsSilent (arrived line.stream) (gone line.stream)
       × AreSame new (with_line key (Some line) old)
-  Makes service old TurnedAway service' new = ((session : T) × begins service session service') × AreSame new old
+  Makes service old TurnedAway service' new = ((session : T) × law.begins service session service') × AreSame new old
   Makes service old (Called key deeds) service' new =
       (line : Line T C) × (line' : Line T C) × (old key ≡ Some line) × Calls deeds service line service' line' × AreSame new (with_line key (Some line') old)
   Makes service old (Thrown key bytes) service' new =

@@ -7,6 +7,7 @@ use Rattle.am_http.specs.Sessions.{Standing, fresh}
 use Rattle.am_instance.specs.InstanceStates.{InstanceState}
 use Rattle.am_member.specs.Lives.{Deed as LifeDeed, IsLife, Turn, standings_after, standings_in, turns_of}
 use Rattle.am_member.specs.Lives.Deed.{Served, Own}
+use Rattle.am_reactor.specs.declared.service.Service.{Ghosts as Service}
 use Rattle.am_reactor.specs.Deeds.{Deed, Did}
 use Rattle.am_reactor.specs.Deeds.Deed.{Fed, Ended, Sent, Resumed, Released, ReachedDeadline, AbandonedWait, BrokenOff}
 use Rattle.am_reactor.specs.History.{Acts, AreSame, Calls, Happening, Happens, Line, Makes, Throws, fed_in, no_lines, out_in, with_line}
@@ -242,13 +243,13 @@ module _ {T C : Type 0} (arrived : C → Arrival) (gone : C → List ℕ) where
 
 -- what one happening is in a life
 module _ {S T C : Type 0} (instance_of : S → InstanceState) (accords : T → Passed → Standing → List Turn → Type 0) (is_so : Passed → Standing → List Turn → Type 0)
-    (does : S → T → Deed → S → T → Type 0) (begins : S → T → S → Type 0) (acts : S → S → Type 0)
+    (law : Service S T) (acts : S → S → Type 0)
     (so_of_none : is_so nothing_passed fresh [])
     (so_of_accord : (t : T) (p : Passed) (standing : Standing) (turns : List Turn) → accords t p standing turns → is_so p standing turns)
-    (begins_so : (s : S) (t : T) (s' : S) → begins s t s' → BeginsFresh instance_of accords s t s')
+    (begins_so : (s : S) (t : T) (s' : S) → law.begins s t s' → BeginsFresh instance_of accords s t s')
     (acts_so : (s s' : S) → acts s s' → ActsAlone instance_of s s')
-    (does_so : (s : S) (t : T) (d : Deed) (s' : S) (t' : T) → does s t d s' t' → DoesForOne instance_of accords s t d s' t')
-    (pending : T → List ℕ) (arrived : C → Arrival) (gone : C → List ℕ) where
+    (does_so : (s : S) (t : T) (d : Deed) (s' : S) (t' : T) → law.does s t d s' t' → DoesForOne instance_of accords s t d s' t')
+    (arrived : C → Arrival) (gone : C → List ℕ) where
   -- how a life goes on from where connections stand
   record GoesOn (count : ℕ) (numbers : ℕ → ℕ) (passed : ℕ → Passed) (standings : ℕ → Standing) (turns : ℕ → List Turn) (s s' : S) (new : ℕ → Option (Line T C)) : Type 0 where
     deeds : List LifeDeed
@@ -296,11 +297,11 @@ module _ {S T C : Type 0} (instance_of : S → InstanceState) (accords : T → P
       }
 
   called_on : (key : ℕ) (deeds : List Deed) (count : ℕ) (numbers : ℕ → ℕ) (passed : ℕ → Passed) (standings : ℕ → Standing) (turns : ℕ → List Turn) (s s' : S) (line line' : Line T C)
-      (old new : ℕ → Option (Line T C)) → old key ≡ Some line → Calls does begins acts pending arrived gone deeds s line s' line' → AreSame new (with_line key (Some line') old)
+      (old new : ℕ → Option (Line T C)) → old key ≡ Some line → Calls law acts arrived gone deeds s line s' line' → AreSame new (with_line key (Some line') old)
       → Accords arrived gone accords is_so count numbers passed standings turns old → GoesOn count numbers (passed_after numbers passed (Called key deeds)) standings turns s s' new
   called_on key deeds count numbers passed standings turns s s' line line' old new here calls same a =
       let at : ℕ = numbers key in
-      let l = lives_calls instance_of accords does does_so deeds s line.session s' line'.session calls.did at standings (passed at) (turns at) (a.each key line here) in
+      let l = lives_calls instance_of accords law.does does_so deeds s line.session s' line'.session calls.did at standings (passed at) (turns at) (a.each key line here) in
       let was : (k : ℕ) (x : Line T C) → k ≢ key → new k ≡ Some x → old k ≡ Some x = λ k x away e. sym (chosen_not k key (Some line') (old k) away) ∙ (sym (same k) ∙ e) in
       let stood_there : (k : ℕ) → StandsUnder new k → StandsUnder old k = λ k s. elim (chosen k key (Some line') (old k)) [
         | inl p ↦ (line, ap old p.0 ∙ here)
@@ -345,7 +346,7 @@ module _ {S T C : Type 0} (instance_of : S → InstanceState) (accords : T → P
       }
 
   happening_on : (h : Happening) (count : ℕ) (numbers : ℕ → ℕ) (passed : ℕ → Passed) (standings : ℕ → Standing) (turns : ℕ → List Turn) (s s' : S) (old new : ℕ → Option (Line T C))
-      → Makes does begins acts pending arrived gone s old h s' new → Accords arrived gone accords is_so count numbers passed standings turns old
+      → Makes law acts arrived gone s old h s' new → Accords arrived gone accords is_so count numbers passed standings turns old
       → GoesOn (count_after count h) (numbers_after count numbers h) (passed_after numbers passed h) standings turns s s' new
   happening_on (Came key) count numbers passed standings turns s s' old new m a =
       let b = begins_so s m.0.session s' m.2 in
@@ -391,7 +392,7 @@ module _ {S T C : Type 0} (instance_of : S → InstanceState) (accords : T → P
       }
 
   happenings_on : (hs : List Happening) (count : ℕ) (numbers : ℕ → ℕ) (passed : ℕ → Passed) (standings : ℕ → Standing) (turns : ℕ → List Turn) (s s' : S)
-      (old new : ℕ → Option (Line T C)) → Happens does begins acts pending arrived gone s old hs s' new → Accords arrived gone accords is_so count numbers passed standings turns old
+      (old new : ℕ → Option (Line T C)) → Happens law acts arrived gone s old hs s' new → Accords arrived gone accords is_so count numbers passed standings turns old
       → GoesOn (count_by count hs) (numbers_by count numbers hs) (passed_by count numbers passed hs) standings turns s s' new
   happenings_on [] count numbers passed standings turns s s' old new happens a = record {
     deeds = [];
@@ -413,7 +414,7 @@ module _ {S T C : Type 0} (instance_of : S → InstanceState) (accords : T → P
       }
 
   -- what happened from the beginning on is a life
-  history_lived : (hs : List Happening) (s s' : S) (new : ℕ → Option (Line T C)) → Happens does begins acts pending arrived gone s no_lines hs s' new
+  history_lived : (hs : List Happening) (s s' : S) (new : ℕ → Option (Line T C)) → Happens law acts arrived gone s no_lines hs s' new
       → IsLived arrived gone instance_of accords is_so s hs s' new
   history_lived hs s s' new happens =
       let all = happenings_on hs 0 (λ _. 0) (λ _. nothing_passed) (λ _. fresh) (λ _. []) s s' no_lines new happens
@@ -428,18 +429,18 @@ module _ {S T C : Type 0} (instance_of : S → InstanceState) (accords : T → P
       record { deeds = all.deeds; life = all.life; own = all.own; accord = all.accord }
 
   -- at each moment of it
-  always_on : (before hs : List Happening) (first s s' : S) (old new : ℕ → Option (Line T C)) (begun : Happens does begins acts pending arrived gone first no_lines before s old)
-      (happens : Happens does begins acts pending arrived gone s old hs s' new)
-      → IsAlwaysLived does begins acts pending arrived gone instance_of accords is_so first before s old hs s' new happens
+  always_on : (before hs : List Happening) (first s s' : S) (old new : ℕ → Option (Line T C)) (begun : Happens law acts arrived gone first no_lines before s old)
+      (happens : Happens law acts arrived gone s old hs s' new)
+      → IsAlwaysLived law acts arrived gone instance_of accords is_so first before s old hs s' new happens
   always_on before [] first s s' old new begun same =
-      history_lived before first s' new (subst (λ (x : S). Happens does begins acts pending arrived gone first no_lines before x new) (sym same.0)
-      (happens_same does begins acts pending arrived gone before first no_lines s old new same.1 begun))
+      history_lived before first s' new (subst (λ (x : S). Happens law acts arrived gone first no_lines before x new) (sym same.0)
+      (happens_same law acts arrived gone before first no_lines s old new same.1 begun))
   always_on before (h ∷ hs) first s s' old new begun happens = (
     history_lived before first s old begun,
     always_on (before ++ h ∷ []) hs first happens.0 s' happens.1 new
-        (happens_more does begins acts pending arrived gone before h first no_lines s old happens.0 happens.1 begun happens.2) happens.3,
+        (happens_more law acts arrived gone before h first no_lines s old happens.0 happens.1 begun happens.2) happens.3,
   )
 
-  pub history_always_lived : (hs : List Happening) (s s' : S) (new : ℕ → Option (Line T C)) (happens : Happens does begins acts pending arrived gone s no_lines hs s' new)
-      → IsAlwaysLived does begins acts pending arrived gone instance_of accords is_so s [] s no_lines hs s' new happens
+  pub history_always_lived : (hs : List Happening) (s s' : S) (new : ℕ → Option (Line T C)) (happens : Happens law acts arrived gone s no_lines hs s' new)
+      → IsAlwaysLived law acts arrived gone instance_of accords is_so s [] s no_lines hs s' new happens
   history_always_lived hs s s' new happens = always_on [] hs s s s' no_lines new (refl, λ _. refl) happens

@@ -44,6 +44,7 @@ use Rattle.am_peers.specs.declared.fault.ConnectionFault.TheVariants.{Read as In
 use Rattle.am_reactor.specs.Deeds.{Deed}
 use Rattle.am_reactor.specs.Deeds.Deed.{Fed, Ended, Sent, Resumed, Released, ReachedDeadline, AbandonedWait, BrokenOff}
 use Rattle.am_reactor.specs.declared.fault.LinkFault.{LinkFault}
+use Rattle.am_reactor.specs.declared.service.Service.{Ghosts as Service}
 use Rattle.am_reactor.specs.History.{IsCall}
 use Rattle.am_reactor.specs.Sending.{IsFirstPart}
 use Rattle.am_peer_auth.specs.declared.seal.Lock.{Lock}
@@ -1006,16 +1007,15 @@ replied_in_accord talk passed standing turns accord = record {
 
 -- ---- calls that are for no session
 
-module _ {S : Type 0} (instance_of : S → InstanceState) (acts : S → S → Type 0) (loses : S → ℕ → LinkFault → S → Type 0) (answers : S → ℕ → List ℕ → S → Type 0)
-    (gives : S → ℕ → List ℕ → Option (List ℕ) → S → Type 0) (offers asks : S → ℕ → List ℕ → S → Type 0) where
+module _ {S T : Type 0} (instance_of : S → InstanceState) (law : Service S T) where
   -- one that is for a peer leaves the instance, and another makes steps by itself
-  pub call_alone : ((s s' : S) → acts s s' → ByItself (instance_of s) (instance_of s'))
-      → ((s : S) (peer : ℕ) (fault : LinkFault) (s' : S) → loses s peer fault s' → instance_of s' ≡ instance_of s)
-      → ((s : S) (peer : ℕ) (bytes : List ℕ) (s' : S) → answers s peer bytes s' → instance_of s' ≡ instance_of s)
-      → ((s : S) (peer : ℕ) (answer : List ℕ) (more : Option (List ℕ)) (s' : S) → gives s peer answer more s' → instance_of s' ≡ instance_of s)
-      → ((s : S) (peer : ℕ) (bytes : List ℕ) (s' : S) → offers s peer bytes s' → instance_of s' ≡ instance_of s)
-      → ((s : S) (peer : ℕ) (bytes : List ℕ) (s' : S) → asks s peer bytes s' → instance_of s' ≡ instance_of s)
-      → (s s' : S) → IsCall acts loses answers gives offers asks s s' → ByItself (instance_of s) (instance_of s')
+  pub call_alone : ((s s' : S) → law.acts s s' → ByItself (instance_of s) (instance_of s'))
+      → ((s : S) (peer : ℕ) (fault : LinkFault) (s' : S) → law.loses s peer fault s' → instance_of s' ≡ instance_of s)
+      → ((s : S) (peer : ℕ) (bytes : List ℕ) (s' : S) → law.answers s peer bytes s' → instance_of s' ≡ instance_of s)
+      → ((s : S) (peer : ℕ) (answer : List ℕ) (more : Option (List ℕ)) (s' : S) → law.gives s peer answer more s' → instance_of s' ≡ instance_of s)
+      → ((s : S) (peer : ℕ) (bytes : List ℕ) (s' : S) → law.offers s peer bytes s' → instance_of s' ≡ instance_of s)
+      → ((s : S) (peer : ℕ) (bytes : List ℕ) (s' : S) → law.asks s peer bytes s' → instance_of s' ≡ instance_of s)
+      → (s s' : S) → IsCall law s s' → ByItself (instance_of s) (instance_of s')
   call_alone acted lost answered given offered asked s s' (inl call) = acted s s' call
   call_alone acted lost answered given offered asked s s' (inr (inl call)) = nothing_made IsOwnEvent (instance_of s) (instance_of s') (lost s call.0 call.1 s' call.2)
   call_alone acted lost answered given offered asked s s' (inr (inr (inl call))) = nothing_made IsOwnEvent (instance_of s) (instance_of s') (answered s call.0 call.1 s' call.2)

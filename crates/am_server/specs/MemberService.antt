@@ -4,6 +4,7 @@ use Rattle.am_http.specs.Sessions.{Standing, fresh}
 use Rattle.am_instance.specs.InstanceStates.{InstanceState}
 use Rattle.am_member.specs.Lives.{Deed as LifeDeed, IsLife, IsOwnEvent, IsPagingEvent, Turn, standings_in, turns_of}
 use Rattle.am_member.specs.Lives.Deed.{Served, Own}
+use Rattle.am_reactor.specs.declared.service.Service.{Ghosts as Service}
 use Rattle.am_reactor.specs.Deeds.{Deed}
 use Rattle.am_reactor.specs.History.{Happening, Happens, Line, fed_in, no_lines, out_in}
 use Rattle.am_reactor.specs.History.Happening.{Came, Called}
@@ -138,12 +139,11 @@ pub record IsLived {S T C : Type 0} (arrived : C → Arrival) (gone : C → List
   pub accord : Accords arrived gone accords is_so (count_by 0 happenings) (numbers_by 0 (λ _. 0) happenings) (passed_by 0 (λ _. 0) (λ _. nothing_passed) happenings)
       (standings_in (λ _. fresh) deeds) (λ connection. turns_of connection deeds) lines
 
-module _ {S T C : Type 0} (does : S → T → Deed → S → T → Type 0) (begins : S → T → S → Type 0) (acts : S → S → Type 0) (pending : T → List ℕ)
-    (arrived : C → Arrival) (gone : C → List ℕ) (instance_of : S → InstanceState) (accords : T → Passed → Standing → List Turn → Type 0)
-    (is_so : Passed → Standing → List Turn → Type 0) (first : S) where
+module _ {S T C : Type 0} (law : Service S T) (acts : S → S → Type 0) (arrived : C → Arrival) (gone : C → List ℕ) (instance_of : S → InstanceState)
+    (accords : T → Passed → Standing → List Turn → Type 0) (is_so : Passed → Standing → List Turn → Type 0) (first : S) where
   -- At each moment of a history, behind what had happened before, that is the life of a member.
   abbrev pub IsAlwaysLived : (before : List Happening) (service : S) (lines : ℕ → Option (Line T C)) (happenings : List Happening) (service' : S)
-      (lines' : ℕ → Option (Line T C)) → Happens does begins acts pending arrived gone service lines happenings service' lines' → Type 0
+      (lines' : ℕ → Option (Line T C)) → Happens law acts arrived gone service lines happenings service' lines' → Type 0
   IsAlwaysLived before service lines [] service' lines' happens = IsLived arrived gone instance_of accords is_so first before service' lines'
   IsAlwaysLived before service lines (happening ∷ happenings) service' lines' happens = IsLived arrived gone instance_of accords is_so first before service lines
       × IsAlwaysLived (before ++ happening ∷ []) happens.0 happens.1 happenings service' lines' happens.3

@@ -39,7 +39,7 @@ pub trait MemberService: Service {
     ghost so_of_accord: { (session : Self.Session) (passed : Passed) (standing : Standing) (turns : List Turn) →
         accords session passed standing turns → is_so passed standing turns };
 
-    ghost acts_alone: { (service : Self) (service' : Self) → IsCall Self.acts Self.loses Self.answers Self.gives Self.offers Self.asks service service' →
+    ghost acts_alone: { (service : Self) (service' : Self) → IsCall Self.Service service service' →
         ActsAlone instance_of service service' };
 
     ghost does_for_one: { (service : Self) (session : Self.Session) (deed : Deed) (service' : Self) (session' : Self.Session) →
@@ -64,10 +64,9 @@ pub fn run<S: MemberService, R: Net + Clock + Input>(
 ) -> io::Result<()>
     // PROMISE: At each moment, a member that the loop runs has lived a life: one list of steps, of just the bytes that each connection's own stream brought, in order; and just what its session sent has gone out over that stream, each byte once.
     ensures lived { (left : ℕ → Option (Line S.Session NotedStream))
-        × (history : Leads S.does S.begins (IsCall S.acts S.loses S.answers S.gives S.offers S.asks) S.pending arrived_over gone_over service.old no_lines service.new left)
-        × IsAlwaysLived S.does S.begins (IsCall S.acts S.loses S.answers S.gives S.offers S.asks) S.pending arrived_over gone_over
-        S.instance_of S.accords S.is_so service.old [] service.old no_lines history.happenings service.new left history.happens }
-    ensures peered { LoopGoesFromNone S.does S.begins S.acts S.pending arrived_over gone_over S.loses S.answers S.gives S.offers S.asks service.old service.new }
+        × (history : Leads S.Service (IsCall S.Service) arrived_over gone_over service.old no_lines service.new left)
+        × IsAlwaysLived S.Service (IsCall S.Service) arrived_over gone_over S.instance_of S.accords S.is_so service.old [] service.old no_lines history.happenings service.new left history.happens }
+    ensures peered { LoopGoesFromNone S.Service service.old service.new }
 {
     am_reactor::run(alloc, rt, entrances, peers, service, limits)
 }

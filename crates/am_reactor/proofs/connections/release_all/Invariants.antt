@@ -4,5 +4,5 @@ use Rattle.am_reactor.proofs.connections.release_all.Given as goal
 
 abbrev pub invariant-loop : goal.invariant-loop
 invariant-loop g l = (g.S.Service.uncommitted l.service ≡ false)
-    × LeadsOn g.S.Service.does g.S.Service.begins g.S.Service.acts g.S.Service.pending g.C.Stream.arrived g.C.Stream.gone
+    × LeadsOn g.S.Service g.S.Service.acts g.C.Stream.arrived g.C.Stream.gone
     l.fn.service (lines l.fn.connections.table) l.service (lines l.connections.table)

@@ -6,13 +6,13 @@ use Rattle.am_reactor.proofs.Peering.{loops_from, loops_lead}
 use Rattle.am_reactor.proofs.running.run.Goals as goal
 
 pub returns-in_err-events-clause-led : goal.returns-in_err-events-clause-led
-returns-in_err-events-clause-led g c = (no_lines, leads_none _ _ _ _ _ _ _ _)
+returns-in_err-events-clause-led g c = (no_lines, leads_none g.S.Service _ _ _ _ _)
 
 pub returns-in_err-events-clause-peered : goal.returns-in_err-events-clause-peered
 returns-in_err-events-clause-peered g c = inl refl
 
 pub returns-in_err-reactor-clause-led : goal.returns-in_err-reactor-clause-led
-returns-in_err-reactor-clause-led g c = (no_lines, leads_none _ _ _ _ _ _ _ _)
+returns-in_err-reactor-clause-led g c = (no_lines, leads_none g.S.Service _ _ _ _ _)
 
 pub returns-in_err-reactor-clause-peered : goal.returns-in_err-reactor-clause-peered
 returns-in_err-reactor-clause-peered g c = inl refl
@@ -20,8 +20,8 @@ returns-in_err-reactor-clause-peered g c = inl refl
 pub returns-clause-led : goal.returns-clause-led
 returns-clause-led g c = (
   lines c.make_turns.new.reactor.connections.table,
-  loops_lead _ _ _ _ _ _ _ _ _ _ _ _ _ _ _ _ _ _ _
-      (loops_from _ _ _ _ _ _ _ _ _ _ _ _ _ _ _ _ _ _ c.watch_input.ensures c.in_ok-reactor.ensures.none c.make_turns.ensures),
+  loops_lead g.S.Service _ _ _ _ _ _ _ _
+      (loops_from g.S.Service _ _ _ _ _ _ _ c.watch_input.ensures c.in_ok-reactor.ensures.none c.make_turns.ensures),
 )
 
 pub returns-clause-peered : goal.returns-clause-peered
@@ -31,5 +31,5 @@ returns-clause-peered g c = inr (
   held_by c.make_turns.new.reactor,
   c.in_ok-reactor.ensures.unlinked,
   c.in_ok-reactor.ensures.unasked,
-  loops_from _ _ _ _ _ _ _ _ _ _ _ _ _ _ _ _ _ _ c.watch_input.ensures c.in_ok-reactor.ensures.none c.make_turns.ensures,
+  loops_from g.S.Service _ _ _ _ _ _ _ c.watch_input.ensures c.in_ok-reactor.ensures.none c.make_turns.ensures,
 )

@@ -34,19 +34,19 @@ returns-clause-exchanged g c = record {
 }
 
 pub returns-in_err-heard-clause-led : goal.returns-in_err-heard-clause-led
-returns-in_err-heard-clause-led g c = leads_hears _ _ _ _ _ _ _ _ _ _ _ c.read_available.ensures.heard (ap leaves_in c.requires.«open»)
+returns-in_err-heard-clause-led g c = leads_hears g.S.Service _ _ _ _ _ _ _ _ c.read_available.ensures.heard (ap leaves_in c.requires.«open»)
 
 pub returns-in_err-told-clause-led : goal.returns-in_err-told-clause-led
 returns-in_err-told-clause-led g c key others first begun leads =
-    leads_tells _ _ _ _ _ _ _ (line_of c.read_available.new.connection) _ _ _ _ c.flush_session.ensures.out c.flush_session.ensures.unread refl key others first begun
-    (leads_hears _ _ _ _ _ _ _ _ _ _ _ c.read_available.ensures.heard (ap leaves_in c.requires.«open») key others first begun leads)
+    leads_tells g.S.Service _ _ _ _ (line_of c.read_available.new.connection) _ _ _ _ c.flush_session.ensures.out c.flush_session.ensures.unread refl key others first begun
+    (leads_hears g.S.Service _ _ _ _ _ _ _ _ c.read_available.ensures.heard (ap leaves_in c.requires.«open») key others first begun leads)
 
 pub returns-clause-led : goal.returns-clause-led
 returns-clause-led g c key others first begun leads =
-    leads_tells _ _ _ _ _ _ _ (line_of c.read_available.new.connection) _ _ _ _ c.flush_session.ensures.out c.flush_session.ensures.unread refl key others first begun
-    (leads_hears _ _ _ _ _ _ _ _ _ _ _ c.read_available.ensures.heard (ap leaves_in c.requires.«open») key others first begun leads)
+    leads_tells g.S.Service _ _ _ _ (line_of c.read_available.new.connection) _ _ _ _ c.flush_session.ensures.out c.flush_session.ensures.unread refl key others first begun
+    (leads_hears g.S.Service _ _ _ _ _ _ _ _ c.read_available.ensures.heard (ap leaves_in c.requires.«open») key others first begun leads)
 
 pub returns-then-has_left-clause-led : goal.returns-then-has_left-clause-led
 returns-then-has_left-clause-led g c key others first begun leads =
-    leads_tells _ _ _ _ _ _ _ (line_of c.read_available.new.connection) _ _ _ _ c.flush_session.ensures.out c.flush_session.ensures.unread refl key others first begun
-    (leads_hears _ _ _ _ _ _ _ _ _ _ _ c.read_available.ensures.heard (ap leaves_in c.requires.«open») key others first begun leads)
+    leads_tells g.S.Service _ _ _ _ (line_of c.read_available.new.connection) _ _ _ _ c.flush_session.ensures.out c.flush_session.ensures.unread refl key others first begun
+    (leads_hears g.S.Service _ _ _ _ _ _ _ _ c.read_available.ensures.heard (ap leaves_in c.requires.«open») key others first begun leads)

@@ -8,5 +8,5 @@ loop-init g c first begun loops = loops
 pub loop-preserved : goal.loop-preserved
 loop-preserved g c = elim c.match-accept.branch [
   | in-Came w ↦ rw w.service-is (rw w.reactor-is (λ first begun loops. w.admit.ensures first begun (c.loop.invariant first begun loops)))
-  | in-Missed w ↦ rw w.service-is (rw w.reactor-is (λ first begun loops. loops_act _ _ _ _ _ _ _ _ _ _ _ _ _ _ _ _ w.accept_failed.ensures first begun (c.loop.invariant first begun loops)))
+  | in-Missed w ↦ rw w.service-is (rw w.reactor-is (λ first begun loops. loops_act g.S.Service _ _ _ _ _ w.accept_failed.ensures first begun (c.loop.invariant first begun loops)))
 ]

@@ -3,5 +3,5 @@ use Rattle.am_reactor.proofs.turn.close_all.Goals as goal
 
 pub returns : goal.returns
 returns g c first begun loops =
-    loops_over _ _ _ _ _ _ _ _ _ _ _ _ _ _ _ _ _ c.give_up_all-2.ensures first begun
-    (loops_moves _ _ _ _ _ _ _ _ _ _ _ _ _ _ _ _ _ c.give_up_all.ensures first begun (loops_apart _ _ _ _ _ _ _ _ _ _ _ _ _ _ _ _ _ c.cut_all.ensures first begun loops))
+    loops_over g.S.Service _ _ _ _ _ _ c.give_up_all-2.ensures first begun
+    (loops_moves g.S.Service _ _ _ _ _ _ c.give_up_all.ensures first begun (loops_apart g.S.Service _ _ _ _ _ _ c.cut_all.ensures first begun loops))

@@ -6,7 +6,7 @@ returns-clause-lived g c =
     let led = c.run.ensures.led in (
       led.0,
       led.1,
-      history_always_lived g.S.MemberService.instance_of g.S.MemberService.accords g.S.MemberService.is_so _ _ _ g.S.MemberService.so_of_none g.S.MemberService.so_of_accord g.met.S.MemberService.begins_fresh
-          g.met.S.MemberService.acts_alone g.met.S.MemberService.does_for_one _ _ _
+      history_always_lived g.S.MemberService.instance_of g.S.MemberService.accords g.S.MemberService.is_so g.S.Service _ g.S.MemberService.so_of_none g.S.MemberService.so_of_accord g.met.S.MemberService.begins_fresh
+          g.met.S.MemberService.acts_alone g.met.S.MemberService.does_for_one _ _
           led.1.happenings _ _ led.0 led.1.happens,
     )
