@@ -2,6 +2,7 @@
 
 ghost use Rattle.std.specs.Prelude.{◌≡◌, ◌≢◌};
 
+mod arguments;
 mod diff;
 mod files;
 mod instance;
@@ -17,7 +18,7 @@ use am_version_order::Moment;
 use am_wire::Unknown;
 use clap::builder::ValueParser;
 use clap::error::ErrorKind;
-use clap::{Arg, ArgMatches, Command, arg, value_parser};
+use clap::{Arg, ArgMatches, Command};
 use std::alloc::{AllocError, Global};
 use std::rt::{Env, Files};
 use std::time::Duration;
@@ -214,14 +215,6 @@ fn ensure(holds: bool, text: &str) -> Result<(), Mistake<'_>> {
     }
 }
 
-/// Returns the option that names a state.
-fn state_arg<'a>(alloc: Global, help: &'static str) -> Arg<'a> {
-    arg!(in alloc; --state <STATE>)
-        .help(help)
-        .required(true)
-        .value_parser(["sil", "nfl"].as_slice())
-}
-
 /// Returns the state that an option names.
 fn state_of(args: &ArgMatches<'_>) -> StateName {
     match args.get_str("state") {
@@ -257,28 +250,15 @@ fn since_1970(nanos: u64) -> Moment {
 
 const NANOS_PER_SECOND: u64 = 1_000_000_000;
 
-/// Returns the option for how long a connection may last, which is a number of seconds.
-fn time_limit_arg<'a>(alloc: Global, default: &'static str, help: &'static str) -> Arg<'a> {
-    arg!(in alloc; --"time-limit" <S>)
-        .help(help)
-        .value_parser(value_parser!(u64).range(1..=3_600))
-        .default_value(default)
-}
-
 /// Returns the time of an option in seconds, if it is given.
 fn seconds_of(args: &ArgMatches<'_>, name: &str) -> Option<Duration> {
     let seconds = args.get_one::<u64>(name)?;
     Some(Duration::from_secs(seconds))
 }
 
-/// Returns how long a connection may last.
-fn time_limit_of(args: &ArgMatches<'_>) -> Duration {
-    seconds_of(args, "time-limit").unwrap_or_default()
-}
-
-/// Returns the option that joins files with their logs.
-fn log_arg<'a>(alloc: Global) -> Arg<'a> {
-    arg!(in alloc; --log "Joins each file with the logs beside it, FILE.log and FILE.log.old, which a member with --log keeps")
+/// Returns the time of an option in seconds that always has one.
+fn time_of(args: &ArgMatches<'_>, name: &str) -> Duration {
+    seconds_of(args, name).unwrap_or_default()
 }
 
 /// Checks that a file is named if logs are asked for.

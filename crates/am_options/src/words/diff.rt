@@ -1,72 +1,82 @@
 //! The words of `diff`.
 
-use super::{
-    Mistake, ensure, ensure_file, has_name_twice, log_arg, now_of, sources_of, state_arg, state_of,
-    time_limit_arg, time_limit_of,
-};
+use super::arguments::{Argument, HOUR, LOG, Rule, STATE, TEXT, Takes, with_arguments};
+use super::{Mistake, ensure, ensure_file, has_name_twice, now_of, sources_of, state_of, time_of};
 use crate::job::{DiffJob, Job, Report, StateName};
 use crate::source::{STANDARD_INPUT, SourceWord, are_live};
 use am_peers::port_of;
 use am_report::Compared;
-use clap::{ArgMatches, Command, arg};
+use clap::{ArgMatches, Command};
 use std::alloc::{AllocError, Global};
 
 /// Returns the command.
 pub fn command<'a>(alloc: Global) -> Result<Command<'a>, AllocError> {
-    Command::new(alloc, "diff")
+    let command = Command::new(alloc, "diff")
         .about(
             "Reads what several replicas hold, and prints in key order at which keys they differ, and which of them counts",
         )
-        .after_help(AFTER)
-        .arg(state_arg(
-            alloc,
-            "The state that the sources are of: silences or the notification log",
-        ))?
-        .arg(
-            arg!(in alloc; --now <MOMENT> "The moment of the views, in nanoseconds since 1970 or as 2026-11-26T12:00:00Z; without it, the clock's"),
-        )?
-        .arg(
-            arg!(in alloc; --held "Compares all that the sources hold, what has expired too, and not only what they show"),
-        )?
-        .arg(
-            arg!(in alloc; --long)
-                .help(
-                    "Also prints below each line the matchers, author and comment of a silence and what changed, or receiver and group of an entry",
-                )
-                .group("form")?,
-        )?
-        .arg(
-            arg!(in alloc; --json)
-                .help(
-                    "Prints the differences as a list in JSON, on one line, in place of the lines",
-                )
-                .group("form")?,
-        )?
-        .arg(
-            arg!(in alloc; --prometheus)
-                .help(
-                    "Prints figures in Prometheus' text format in place of the lines: of each source at how many keys it holds none (missing) or a lesser version (behind), and the moment",
-                )
-                .group("form")?,
-        )?
-        .arg(time_limit_arg(
-            alloc,
-            "5",
-            "For how many seconds a connection to a server may last, 1 to 3600",
-        ))?
-        .arg(log_arg(alloc))?
-        .arg(
-            arg!(in alloc; source: <SOURCE> ... "NAME=FILE, cut at its first '=', or FILE, which is then its own name; '-' is standard input, gossip://HOST:PORT an Alertmanager asked by its gossip, and http://HOST:PORT a server, perhaps with a path; 2 to 16 of them"),
-        )
+        .after_help(AFTER);
+    with_arguments(alloc, command, ARGUMENTS)
 }
+
+/// The options and words, in the order of the help.
+const ARGUMENTS: &[Argument] = &[
+    Argument {
+        name: "state",
+        takes: STATE,
+        rule: Rule::Required,
+        help: "The state that the sources are of: silences or the notification log",
+    },
+    Argument {
+        name: "now",
+        takes: Takes::Value("MOMENT", TEXT),
+        rule: Rule::Optional,
+        help: "The moment of the views, in nanoseconds since 1970 or as 2026-11-26T12:00:00Z; without it, the clock's",
+    },
+    Argument {
+        name: "held",
+        takes: Takes::Nothing,
+        rule: Rule::Optional,
+        help: "Compares all that the sources hold, what has expired too, and not only what they show",
+    },
+    Argument {
+        name: "long",
+        takes: Takes::Nothing,
+        rule: Rule::OneOf("form"),
+        help: "Also prints below each line the matchers, author and comment of a silence and what changed, or receiver and group of an entry",
+    },
+    Argument {
+        name: "json",
+        takes: Takes::Nothing,
+        rule: Rule::OneOf("form"),
+        help: "Prints the differences as a list in JSON, on one line, in place of the lines",
+    },
+    Argument {
+        name: "prometheus",
+        takes: Takes::Nothing,
+        rule: Rule::OneOf("form"),
+        help: "Prints figures in Prometheus' text format in place of the lines: of each source at how many keys it holds none (missing) or a lesser version (behind), and the moment",
+    },
+    Argument {
+        name: "time-limit",
+        takes: Takes::Value("S", HOUR),
+        rule: Rule::Default("5"),
+        help: "For how many seconds a connection to a server may last, 1 to 3600",
+    },
+    LOG,
+    Argument {
+        name: "source",
+        takes: Takes::Words("SOURCE"),
+        rule: Rule::Required,
+        help: "NAME=FILE, cut at its first '=', or FILE, which is then its own name; '-' is standard input, gossip://HOST:PORT an Alertmanager asked by its gossip, and http://HOST:PORT a server, perhaps with a path; 2 to 16 of them",
+    },
+];
 
 /// Reads the job that the words name. The moment is judged first, and then the sources.
 pub fn read_job<'a>(alloc: Global, args: &ArgMatches<'a>) -> Result<Job<'a>, Mistake<'a>> {
     let now = now_of(args)?;
     let sources = sources_of(alloc, args, "source")?;
-    judge_words(&sources)?;
-    judge_servers(args, &sources)?;
-    ensure_file(args, sources.iter().any(|source| source.is_file()))?;
+    judge(args, &sources)?;
     Ok(Job::Diff(DiffJob {
         state: state_of(args),
         compared: compared_of(args),
@@ -74,9 +84,16 @@ pub fn read_job<'a>(alloc: Global, args: &ArgMatches<'a>) -> Result<Job<'a>, Mis
         is_long: args.get_flag("long"),
         now,
         sources,
-        time_limit: time_limit_of(args),
+        time_limit: time_of(args, "time-limit"),
         has_logs: args.get_flag("log"),
     }))
+}
+
+/// Checks the sources.
+fn judge<'a>(args: &ArgMatches<'a>, sources: &[SourceWord<'a>]) -> Result<(), Mistake<'a>> {
+    judge_words(sources)?;
+    judge_servers(args, sources)?;
+    ensure_file(args, sources.iter().any(|source| source.is_file()))
 }
 
 /// Returns the form in which the options want differences reported.

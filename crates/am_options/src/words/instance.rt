@@ -1,6 +1,7 @@
 //! The words of `instance`.
 
-use super::{Mistake, ensure, seconds_of, time_limit_arg, time_limit_of, unknown_of};
+use super::arguments::{Argument, FROM_ONE, HOUR, Rule, TEXT, Takes, U16, U32, with_arguments};
+use super::{Mistake, ensure, seconds_of, time_of, unknown_of};
 use crate::job::Job;
 use crate::options::Options;
 use am_matcher::Dialect;
@@ -9,201 +10,239 @@ use am_store::are_one_file;
 use am_version_order::Interval;
 use am_wire::Unknown;
 use clap::builder::ValueParser;
-use clap::{ArgMatches, Command, arg, value_parser};
+use clap::{ArgMatches, Command};
 use std::alloc::{AllocError, Global};
 use std::net::SocketAddr;
 use std::rt::Files;
 
-/// Returns the command, with its options in the order of the help.
+/// Returns the command.
 pub fn command<'a>(alloc: Global) -> Result<Command<'a>, AllocError> {
     let command = Command::new(alloc, "instance")
         .about(
             "Runs one member: serves the silences of API v2 to people and tools, and frames to its peers",
         )
         .after_help(AFTER);
-    let command = with_names(alloc, command)?;
-    let command = with_hosts(alloc, command)?;
-    let command = with_limits(alloc, command)?;
-    with_times(alloc, command)
+    with_arguments(alloc, command, ARGUMENTS)
 }
 
-/// Adds the options that name the member and the others that it knows.
-fn with_names<'a>(alloc: Global, command: Command<'a>) -> Result<Command<'a>, AllocError> {
-    command
-        .arg(
-            arg!(in alloc; --name <NAME>)
-                .help("Its name among the members, 1 to 255 bytes")
-                .required(true),
-        )?
-        .arg(
-            arg!(in alloc; --listen <"ADDRESS:PORT">)
-                .help(
-                    "The address at which it listens, for HTTP and for the frames of peers alike, as 10.0.0.1:9093 or [::1]:9093; a port alone is one of 127.0.0.1",
-                )
-                .required(true),
-        )?
-        .arg(
-            arg!(in alloc; --peer <"NAME=ADDRESS:PORT"> ... "Another member and the address at which it listens, or its port alone on 127.0.0.1, cut at the last '='; any number of times"),
-        )?
-        .arg(
-            arg!(in alloc; --"peers-listen" <"ADDRESS:PORT"> "The address at which it listens for the frames of peers, and for nothing else; --listen then hears no frames"),
-        )?
-        .arg(
-            arg!(in alloc; --secret <FILE> "The file of a secret that all members have, 16 to 4096 bytes: frames go out sealed by it, and others are refused"),
-        )?
-        .arg(
-            arg!(in alloc; --"open-peers")
-                .help(
-                    "Hears frames without --secret also at an address that other machines reach: whoever reaches it can change silences",
-                )
-                .conflicts_with("secret")?,
-        )
+/// The options, in the order of the help.
+const ARGUMENTS: &[Argument] = &[
+    // the member, and the others that it knows
+    Argument {
+        name: "name",
+        takes: Takes::Value("NAME", TEXT),
+        rule: Rule::Required,
+        help: "Its name among the members, 1 to 255 bytes",
+    },
+    Argument {
+        name: "listen",
+        takes: Takes::Value("ADDRESS:PORT", TEXT),
+        rule: Rule::Required,
+        help: "The address at which it listens, for HTTP and for the frames of peers alike, as 10.0.0.1:9093 or [::1]:9093; a port alone is one of 127.0.0.1",
+    },
+    Argument {
+        name: "peer",
+        takes: Takes::Values("NAME=ADDRESS:PORT"),
+        rule: Rule::Optional,
+        help: "Another member and the address at which it listens, or its port alone on 127.0.0.1, cut at the last '='; any number of times",
+    },
+    Argument {
+        name: "peers-listen",
+        takes: Takes::Value("ADDRESS:PORT", TEXT),
+        rule: Rule::Optional,
+        help: "The address at which it listens for the frames of peers, and for nothing else; --listen then hears no frames",
+    },
+    Argument {
+        name: "secret",
+        takes: Takes::Value("FILE", TEXT),
+        rule: Rule::Optional,
+        help: "The file of a secret that all members have, 16 to 4096 bytes: frames go out sealed by it, and others are refused",
+    },
+    Argument {
+        name: "open-peers",
+        takes: Takes::Nothing,
+        rule: Rule::Without("secret"),
+        help: "Hears frames without --secret also at an address that other machines reach: whoever reaches it can change silences",
+    },
+    // what it takes from others, and its files
+    Argument {
+        name: "gossip",
+        takes: Takes::Values("NAME=ADDRESS:PORT"),
+        rule: Rule::Optional,
+        help: "An Alertmanager beside which it runs, and the address of its gossip (--cluster.listen-address), or its port alone on 127.0.0.1: each holds what the other does; any number of times, each by a name of its own",
+    },
+    Argument {
+        name: "patterns",
+        takes: Takes::Named("DIALECT", ValueParser::Names(&["regex", "re2"])),
+        rule: Rule::Optional,
+        help: "Which regular expressions patterns are: regex, or re2, as an Alertmanager means them, which refuses more posts; without it re2 with --gossip, and else regex",
+    },
+    Argument {
+        name: "keep-unknown",
+        takes: Takes::Nothing,
+        rule: Rule::Optional,
+        help: "Keeps the fields of versions that aren't known here, as those of a later Alertmanager, and sends them on; with --gossip it always does, and without either they are dropped",
+    },
+    Argument {
+        name: "host",
+        takes: Takes::Values("NAME"),
+        rule: Rule::Optional,
+        help: "A name by which it is asked beside 127.0.0.1, localhost and the address of --listen, as that of a proxy; any number of times. Under any other it answers 403, and so it does the page of another site",
+    },
+    Argument {
+        name: "sil",
+        takes: Takes::Value("FILE", TEXT),
+        rule: Rule::Required,
+        help: "The file of the silences; where there is none, it holds none",
+    },
+    Argument {
+        name: "nfl",
+        takes: Takes::Value("FILE", TEXT),
+        rule: Rule::Required,
+        help: "The file of the notification log; where there is none, it is empty",
+    },
+    // how long it keeps things and others may take, and how much it takes at once
+    Argument {
+        name: "retention",
+        takes: Takes::Value("S", SECONDS),
+        rule: Rule::Default("432000"),
+        help: "For how many seconds a silence is kept after its end, 1 to 999999999",
+    },
+    Argument {
+        name: "peer-timeout",
+        takes: Takes::Value("S", SECONDS),
+        rule: Rule::Default("15"),
+        help: "For how many seconds members wait for one another before they notify, 1 to 999999999",
+    },
+    Argument {
+        name: "connections",
+        takes: Takes::Value("N", FROM_ONE),
+        rule: Rule::Optional,
+        help: "After how many connections it saves both files and ends, 1 to 18446744073709551615; without it, it goes on",
+    },
+    Argument {
+        name: "time-limit",
+        takes: Takes::Value("S", HOUR),
+        rule: Rule::Default("5"),
+        help: "For how many seconds a connection may last, of a client or to a peer, 1 to 3600",
+    },
+    Argument {
+        name: "decide-limit",
+        takes: Takes::Value("S", HOUR),
+        rule: Rule::Default("10"),
+        help: "How many seconds a decision may take once its turn has come, 1 to 3600; then alerts that aren't held against all silences count as not muted",
+    },
+    Argument {
+        name: "at-once",
+        takes: Takes::Value("N", U16),
+        rule: Rule::Default("256"),
+        help: "How many connections it serves at once, 1 to 65535; one that comes beyond gets the place of the one on which nothing has moved for longest",
+    },
+    Argument {
+        name: "waiting",
+        takes: Takes::Value("N", U16),
+        rule: Rule::Default("128"),
+        help: "How many requests for a decision wait for its turn, 1 to 65535, and no more than half of --at-once; one that comes beyond is answered 503",
+    },
+    Argument {
+        name: "most-unfinished",
+        takes: Takes::Value("BYTES", FROM_ONE),
+        rule: Rule::Default("134217728"),
+        help: "How many bytes of unfinished requests and frames it keeps in all, 1 to 18446744073709551615; beyond, the connection that has most of them is closed",
+    },
+    Argument {
+        name: "most-bytes",
+        takes: Takes::Value("BYTES", U32),
+        rule: Rule::Default("1073741824"),
+        help: "How many bytes a file may have, of the silences or of the log, 1 to 4294967295; a post for which there is no room is answered 500",
+    },
+    Argument {
+        name: "lines-a-second",
+        takes: Takes::Value("N", U16),
+        rule: Rule::Default("10"),
+        help: "How many lines of one kind of fault it prints in a second, 1 to 65535; further ones are counted in a line",
+    },
+    // what it does by itself, and when it ends
+    Argument {
+        name: "tick-every",
+        takes: Takes::Value("S", SECONDS),
+        rule: Rule::Optional,
+        help: "Ticks by itself every so many seconds, 1 to 999999999: drops what has expired, and saves both files",
+    },
+    Argument {
+        name: "trust-clock",
+        takes: Takes::Nothing,
+        rule: Rule::Optional,
+        help: "Ticks even where the clock went ahead by more than --retention in a moment; without it, it then drops nothing, and says so each minute",
+    },
+    Argument {
+        name: "pull-every",
+        takes: Takes::Value("S", SECONDS),
+        rule: Rule::Optional,
+        help: "Asks each peer for all it has every so many seconds, 1 to 999999999, and says at the start which spread and flight time that keeps",
+    },
+    Argument {
+        name: "save-every",
+        takes: Takes::Value("S", SECONDS),
+        rule: Rule::Optional,
+        help: "Saves both files every so many seconds, 1 to 999999999, where something may have changed",
+    },
+    Argument {
+        name: "gossip-every",
+        takes: Takes::Value("S", SECONDS),
+        rule: Rule::Default("60"),
+        help: "Asks each --gossip for all it has every so many seconds, 1 to 999999999, and gives back what it lacks; new versions go to it at once",
+    },
+    Argument {
+        name: "log",
+        takes: Takes::Nothing,
+        rule: Rule::Optional,
+        help: "Keeps a log beside each file, and has all it takes there, on the disk, before it is answered or sent on",
+    },
+    Argument {
+        name: "pull-first",
+        takes: Takes::Nothing,
+        rule: Rule::Optional,
+        help: "Answers no request, and no peer that asks for all, before a peer or a --gossip has sent all it has",
+    },
+    Argument {
+        name: "pull-first-limit",
+        takes: Takes::Value("S", SECONDS),
+        rule: Rule::Default("30"),
+        help: "For how many seconds --pull-first waits at the most, 1 to 999999999",
+    },
+    Argument {
+        name: "stop-at-input-end",
+        takes: Takes::Nothing,
+        rule: Rule::Optional,
+        help: "Saves both files and ends where standard input ends",
+    },
+    Argument {
+        name: "least-repeat",
+        takes: Takes::Value("S", SECONDS),
+        rule: Rule::Optional,
+        help: "The smallest repeat interval in seconds, 1 to 999999999: warns where --pull-every asks for more",
+    },
+];
+
+/// A number of seconds, of up to 31 years.
+const SECONDS: ValueParser<'static> = ValueParser::Unsigned(1, 999_999_999);
+
+/// The values of options that are judged beyond what `clap` does.
+#[derive(Clone, Copy)]
+struct Judged {
+    address: SocketAddr,
+    peers_address: Option<SocketAddr>,
+    retention: Interval,
+    peer_timeout: Interval,
 }
 
-/// Adds the options for what it takes from others, and for its files.
-fn with_hosts<'a>(alloc: Global, command: Command<'a>) -> Result<Command<'a>, AllocError> {
-    command
-        .arg(
-            arg!(in alloc; --gossip <"NAME=ADDRESS:PORT"> ... "An Alertmanager beside which it runs, and the address of its gossip (--cluster.listen-address), or its port alone on 127.0.0.1: each holds what the other does; any number of times, each by a name of its own"),
-        )?
-        .arg(
-            arg!(in alloc; --patterns <DIALECT> "Which regular expressions patterns are: regex, or re2, as an Alertmanager means them, which refuses more posts; without it re2 with --gossip, and else regex")
-                .value_parser(["regex", "re2"].as_slice())
-                .hide_possible_values(true),
-        )?
-        .arg(
-            arg!(in alloc; --"keep-unknown" "Keeps the fields of versions that aren't known here, as those of a later Alertmanager, and sends them on; with --gossip it always does, and without either they are dropped"),
-        )?
-        .arg(
-            arg!(in alloc; --host <NAME> ... "A name by which it is asked beside 127.0.0.1, localhost and the address of --listen, as that of a proxy; any number of times. Under any other it answers 403, and so it does the page of another site"),
-        )?
-        .arg(
-            arg!(in alloc; --sil <FILE>)
-                .help("The file of the silences; where there is none, it holds none")
-                .required(true),
-        )?
-        .arg(
-            arg!(in alloc; --nfl <FILE>)
-                .help("The file of the notification log; where there is none, it is empty")
-                .required(true),
-        )
-}
-
-/// Adds the options for how long it keeps things and others may take, and for how much it takes at once.
-fn with_limits<'a>(alloc: Global, command: Command<'a>) -> Result<Command<'a>, AllocError> {
-    command
-        .arg(
-            arg!(in alloc; --retention <S> "For how many seconds a silence is kept after its end, 1 to 999999999")
-                .value_parser(seconds_parser())
-                .default_value("432000"),
-        )?
-        .arg(
-            arg!(in alloc; --"peer-timeout" <S> "For how many seconds members wait for one another before they notify, 1 to 999999999")
-                .value_parser(seconds_parser())
-                .default_value("15"),
-        )?
-        .arg(
-            arg!(in alloc; --connections <N>)
-                .help(
-                    "After how many connections it saves both files and ends, 1 to 18446744073709551615; without it, it goes on",
-                )
-                .value_parser(value_parser!(u64).range(1..)),
-        )?
-        .arg(time_limit_arg(
-            alloc,
-            "5",
-            "For how many seconds a connection may last, of a client or to a peer, 1 to 3600",
-        ))?
-        .arg(
-            arg!(in alloc; --"decide-limit" <S> "How many seconds a decision may take once its turn has come, 1 to 3600; then alerts that aren't held against all silences count as not muted")
-                .value_parser(value_parser!(u64).range(1..=3_600))
-                .default_value("10"),
-        )?
-        .arg(
-            arg!(in alloc; --"at-once" <N> "How many connections it serves at once, 1 to 65535; one that comes beyond gets the place of the one on which nothing has moved for longest")
-                .value_parser(value_parser!(u16).range(1..))
-                .default_value("256"),
-        )?
-        .arg(
-            arg!(in alloc; --waiting <N> "How many requests for a decision wait for its turn, 1 to 65535, and no more than half of --at-once; one that comes beyond is answered 503")
-                .value_parser(value_parser!(u16).range(1..))
-                .default_value("128"),
-        )?
-        .arg(
-            arg!(in alloc; --"most-unfinished" <BYTES> "How many bytes of unfinished requests and frames it keeps in all, 1 to 18446744073709551615; beyond, the connection that has most of them is closed")
-                .value_parser(value_parser!(usize).range(1..))
-                .default_value("134217728"),
-        )?
-        .arg(
-            arg!(in alloc; --"most-bytes" <BYTES> "How many bytes a file may have, of the silences or of the log, 1 to 4294967295; a post for which there is no room is answered 500")
-                .value_parser(value_parser!(u32).range(1..))
-                .default_value("1073741824"),
-        )?
-        .arg(
-            arg!(in alloc; --"lines-a-second" <N> "How many lines of one kind of fault it prints in a second, 1 to 65535; further ones are counted in a line")
-                .value_parser(value_parser!(u32).range(1..=65_535))
-                .default_value("10"),
-        )
-}
-
-/// Adds the options for what it does by itself, and for when it ends.
-fn with_times<'a>(alloc: Global, command: Command<'a>) -> Result<Command<'a>, AllocError> {
-    command
-        .arg(
-            arg!(in alloc; --"tick-every" <S>)
-                .help(
-                    "Ticks by itself every so many seconds, 1 to 999999999: drops what has expired, and saves both files",
-                )
-                .value_parser(seconds_parser()),
-        )?
-        .arg(
-            arg!(in alloc; --"trust-clock" "Ticks even where the clock went ahead by more than --retention in a moment; without it, it then drops nothing, and says so each minute"),
-        )?
-        .arg(
-            arg!(in alloc; --"pull-every" <S>)
-                .help(
-                    "Asks each peer for all it has every so many seconds, 1 to 999999999, and says at the start which spread and flight time that keeps",
-                )
-                .value_parser(seconds_parser()),
-        )?
-        .arg(
-            arg!(in alloc; --"save-every" <S>)
-                .help(
-                    "Saves both files every so many seconds, 1 to 999999999, where something may have changed",
-                )
-                .value_parser(seconds_parser()),
-        )?
-        .arg(
-            arg!(in alloc; --"gossip-every" <S> "Asks each --gossip for all it has every so many seconds, 1 to 999999999, and gives back what it lacks; new versions go to it at once")
-                .value_parser(seconds_parser())
-                .default_value("60"),
-        )?
-        .arg(
-            arg!(in alloc; --log "Keeps a log beside each file, and has all it takes there, on the disk, before it is answered or sent on"),
-        )?
-        .arg(
-            arg!(in alloc; --"pull-first" "Answers no request, and no peer that asks for all, before a peer or a --gossip has sent all it has"),
-        )?
-        .arg(
-            arg!(in alloc; --"pull-first-limit" <S> "For how many seconds --pull-first waits at the most, 1 to 999999999")
-                .value_parser(seconds_parser())
-                .default_value("30"),
-        )?
-        .arg(
-            arg!(in alloc; --"stop-at-input-end" "Saves both files and ends where standard input ends"),
-        )?
-        .arg(
-            arg!(in alloc; --"least-repeat" <S>)
-                .help(
-                    "The smallest repeat interval in seconds, 1 to 999999999: warns where --pull-every asks for more",
-                )
-                .value_parser(seconds_parser()),
-        )
-}
-
-/// Returns the parser of a number of seconds.
-fn seconds_parser<'a>() -> ValueParser<'a> {
-    value_parser!(u64).range(1..=999_999_999)
+/// The values of options that may be given any number of times.
+#[derive(Drop)]
+struct Lists<'a> {
+    peers: Vec<Peer<'a>>,
+    replicas: Vec<Peer<'a>>,
+    hosts: Vec<&'a str>,
 }
 
 /// Reads the member that the words name. The peers are judged last.
@@ -211,32 +250,59 @@ pub fn read_job<'a, R: Files + AllocGlobal>(
     rt: &R,
     args: &ArgMatches<'a>,
 ) -> Result<Job<'a>, Mistake<'a>> {
-    let listen = text(args, "listen");
-    let address = address_of(listen).ok_or(Mistake::Value(BAD_LISTEN))?;
+    let judged = judge(rt, args)?;
+    let lists = read_lists(rt.alloc(), args)?;
+    Ok(Job::Instance(options(args, judged, lists)))
+}
+
+/// Judges the words, all but the peers.
+fn judge<'a, R: Files + AllocGlobal>(rt: &R, args: &ArgMatches<'a>) -> Result<Judged, Mistake<'a>> {
+    let address = address_of(text(args, "listen")).ok_or(Mistake::Value(BAD_LISTEN))?;
     let peers_address = peers_address(args)?;
     judge_words(rt, args, peers_address)?;
-    let alloc = rt.alloc();
-    Ok(Job::Instance(Options {
-        name: text(args, "name"),
+    Ok(Judged {
         address,
-        own_host: own_host(listen),
         peers_address,
-        peers: peers(alloc, args, "peer")?,
-        replicas: peers(alloc, args, "gossip")?,
-        gossip_every: seconds_of(args, "gossip-every").unwrap_or_default(),
+        retention: interval(args, "retention")?,
+        peer_timeout: interval(args, "peer-timeout")?,
+    })
+}
+
+/// Reads the options that may be given any number of times.
+fn read_lists<'a>(alloc: Global, args: &ArgMatches<'a>) -> Result<Lists<'a>, Mistake<'a>> {
+    let hosts = Vec::from_slice(alloc, args.get_strs("host").unwrap_or(&[]))?;
+    let peers = read_peers(alloc, args, "peer")?;
+    let replicas = read_peers(alloc, args, "gossip")?;
+    Ok(Lists {
+        peers,
+        replicas,
+        hosts,
+    })
+}
+
+/// Returns the options by which the member is run.
+fn options<'a>(args: &ArgMatches<'a>, judged: Judged, lists: Lists<'a>) -> Options<'a> {
+    Options {
+        name: text(args, "name"),
+        address: judged.address,
+        own_host: own_host(text(args, "listen")),
+        peers_address: judged.peers_address,
+        peers: lists.peers,
+        replicas: lists.replicas,
+        gossip_every: time_of(args, "gossip-every"),
         dialect: dialect(args),
         unknown: unknown(args),
         secret: args.get_str("secret"),
         opens_peers: args.get_flag("open-peers"),
-        hosts: Vec::from_slice(alloc, args.get_strs("host").unwrap_or(&[]))?,
+        hosts: lists.hosts,
         silences: text(args, "sil"),
         log: text(args, "nfl"),
-        retention: interval(args, "retention")?,
+        retention: judged.retention,
         retention_seconds: args.get_one("retention").unwrap_or_default(),
-        peer_timeout: interval(args, "peer-timeout")?,
+        peer_timeout: judged.peer_timeout,
         connections: args.get_one("connections").unwrap_or(u64::MAX),
-        time_limit: time_limit_of(args),
-        decide_limit: seconds_of(args, "decide-limit").unwrap_or_default(),
+        time_limit: time_of(args, "time-limit"),
+        decide_limit: time_of(args, "decide-limit"),
         at_once: args.get_one("at-once").unwrap_or_default(),
         waiting: args.get_one("waiting").unwrap_or_default(),
         most_unfinished: args.get_one("most-unfinished").unwrap_or_default(),
@@ -248,10 +314,10 @@ pub fn read_job<'a, R: Files + AllocGlobal>(
         save_every: seconds_of(args, "save-every"),
         keeps_log: args.get_flag("log"),
         pull_first: args.get_flag("pull-first"),
-        pull_first_limit: seconds_of(args, "pull-first-limit").unwrap_or_default(),
+        pull_first_limit: time_of(args, "pull-first-limit"),
         stop_at_input_end: args.get_flag("stop-at-input-end"),
         least_repeat: args.get_one("least-repeat"),
-    }))
+    }
 }
 
 /// Checks that a listener for peers hears somebody, and checks the hosts, and then the files.
@@ -322,7 +388,7 @@ fn is_host(word: &str) -> bool {
 }
 
 /// Returns the peers that an option names.
-fn peers<'a>(
+fn read_peers<'a>(
     alloc: Global,
     args: &ArgMatches<'a>,
     name: &str,

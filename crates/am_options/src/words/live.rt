@@ -1,61 +1,86 @@
 //! The words of `pull` and `push`.
 
-use super::{Mistake, now_of, state_arg, state_of, time_limit_arg, time_limit_of};
+use super::arguments::{Argument, HOUR, Rule, STATE, TEXT, Takes, with_arguments};
+use super::{Mistake, now_of, state_of, time_of};
 use crate::job::{Job, PullJob, PushJob};
 use crate::source::SourceWord;
-use clap::{Arg, ArgMatches, Command, arg};
+use clap::{ArgMatches, Command};
 use std::alloc::{AllocError, Global};
 
 /// Returns the command `pull`.
 pub fn pull_command<'a>(alloc: Global) -> Result<Command<'a>, AllocError> {
-    Command::new(alloc, "pull")
+    let command = Command::new(alloc, "pull")
         .about(
             "Reads a state of a running Alertmanager by its gossip, and writes it as a snapshot, in key order",
         )
-        .after_help(AFTER_PULL)
-        .arg(state_arg(
-            alloc,
-            "The state that is read: silences or the notification log",
-        ))?
-        .arg(replica_time_arg(alloc))?
-        .arg(replica_arg(alloc))
+        .after_help(AFTER_PULL);
+    with_arguments(alloc, command, PULL)
 }
 
 /// Returns the command `push`.
 pub fn push_command<'a>(alloc: Global) -> Result<Command<'a>, AllocError> {
-    Command::new(alloc, "push")
+    let command = Command::new(alloc, "push")
         .about(
             "Sends a running Alertmanager by its gossip those of the versions on standard input that it lacks, and tells which it doesn't hold then",
         )
-        .after_help(AFTER_PUSH)
-        .arg(state_arg(
-            alloc,
-            "The state that the versions are of: silences or the notification log",
-        ))?
-        .arg(moment_arg(alloc))?
-        .arg(arg!(in alloc; --"dry-run" "Sends nothing, and tells what it would send"))?
-        .arg(replica_time_arg(alloc))?
-        .arg(replica_arg(alloc))
+        .after_help(AFTER_PUSH);
+    with_arguments(alloc, command, PUSH)
 }
 
-/// Returns the option that names the moment of a comparison.
-pub fn moment_arg<'a>(alloc: Global) -> Arg<'a> {
-    arg!(in alloc; --now <MOMENT> "The moment, in nanoseconds since 1970 or as 2026-11-26T12:00:00Z; without it, the clock's")
-}
+/// The options and the word of `pull`, in the order of the help.
+const PULL: &[Argument] = &[
+    Argument {
+        name: "state",
+        takes: STATE,
+        rule: Rule::Required,
+        help: "The state that is read: silences or the notification log",
+    },
+    REPLICA_TIME,
+    REPLICA,
+];
 
-/// Returns the option for how long a connection to a replica may last.
-pub fn replica_time_arg<'a>(alloc: Global) -> Arg<'a> {
-    time_limit_arg(
-        alloc,
-        "10",
-        "For how many seconds a connection to the replica may last, 1 to 3600",
-    )
-}
+/// The options and the word of `push`, in the order of the help.
+const PUSH: &[Argument] = &[
+    Argument {
+        name: "state",
+        takes: STATE,
+        rule: Rule::Required,
+        help: "The state that the versions are of: silences or the notification log",
+    },
+    MOMENT,
+    Argument {
+        name: "dry-run",
+        takes: Takes::Nothing,
+        rule: Rule::Optional,
+        help: "Sends nothing, and tells what it would send",
+    },
+    REPLICA_TIME,
+    REPLICA,
+];
 
-/// Returns the word for the replica that is asked.
-fn replica_arg<'a>(alloc: Global) -> Arg<'a> {
-    arg!(in alloc; replica: <REPLICA> "gossip://HOST:PORT, where the replica listens for others (--cluster.listen-address), with an address of IPv4, of IPv6 in brackets, or localhost")
-}
+/// The option that names the moment of a comparison.
+pub const MOMENT: Argument = Argument {
+    name: "now",
+    takes: Takes::Value("MOMENT", TEXT),
+    rule: Rule::Optional,
+    help: "The moment, in nanoseconds since 1970 or as 2026-11-26T12:00:00Z; without it, the clock's",
+};
+
+/// The option for how long a connection to a replica may last.
+pub const REPLICA_TIME: Argument = Argument {
+    name: "time-limit",
+    takes: Takes::Value("S", HOUR),
+    rule: Rule::Default("10"),
+    help: "For how many seconds a connection to the replica may last, 1 to 3600",
+};
+
+/// The word for the replica that is asked.
+const REPLICA: Argument = Argument {
+    name: "replica",
+    takes: Takes::Word("REPLICA"),
+    rule: Rule::Required,
+    help: "gossip://HOST:PORT, where the replica listens for others (--cluster.listen-address), with an address of IPv4, of IPv6 in brackets, or localhost",
+};
 
 /// Reads which state to pull.
 pub fn read_pull<'a>(args: &ArgMatches<'a>) -> Result<Job<'a>, Mistake<'a>> {
@@ -80,7 +105,7 @@ fn pull_of<'a>(args: &ArgMatches<'a>) -> Result<PullJob<'a>, Mistake<'a>> {
         state: state_of(args),
         name,
         replica: source.replica().ok_or(Mistake::Value(BAD_REPLICA))?,
-        time_limit: time_limit_of(args),
+        time_limit: time_of(args, "time-limit"),
     })
 }
 

@@ -1,37 +1,52 @@
 //! The words of `mend`.
 
-use super::live::{moment_arg, replica_time_arg};
-use super::{
-    Mistake, ensure, has_name_twice, now_of, sources_of, state_arg, state_of, time_limit_of,
-};
+use super::arguments::{Argument, Rule, STATE, Takes, with_arguments};
+use super::live::{MOMENT, REPLICA_TIME};
+use super::{Mistake, ensure, has_name_twice, now_of, sources_of, state_of, time_of};
 use crate::job::{Job, MendJob, PullJob};
 use crate::source::SourceWord;
-use clap::{ArgMatches, Command, arg};
+use clap::{ArgMatches, Command};
 use std::alloc::{AllocError, Global};
 
 /// Returns the command.
 pub fn command<'a>(alloc: Global) -> Result<Command<'a>, AllocError> {
-    Command::new(alloc, "mend")
+    let command = Command::new(alloc, "mend")
         .about(
             "Asks running Alertmanagers by their gossip what they hold, tells how they differ, and with --apply sends each what it lacks",
         )
-        .after_help(AFTER)
-        .arg(state_arg(
-            alloc,
-            "The state that is mended: silences or the notification log",
-        ))?
-        .arg(moment_arg(alloc))?
-        .arg(
-            arg!(in alloc; --apply "Sends each replica what it lacks, and compares all again; without it, nothing is sent"),
-        )?
-        .arg(
-            arg!(in alloc; --without <NAME> ... "Leaves out the replica of this name, as one that can't be reached"),
-        )?
-        .arg(replica_time_arg(alloc))?
-        .arg(
-            arg!(in alloc; replica: <REPLICA> ... "NAME=gossip://HOST:PORT, where the replica listens for others (--cluster.listen-address), or gossip://HOST:PORT, which is then its own name; 2 to 16 of them"),
-        )
+        .after_help(AFTER);
+    with_arguments(alloc, command, ARGUMENTS)
 }
+
+/// The options and words, in the order of the help.
+const ARGUMENTS: &[Argument] = &[
+    Argument {
+        name: "state",
+        takes: STATE,
+        rule: Rule::Required,
+        help: "The state that is mended: silences or the notification log",
+    },
+    MOMENT,
+    Argument {
+        name: "apply",
+        takes: Takes::Nothing,
+        rule: Rule::Optional,
+        help: "Sends each replica what it lacks, and compares all again; without it, nothing is sent",
+    },
+    Argument {
+        name: "without",
+        takes: Takes::Values("NAME"),
+        rule: Rule::Optional,
+        help: "Leaves out the replica of this name, as one that can't be reached",
+    },
+    REPLICA_TIME,
+    Argument {
+        name: "replica",
+        takes: Takes::Words("REPLICA"),
+        rule: Rule::Required,
+        help: "NAME=gossip://HOST:PORT, where the replica listens for others (--cluster.listen-address), or gossip://HOST:PORT, which is then its own name; 2 to 16 of them",
+    },
+];
 
 /// Reads the job that the words name. The moment is judged first, and then the replicas.
 pub fn read_job<'a>(alloc: Global, args: &ArgMatches<'a>) -> Result<Job<'a>, Mistake<'a>> {
@@ -83,7 +98,7 @@ fn replicas_of<'a>(
                 state: state_of(args),
                 name,
                 replica,
-                time_limit: time_limit_of(args),
+                time_limit: time_of(args, "time-limit"),
             })?;
         }
     }
