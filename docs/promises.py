@@ -78,13 +78,13 @@ A silence that is posted to a member meets these clauses, in this order. `am_dae
 ## From a step to a peer's socket
 
 1. `am_instance::Instance::step`: which frames the step sends to which peers, in order.
-2. `am_backend::Backend::follow`, queued: they wait behind those that waited, or are counted as not sent. So do those of a connection's steps (`am_daemon::ServerState::reply`, queued), of a call's step (`am_daemon::ServerState::made`, queued), and of the step of an Alertmanager's frame (`am_daemon::take_from`, sent).
+2. `am_backend::Backend::follow`, queued: they wait behind those that waited, or memory ran out, and just they are counted as not sent. So it is with what the steps of what a connection says send (`am_daemon::ServerState::take_in`, sent), with what the step of a notice sends (`am_daemon::ServerState::log`, sent), and with the step of an Alertmanager's frame (`am_daemon::take_from`, sent). `am_daemon::Server::feed`, sent: so it is with all that comes over a connection; what is held doesn't change otherwise. The same clause stands on the other calls that the loop makes for a connection: `end`, `resume`, `reach_deadline`.
 3. `am_backend::Backend::next_frames`, taken: all that wait for a peer are taken out, in order, each once. `am_backend::Backend::text_of`, text: their bytes are the text of just these, sealed if members have a secret (`am_peer_auth::sealed_text`).
 4. `am_reactor::Service::outgoing`, committed: nothing is given for a peer before it is committed. `am_daemon::Server::outgoing`, offered: just the text of the frames that are taken out for a peer is given for that peer; or, where members have a secret, these are put by for it, behind those before, and a link is opened; rested: nothing is given only once no frame waits. `am_daemon::Server::more`: behind the peer's challenge goes the text of just the frames that were put by for it, or of a part of all that is held.
 5. `am_reactor::run`, peered: just what is given for a peer leaves over the link to it, in order, each byte once, or is told lost.
 6. At the other end a frame is fed, passes and is heard as a request is (steps 1 to 3 above; `am_gossip::Feeder::feed`), and is one step (step 5), of the place of its sender.
 
-That what a connection's steps gave is what `reply` gets, and what a call's step gave what `made` gets, no clause says, nor which part of all that is held is next, and that frames are dropped only where too many bytes are put by or memory ran out: one reads it in am_daemon. The loop's clauses have what is given for a peer, but not when nothing is: rested is one of the server's call.
+That the calls of the loop that are for no connection queue nothing but what their own steps send, no clause says, nor which part of all that is held is next, and that frames are dropped only where too many bytes are put by or memory ran out: one reads it in am_daemon. The loop's clauses have what is given for a peer, but not when nothing is: rested is one of the server's call.
 """
 
 TAIL = """## Only tested

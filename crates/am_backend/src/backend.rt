@@ -12,7 +12,7 @@ ghost use Rattle.am_backend.specs.Outbound.{AreGone, IsQueued, IsTaken, IsTextFo
 ghost use Rattle.am_backend.specs.Stores.{IsFollowed, IsKept, Store, store_of as backend_store};
 
 use crate::commit_state::CommitState;
-use crate::counting::{cause_of, count_handed};
+use crate::counting::{Counted, cause_of, count, count_handed};
 use crate::system_backend::SystemBackend;
 use am_diagnostics::{Diagnostic, Fault, TickVerdict, signals};
 use am_gossip::Frame;
@@ -78,8 +78,10 @@ pub trait Backend {
     /// Returns the resources that the process takes.
     fn process(&self) -> Process;
 
-    /// Returns the figures, for counting.
-    fn figures(&mut self) -> &mut Metrics;
+    /// Counts something.
+    fn count(&mut self, counted: Counted<'_>)
+        ensures store { store_of self.new ≡ store_of self.old }
+        ensures outbound { outbound self.new ≡ outbound self.old };
 
     /// Returns the figures.
     fn counted(&self) -> &Metrics;
@@ -96,11 +98,13 @@ pub trait Backend {
     /// Returns whether there is room for `post` bytes of a post, and for the ends of all silences. If there doesn't seem to be,
     /// the silences are counted anew, once a second.
     fn has_room_for_post(&mut self, instance: &Instance, post: u64) -> bool
-        ensures { (outbound self.new).frames ≡ (outbound self.old).frames };
+        ensures store { store_of self.new ≡ store_of self.old }
+        ensures outbound { outbound self.new ≡ outbound self.old };
 
     /// Returns whether the log has room for `notice` bytes of a notice. If it doesn't seem to, it is counted anew, once a second.
     fn has_room_for_notice(&mut self, instance: &Instance, notice: u64) -> bool
-        ensures { (outbound self.new).frames ≡ (outbound self.old).frames };
+        ensures store { store_of self.new ≡ store_of self.old }
+        ensures outbound { outbound self.new ≡ outbound self.old };
 
     /// Returns the moment of a Tick after the last event, unless that is too far ahead of the time that has passed, and the clock
     /// isn't trusted.
@@ -204,7 +208,7 @@ pub trait Backend {
         ensures outbound { outbound self.new ≡ left_out count (outbound self.old) }
         ensures lock { sealed_by self.new ≡ sealed_by self.old };
 
-    /// Counts frames for a peer that are dropped before they are sealed, as those of a lost link.
+    /// Counts the frames of a lost link to a peer, this many of which are dropped before they are sealed.
     fn drop_frames(&mut self, peer: usize, count: usize, fault: LinkFault)
         ensures outbound { outbound self.new ≡ outbound self.old }
         ensures lock { sealed_by self.new ≡ sealed_by self.old };
@@ -251,8 +255,8 @@ impl<R: AllocGlobal + Clock + Eprint + Files<File = File>> Backend for SystemBac
         Process::now(self.rt)
     }
 
-    fn figures(&mut self) -> &mut Metrics {
-        &mut self.figures
+    fn count(&mut self, counted: Counted<'_>) {
+        count(&mut self.figures, counted);
     }
 
     fn counted(&self) -> &Metrics {
@@ -423,7 +427,9 @@ impl<R: AllocGlobal + Clock + Eprint + Files<File = File>> Backend for SystemBac
     }
 
     fn drop_frames(&mut self, peer: usize, count: usize, fault: LinkFault) {
-        self.figures.heard.hand_on(peer, count as u64);
+        if count > 0 {
+            self.figures.heard.hand_on(peer, count as u64);
+        }
         self.figures.heard.lose(peer, cause_of(fault));
     }
 

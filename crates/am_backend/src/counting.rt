@@ -7,7 +7,10 @@ ghost use Rattle.am_backend.specs.Stores.{store_of};
 use crate::system_backend::SystemBackend;
 use am_gossip::Frame;
 use am_instance::{Place, Unsent};
-use am_metrics::{CauseLabel, Metrics, SavedState, StepLabel, VersionKind};
+use am_metrics::{
+    CauseLabel, DecisionLabel, Failing, Metrics, RequestLabel, SavedState, StepLabel, VersionKind,
+    WithheldBy,
+};
 use am_reactor::LinkFault;
 use std::rt::Clock;
 use std::time::{Duration, Instant};
@@ -31,7 +34,7 @@ fn step_of_frame(frame: &Frame) -> Option<StepLabel> {
 }
 
 /// Returns the cause that a fault of a link is counted as.
-pub fn cause_of(fault: LinkFault) -> CauseLabel {
+pub(crate) fn cause_of(fault: LinkFault) -> CauseLabel {
     match fault {
         LinkFault::Connect(_) | LinkFault::NoPeer => CauseLabel::Connect,
         LinkFault::Write { .. } | LinkFault::Read { .. } | LinkFault::Unanswered { .. } => {
@@ -48,14 +51,64 @@ pub fn since_1970<C: Clock>(clock: &C) -> Duration {
     clock.since_1970().unwrap_or(Duration::ZERO)
 }
 
+/// Something that a member counts, beside what it sends.
+#[derive(Clone, Copy)]
+pub enum Counted<'a> {
+    /// A connection began.
+    Begun,
+    /// A connection ended.
+    Ended,
+    /// A connection wasn't accepted.
+    NotAccepted,
+    /// A connection failed.
+    Failed(Failing),
+    /// A request was answered with a status, in three digits, after some time.
+    Answered(RequestLabel, &'a [u8], Duration),
+    /// Steps were made.
+    Steps(StepLabel, u64),
+    /// A decision was answered.
+    Decided(DecisionLabel),
+    /// Frames of the peer at a place came.
+    Frames(Place, &'a [Frame]),
+    /// Something that came from a place was taken, when the clock said this, as the time since 1970.
+    Heard(usize, Duration),
+    /// An exchange with the Alertmanager at a place was over, which lacked this many versions.
+    Lacked(usize, u64),
+    /// A silence isn't sent to the Alertmanager at a place.
+    Withheld(usize, WithheldBy),
+}
+
 /// Counts the frames of a peer.
-pub fn count_frames(figures: &mut Metrics, place: Place, frames: &[Frame]) {
+fn count_frames(figures: &mut Metrics, place: Place, frames: &[Frame])
+    ensures memory { figures.new.unsent_memory ≡ figures.old.unsent_memory }
+    ensures limit { figures.new.unsent_limit ≡ figures.old.unsent_limit }
+{
     figures.heard.take(place as usize, frames.len() as u64);
     for frame in frames {
         figures.take(kind_of_frame(frame));
         if let Some(step) = step_of_frame(frame) {
             figures.step(step, 1);
         }
+    }
+}
+
+/// Counts something.
+pub(crate) fn count(figures: &mut Metrics, counted: Counted<'_>)
+    ensures memory { figures.new.unsent_memory ≡ figures.old.unsent_memory }
+    ensures limit { figures.new.unsent_limit ≡ figures.old.unsent_limit }
+{
+    match counted {
+        Counted::Begun => figures.begin(),
+        Counted::Ended => figures.end(),
+        Counted::NotAccepted => figures.miss(),
+        Counted::Failed(failing) => figures.fail(failing),
+        Counted::Answered(request, status, time) => figures.answer(request, status, time),
+        Counted::Steps(step, count) => figures.step(step, count),
+        Counted::Decided(decision) => figures.decide(decision),
+        Counted::Frames(place, frames) => count_frames(figures, place, frames),
+        Counted::Heard(place, since_1970) => figures.heard.hear(place, since_1970),
+        Counted::Lacked(place, count) => figures.beside.lack(place, count),
+        Counted::Withheld(place, cause) => figures.beside.withhold(place, cause),
     }
 }
 

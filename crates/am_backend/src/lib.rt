@@ -16,7 +16,7 @@ mod system_backend;
 
 pub use backend::{Backend, Incoming};
 pub use commit_state::{CommitState, DISK};
-pub use counting::{cause_of, count_frames};
+pub use counting::Counted;
 pub use host::Host;
 pub use loading::{config_of, secret_of};
 pub use room::Room;

@@ -3,3 +3,4 @@ pub mod Calling
 pub mod Comings
 pub mod Offers
 pub mod Resuming
+pub mod Sending

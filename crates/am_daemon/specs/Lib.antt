@@ -1,3 +1,4 @@
 pub mod Calling
 pub mod Members
 pub mod Offers
+pub mod Sending

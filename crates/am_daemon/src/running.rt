@@ -8,6 +8,7 @@ ghost use Rattle.am_http.specs.Sessions.{name_of, over as ended_under};
 ghost use Rattle.am_server.specs.Talking.{Does, fresh_talk};
 ghost use Rattle.am_daemon.specs.Members.{IsSameMember};
 ghost use Rattle.am_daemon.specs.Offers.{IsGiven, IsOffered, for_peers};
+ghost use Rattle.am_daemon.specs.Sending.{PassesOn, outlets};
 
 use crate::member::server::Server;
 use am_backend::Backend;
@@ -60,7 +61,8 @@ impl<U: Backend> Service for Member<'_, U> {
 
     ghost acts = { λ member member'. (member'.lock ≡ member.lock) × ByItself member.instance member'.instance };
 
-    ghost does = { λ member connection deed member' connection'. (member'.lock ≡ member.lock)
+    ghost does = { λ member connection deed member' connection'. ((member'.lock ≡ member.lock)
+        × PassesOn member.instance (outlets U.store_of U.outbound member.server.state.backend) member'.instance (outlets U.store_of U.outbound member'.server.state.backend))
         × Does member.lock deed member.instance (talk_of connection) member'.instance (talk_of connection') };
 
     fn begin(&mut self, entrance: Entrance) -> ConnectionState {

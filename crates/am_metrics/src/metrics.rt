@@ -1,5 +1,7 @@
 //! The counts of a member.
 
+ghost use Rattle.std.specs.Prelude.{◌≡◌};
+
 use crate::beside::Beside;
 use crate::counters::Counters;
 use crate::peers::Heard;
@@ -102,7 +104,10 @@ impl Metrics {
     }
 
     /// Counts a request that was answered with a status, in three digits, and the time that it took.
-    pub fn answer(&mut self, request: RequestLabel, status: &[u8], time: Duration) {
+    pub fn answer(&mut self, request: RequestLabel, status: &[u8], time: Duration)
+        ensures memory { self.new.unsent_memory ≡ self.old.unsent_memory }
+        ensures limit { self.new.unsent_limit ≡ self.old.unsent_limit }
+    {
         self.requests
             .add(counter_of(request, status_place(status)), 1);
         self.times.add(request, time);
@@ -114,12 +119,18 @@ impl Metrics {
     }
 
     /// Counts steps.
-    pub fn step(&mut self, step: StepLabel, count: u64) {
+    pub fn step(&mut self, step: StepLabel, count: u64)
+        ensures memory { self.new.unsent_memory ≡ self.old.unsent_memory }
+        ensures limit { self.new.unsent_limit ≡ self.old.unsent_limit }
+    {
         self.steps.add(step.place(), count);
     }
 
     /// Counts a decision that was answered.
-    pub fn decide(&mut self, decision: DecisionLabel) {
+    pub fn decide(&mut self, decision: DecisionLabel)
+        ensures memory { self.new.unsent_memory ≡ self.old.unsent_memory }
+        ensures limit { self.new.unsent_limit ≡ self.old.unsent_limit }
+    {
         self.decisions.add(decision.place(), 1);
     }
 
@@ -129,27 +140,42 @@ impl Metrics {
     }
 
     /// Counts a frame that came.
-    pub fn take(&mut self, kind: VersionKind) {
+    pub fn take(&mut self, kind: VersionKind)
+        ensures memory { self.new.unsent_memory ≡ self.old.unsent_memory }
+        ensures limit { self.new.unsent_limit ≡ self.old.unsent_limit }
+    {
         self.taken.add(kind.place(), 1);
     }
 
     /// Counts a connection closed before its end.
-    pub fn fail(&mut self, failing: Failing) {
+    pub fn fail(&mut self, failing: Failing)
+        ensures memory { self.new.unsent_memory ≡ self.old.unsent_memory }
+        ensures limit { self.new.unsent_limit ≡ self.old.unsent_limit }
+    {
         self.failings.add(failing.place(), 1);
     }
 
     /// Counts a connection that began.
-    pub fn begin(&mut self) {
+    pub fn begin(&mut self)
+        ensures memory { self.new.unsent_memory ≡ self.old.unsent_memory }
+        ensures limit { self.new.unsent_limit ≡ self.old.unsent_limit }
+    {
         self.begun = self.begun.saturating_add(1);
     }
 
     /// Counts a connection that ended.
-    pub fn end(&mut self) {
+    pub fn end(&mut self)
+        ensures memory { self.new.unsent_memory ≡ self.old.unsent_memory }
+        ensures limit { self.new.unsent_limit ≡ self.old.unsent_limit }
+    {
         self.ended = self.ended.saturating_add(1);
     }
 
     /// Counts a connection that wasn't accepted.
-    pub fn miss(&mut self) {
+    pub fn miss(&mut self)
+        ensures memory { self.new.unsent_memory ≡ self.old.unsent_memory }
+        ensures limit { self.new.unsent_limit ≡ self.old.unsent_limit }
+    {
         self.not_accepted = self.not_accepted.saturating_add(1);
     }
 

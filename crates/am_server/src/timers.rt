@@ -135,9 +135,9 @@ impl Timers {
         }
     }
 
-    /// Notes that a peer asks for a Tick.
-    pub fn owe_tick(&mut self) {
-        self.owes_tick = true;
+    /// Notes that a peer asks for a Tick, if it does.
+    pub fn owe_tick(&mut self, asks: bool) {
+        self.owes_tick |= asks;
     }
 
     /// Returns whether a Tick is due, by its timer or because a peer asked for one.

@@ -6,6 +6,7 @@ ghost use Rattle.am_http.specs.Lines.{line_seen};
 ghost use Rattle.am_http.specs.Sessions.{spoken};
 ghost use Rattle.am_server.specs.Answered.{IsAnswered};
 ghost use Rattle.am_server.specs.Talks.{IsClosed, IsOwnLine, IsRequest, talk_of};
+ghost use Rattle.am_daemon.specs.Sending.{PassesOn, outlets};
 
 use super::server_state::ServerState;
 use am_api_silences::{Read, Refusal};
@@ -45,7 +46,8 @@ impl<U: Backend> ServerState<'_, U> {
         connection: &mut ConnectionState,
         said: SessionOutput,
     )
-        ensures { IsAnswered (spoken said) instance.old (talk_of connection.old) instance.new (talk_of connection.new) }
+        ensures answered { IsAnswered (spoken said) instance.old (talk_of connection.old) instance.new (talk_of connection.new) }
+        ensures sent { PassesOn instance.old (outlets U.store_of U.outbound self.old.backend) instance.new (outlets U.store_of U.outbound self.new.backend) }
     {
         if is_call(&said) {
             self.answer_call(instance, connection, said);
@@ -63,6 +65,7 @@ impl<U: Backend> ServerState<'_, U> {
     ) -> bool
         ensures refused { IsTrue result → IsClosed (talk_of connection.old) (talk_of connection.new) }
         ensures heard { ¬ IsTrue result → talk_of connection.new ≡ talk_of connection.old }
+        ensures stays { outlets U.store_of U.outbound self.new.backend ≡ outlets U.store_of U.outbound self.old.backend }
     {
         match post_bytes(said) {
             Some(bytes) if !self.backend.has_room_for_post(instance, bytes) => {
@@ -80,7 +83,8 @@ impl<U: Backend> ServerState<'_, U> {
         connection: &mut ConnectionState,
         said: SessionOutput,
     )
-        ensures { IsAnswered (spoken said) instance.old (talk_of connection.old) instance.new (talk_of connection.new) }
+        ensures answered { IsAnswered (spoken said) instance.old (talk_of connection.old) instance.new (talk_of connection.new) }
+        ensures sent { PassesOn instance.old (outlets U.store_of U.outbound self.old.backend) instance.new (outlets U.store_of U.outbound self.new.backend) }
     {
         let alloc = self.alloc;
         match judging_of(alloc, instance, &said) {
@@ -102,6 +106,7 @@ impl<U: Backend> ServerState<'_, U> {
     ) -> Result<bool, Refusal>
         ensures same { instance.new ≡ instance.old }
         ensures refused { IfErr result (λ refusal. IsOwnLine (line_seen refusal)) }
+        ensures stays { outlets U.store_of U.outbound self.new.backend ≡ outlets U.store_of U.outbound self.old.backend }
     {
         match compilation.resume() {
             Ok(Judged::More) => Ok(false),
@@ -124,6 +129,7 @@ impl<U: Backend> ServerState<'_, U> {
     ) -> Result<bool, Refusal>
         ensures same { instance.new ≡ instance.old }
         ensures refused { IfErr result (λ refusal. IsOwnLine (line_seen refusal)) }
+        ensures stays { outlets U.store_of U.outbound self.new.backend ≡ outlets U.store_of U.outbound self.old.backend }
     {
         let now = self.backend.next_moment(instance.last());
         match self.ahead.keep(instance, compilation, now) {
@@ -142,7 +148,8 @@ impl<U: Backend> ServerState<'_, U> {
         said: SessionOutput,
         compilation: PatternCompilation,
     )
-        ensures { IsRequest (spoken said) → IsAnswered (spoken said) instance.old (talk_of connection.old) instance.new (talk_of connection.new) }
+        ensures answered { IsRequest (spoken said) → IsAnswered (spoken said) instance.old (talk_of connection.old) instance.new (talk_of connection.new) }
+        ensures sent { PassesOn instance.old (outlets U.store_of U.outbound self.old.backend) instance.new (outlets U.store_of U.outbound self.new.backend) }
     {
         let mut compilation = compilation;
         match self.is_compiled(instance, &mut compilation) {
@@ -160,7 +167,8 @@ impl<U: Backend> ServerState<'_, U> {
         said: SessionOutput,
         compilation: PatternCompilation,
     )
-        ensures { IsAnswered (spoken said) instance.old (talk_of connection.old) instance.new (talk_of connection.new) }
+        ensures answered { IsAnswered (spoken said) instance.old (talk_of connection.old) instance.new (talk_of connection.new) }
+        ensures sent { PassesOn instance.old (outlets U.store_of U.outbound self.old.backend) instance.new (outlets U.store_of U.outbound self.new.backend) }
     {
         if self.refuses(instance, connection, &said) {
             return;

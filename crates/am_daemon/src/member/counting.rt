@@ -2,16 +2,16 @@
 
 ghost use Rattle.std.specs.Prelude.{◌≡◌};
 ghost use Rattle.am_server.specs.Talks.{talk_of};
+ghost use Rattle.am_daemon.specs.Sending.{outlets};
 
 use am_api_decisions::Why;
-use am_backend::{Backend, count_frames, place_of};
+use am_backend::{Backend, Counted, place_of};
 use am_dedup::Reason;
 use am_http::session::SessionOutput;
 use am_instance::Config;
-use am_metrics::{DecisionLabel, Failing, Metrics, RequestLabel, StepLabel};
+use am_metrics::{DecisionLabel, Failing, RequestLabel, StepLabel};
 use am_reactor::Failure;
 use am_server::{ConnectionState, RequestRecord, request_of};
-use std::time::Instant;
 
 /// Returns the kind that a connection's failure is counted as.
 fn failing_of(why: Failure) -> Failing {
@@ -57,62 +57,67 @@ pub fn count_said<U: Backend>(
     account: &mut RequestRecord,
     name: Option<&str>,
     said: &SessionOutput,
-) {
+)
+    ensures { outlets U.store_of U.outbound backend.new ≡ outlets U.store_of U.outbound backend.old }
+{
     if let Some(request) = request_of(said) {
         account.ask(request, backend.now());
     }
     if let Some(place) = place_of(config, name) {
-        count_frames(backend.figures(), place, &said.frames);
+        backend.count(Counted::Frames(place, &said.frames));
     }
 }
 
 /// Counts a connection that failed.
-pub fn count_broken(figures: &mut Metrics, account: &mut RequestRecord, why: Failure) {
-    figures.fail(failing_of(why));
+pub fn count_broken<U: Backend>(backend: &mut U, account: &mut RequestRecord, why: Failure)
+    ensures { outlets U.store_of U.outbound backend.new ≡ outlets U.store_of U.outbound backend.old }
+{
+    backend.count(Counted::Failed(failing_of(why)));
     if account.close() {
-        figures.end();
+        backend.count(Counted::Ended);
     }
 }
 
 /// Counts a connection if it is done, and what it was answered.
 pub fn count_where_done<U: Backend>(backend: &mut U, connection: &mut ConnectionState)
-    ensures { talk_of connection.new ≡ talk_of connection.old }
+    ensures talk { talk_of connection.new ≡ talk_of connection.old }
+    ensures stays { outlets U.store_of U.outbound backend.new ≡ outlets U.store_of U.outbound backend.old }
 {
     if connection.is_done() && connection.account.close() {
-        let now = backend.now();
-        count_end(
-            backend.figures(),
-            &connection.account,
-            connection.status(),
-            now,
-        );
+        count_end(backend, &connection.account, connection.status());
     }
 }
 
 /// Counts the end of a connection now, and what it was answered.
-fn count_end(figures: &mut Metrics, account: &RequestRecord, status: &[u8], now: Option<Instant>) {
-    figures.end();
-    let Some((request, time)) = account.answered(now) else {
+fn count_end<U: Backend>(backend: &mut U, account: &RequestRecord, status: &[u8])
+    ensures { outlets U.store_of U.outbound backend.new ≡ outlets U.store_of U.outbound backend.old }
+{
+    backend.count(Counted::Ended);
+    let Some((request, time)) = account.answered(backend.now()) else {
         return;
     };
-    figures.answer(request, status, time);
+    backend.count(Counted::Answered(request, status, time));
     if let Some(step) = step_of(request)
         && status == b"200".as_slice()
     {
-        figures.step(step, 1);
+        backend.count(Counted::Steps(step, 1));
     }
 }
 
 /// Counts the step by which something was decided. Where all alerts are muted, there is none.
-pub fn count_decided(figures: &mut Metrics, why: Option<Why>) {
+pub fn count_decided<U: Backend>(backend: &mut U, why: Option<Why>)
+    ensures { outlets U.store_of U.outbound backend.new ≡ outlets U.store_of U.outbound backend.old }
+{
     if matches!(why, Some(Why::Notify(_) | Why::Unjudged | Why::Skip)) {
-        figures.step(StepLabel::Decide, 1);
+        backend.count(Counted::Steps(StepLabel::Decide, 1));
     }
 }
 
 /// Counts the decision that is answered, if something is decided.
-pub fn count_decision(figures: &mut Metrics, why: Option<Why>) {
+pub fn count_decision<U: Backend>(backend: &mut U, why: Option<Why>)
+    ensures { outlets U.store_of U.outbound backend.new ≡ outlets U.store_of U.outbound backend.old }
+{
     if let Some(why) = why {
-        figures.decide(label_of(why));
+        backend.count(Counted::Decided(label_of(why)));
     }
 }

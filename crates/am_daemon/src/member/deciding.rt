@@ -16,9 +16,8 @@ ghost use Rattle.am_server.specs.Talks.{Closes, IsGiven, KeepsGone, Rests, Waits
 ghost use Rattle.am_server.specs.Talks.Saying.{Silent};
 ghost use Rattle.am_server.specs.Waiting.{request_of};
 ghost use Rattle.am_daemon.specs.Calling.{Follows, GivesOrWaits, IsCalled, IsPutOff, IsTurnedAwayFor};
-ghost use Rattle.am_backend.specs.CommitStates.{came, disk_of, uncommitted};
-ghost use Rattle.am_backend.specs.Outbound.{IsQueued};
-ghost use Rattle.am_backend.specs.Stores.{IsFollowed};
+ghost use Rattle.am_daemon.specs.Sending.{IsQuiet, PassesOn, outlets};
+ghost use Rattle.am_backend.specs.CommitStates.{came, uncommitted};
 
 use super::counting::{count_decided, count_decision};
 use super::server_state::ServerState;
@@ -27,9 +26,9 @@ use am_api_decisions::{
     Asked, Deciding, Notice, Question, Timing, Verdict, asked_of, begin_log, log_notice,
 };
 use am_api_silences::{PendingAnswer, Read, Refusal, ReplyBuilder, Request};
-use am_backend::{Backend, Incoming};
+use am_backend::{Backend, Counted, Incoming};
 use am_http::session::SessionOutput;
-use am_instance::{FrameSender, Instance};
+use am_instance::Instance;
 use am_member::PatternsAhead;
 use am_metrics::StepLabel;
 use am_options::seconds_in;
@@ -246,6 +245,7 @@ impl<U: Backend> ServerState<'_, U> {
         // PROMISE: A program that sends pages is replied what it asks for: the decision of its question, what came of its notice, or the log's list.
         ensures given { (request : Request) → (spoken said).request ≡ Some (Read.Whole request) → (talk_of connection.old).saying ≡ Silent →
             IsGiven request instance.old instance.new (talk_of connection.new).saying }
+        ensures sent { PassesOn instance.old (outlets U.store_of U.outbound self.old.backend) instance.new (outlets U.store_of U.outbound self.new.backend) }
     {
         connection.session.stop();
         let SessionOutput { request, .. } = said;
@@ -277,6 +277,7 @@ impl<U: Backend> ServerState<'_, U> {
     fn take_up(&mut self, instance: &mut Instance, request: Request) -> Called
         ensures steps { ForPages instance.old instance.new }
         ensures called { IsCalled request instance.old result instance.new }
+        ensures sent { PassesOn instance.old (outlets U.store_of U.outbound self.old.backend) instance.new (outlets U.store_of U.outbound self.new.backend) }
     {
         let due = Due {
             request,
@@ -296,6 +297,7 @@ impl<U: Backend> ServerState<'_, U> {
     fn answer_in_line(&mut self, instance: &mut Instance, due: Due) -> Called
         ensures steps { ForPages instance.old instance.new }
         ensures called { IsCalled due.request instance.old result instance.new }
+        ensures sent { PassesOn instance.old (outlets U.store_of U.outbound self.old.backend) instance.new (outlets U.store_of U.outbound self.new.backend) }
     {
         if is_long(&due.request) {
             Called::Later(CallProgress::Due(due))
@@ -308,6 +310,7 @@ impl<U: Backend> ServerState<'_, U> {
     pub(super) fn answer_due(&mut self, instance: &mut Instance, due: Due) -> Called
         ensures steps { ForPages instance.old instance.new }
         ensures called { IsCalled due.request instance.old result instance.new }
+        ensures sent { PassesOn instance.old (outlets U.store_of U.outbound self.old.backend) instance.new (outlets U.store_of U.outbound self.new.backend) }
     {
         if due.stage == TurnStage::Unread {
             self.answer_unread(instance, due.request, due.limit)
@@ -325,6 +328,7 @@ impl<U: Backend> ServerState<'_, U> {
     ) -> Called
         ensures steps { ForPages instance.old instance.new }
         ensures called { IsCalled request instance.old result instance.new }
+        ensures sent { PassesOn instance.old (outlets U.store_of U.outbound self.old.backend) instance.new (outlets U.store_of U.outbound self.new.backend) }
     {
         match asked_of(self.alloc, &request) {
             Ok(Asked::Decide(question)) => match turn_of(&self.backend, instance, &question) {
@@ -340,7 +344,7 @@ impl<U: Backend> ServerState<'_, U> {
                 request_bytes(&request),
             ),
             Ok(Asked::Log) => self.list_log(instance),
-            Ok(Asked::Alerts) => self.list_recent(instance),
+            Ok(Asked::Alerts) => self.list_recent(),
             Err(refusal) => Called::Refused(refusal),
         }
     }
@@ -360,6 +364,7 @@ impl<U: Backend> ServerState<'_, U> {
     fn take_turn(&mut self, instance: &mut Instance, turn: Turn) -> Called
         ensures steps { ForPages instance.old instance.new }
         ensures called { IsCalled (request_of turn) instance.old result instance.new }
+        ensures sent { PassesOn instance.old (outlets U.store_of U.outbound self.old.backend) instance.new (outlets U.store_of U.outbound self.new.backend) }
     {
         self.turns.end();
         if self.stops {
@@ -373,6 +378,7 @@ impl<U: Backend> ServerState<'_, U> {
     pub(super) fn take_moment(&mut self, instance: &mut Instance, call: CallProgress) -> Called
         ensures steps { ForPages instance.old instance.new }
         ensures called { (request : Request) → IsProgressOf request call → IsCalled request instance.old result instance.new }
+        ensures sent { PassesOn instance.old (outlets U.store_of U.outbound self.old.backend) instance.new (outlets U.store_of U.outbound self.new.backend) }
     {
         match call {
             CallProgress::Turn(turn) => self.take_turn(instance, turn),
@@ -387,6 +393,7 @@ impl<U: Backend> ServerState<'_, U> {
     fn answer_in_turn(&mut self, instance: &mut Instance, due: Due) -> Called
         ensures steps { ForPages instance.old instance.new }
         ensures called { IsCalled due.request instance.old result instance.new }
+        ensures sent { PassesOn instance.old (outlets U.store_of U.outbound self.old.backend) instance.new (outlets U.store_of U.outbound self.new.backend) }
     {
         let Due {
             request,
@@ -418,9 +425,10 @@ impl<U: Backend> ServerState<'_, U> {
     ) -> Called
         ensures steps { ForPages instance.old instance.new }
         ensures called { (request : Request) → IsAsked request (Ok (Asked.Decide question)) → IsOnly request unheard → IsCalled request instance.old result instance.new }
+        ensures quiet { IsQuiet instance.old (outlets U.store_of U.outbound self.old.backend) instance.new (outlets U.store_of U.outbound self.new.backend) }
     {
         let alerts = question.message.alerts.len() as u64;
-        self.backend.figures().step(StepLabel::Mutes, alerts);
+        self.backend.count(Counted::Steps(StepLabel::Mutes, alerts));
         // (if there is no memory for it, its alerts aren't among the recent ones that are listed)
         let _ = self.recent.note(self.alloc, &question.message);
         let deciding = Deciding::new(self.alloc, question);
@@ -441,6 +449,7 @@ impl<U: Backend> ServerState<'_, U> {
     ) -> Called
         ensures steps { ForPages instance.old instance.new }
         ensures called { (request : Request) → IsProgressOf request (CallProgress.Deciding deliberation) → IsCalled request instance.old result instance.new }
+        ensures quiet { IsQuiet instance.old (outlets U.store_of U.outbound self.old.backend) instance.new (outlets U.store_of U.outbound self.new.backend) }
     {
         let PendingDecision {
             deciding,
@@ -475,6 +484,7 @@ impl<U: Backend> ServerState<'_, U> {
         ensures called { (request : Request) (question : Question) (start : InstanceState) → HoldsSame start instance.old →
             IsAsked request (Ok (Asked.Decide question)) → IsUnderway question reached.deciding → IsOnly request unheard →
             IsCalled request start result instance.new }
+        ensures quiet { IsQuiet instance.old (outlets U.store_of U.outbound self.old.backend) instance.new (outlets U.store_of U.outbound self.new.backend) }
     {
         let Reached {
             deciding,
@@ -505,12 +515,13 @@ impl<U: Backend> ServerState<'_, U> {
         ensures called { (request : Request) (question : Question) (start : InstanceState) → HoldsSame start instance.old →
             IsAsked request (Ok (Asked.Decide question)) → IsUnderway question deciding → IsOnly request unheard →
             IsCalled request start result instance.new }
+        ensures quiet { IsQuiet instance.old (outlets U.store_of U.outbound self.old.backend) instance.new (outlets U.store_of U.outbound self.new.backend) }
     {
         let now = self.backend.next_moment(instance.last());
         let turn_seconds = seconds_in(self.backend.options().peer_timeout);
         let verdict = deciding.break_off(self.alloc, instance, Timing { now, turn_seconds });
-        count_decided(self.backend.figures(), verdict.why);
-        self.answer_or_hear(instance, verdict, unheard)
+        count_decided(&mut self.backend, verdict.why);
+        self.answer_or_hear(verdict, unheard)
     }
 
     /// Decides after all alerts have been held against the silences. If Alertmanagers are still to be heard, the answer that
@@ -526,30 +537,29 @@ impl<U: Backend> ServerState<'_, U> {
         ensures called { (request : Request) (question : Question) (start : InstanceState) → HoldsSame start instance.old →
             IsAsked request (Ok (Asked.Decide question)) → IsUnderway question deciding → IsOnly request unheard →
             IsCalled request start result instance.new }
+        ensures quiet { IsQuiet instance.old (outlets U.store_of U.outbound self.old.backend) instance.new (outlets U.store_of U.outbound self.new.backend) }
     {
         let turn_seconds = seconds_in(self.backend.options().peer_timeout);
         let verdict = deciding.decide(self.alloc, instance, Timing { now, turn_seconds });
-        count_decided(self.backend.figures(), verdict.why);
-        self.answer_or_hear(instance, verdict, unheard)
+        count_decided(&mut self.backend, verdict.why);
+        self.answer_or_hear(verdict, unheard)
     }
 
     /// Answers with a decision, or keeps its request waiting for exchanges with the Alertmanagers, which begin now.
-    fn answer_or_hear(
-        &mut self,
-        instance: &Instance,
-        verdict: Verdict,
-        unheard: Option<Request>,
-    ) -> Called
-        ensures { GivesOrWaits verdict.reply unheard result }
+    fn answer_or_hear(&mut self, verdict: Verdict, unheard: Option<Request>) -> Called
+        ensures gives { GivesOrWaits verdict.reply unheard result }
+        ensures stays { outlets U.store_of U.outbound self.new.backend ≡ outlets U.store_of U.outbound self.old.backend }
     {
         let is_notified = verdict.is_notified();
         let Verdict { reply, why } = verdict;
         match (unheard, self.span()) {
             (Some(request), Some(span)) if is_notified => { self.wait_for_exchanges(request, span) }
             _ => {
-                count_decision(self.backend.figures(), why);
-                let outbox = FrameSender::new(self.alloc);
-                self.made(instance, ReplyBuilder::Whole(reply), outbox)
+                count_decision(&mut self.backend, why);
+                Called::Made(
+                    ReplyBuilder::Whole(reply),
+                    self.backend.commit_state().changes(),
+                )
             }
         }
     }
@@ -563,7 +573,8 @@ impl<U: Backend> ServerState<'_, U> {
 
     /// Keeps a request waiting for exchanges with the Alertmanagers that begin in a new round.
     fn wait_for_exchanges(&mut self, request: Request, span: Span) -> Called
-        ensures { IsPutOff request result }
+        ensures put_off { IsPutOff request result }
+        ensures stays { outlets U.store_of U.outbound self.new.backend ≡ outlets U.store_of U.outbound self.old.backend }
     {
         let Span { since, limit } = span;
         self.round = self.round.saturating_add(1);
@@ -575,6 +586,7 @@ impl<U: Backend> ServerState<'_, U> {
     fn log_in_room(&mut self, instance: &mut Instance, notice: Notice, bytes: u64) -> Called
         ensures steps { ForPages instance.old instance.new }
         ensures called { (request : Request) → IsAsked request (Ok (Asked.Notified notice)) → IsCalled request instance.old result instance.new }
+        ensures sent { PassesOn instance.old (outlets U.store_of U.outbound self.old.backend) instance.new (outlets U.store_of U.outbound self.new.backend) }
     {
         if !self.backend.has_room_for_notice(instance, bytes) {
             return Called::Refused(Refusal::new(500, "state too large"));
@@ -591,10 +603,14 @@ impl<U: Backend> ServerState<'_, U> {
     fn log(&mut self, instance: &mut Instance, notice: Notice) -> Called
         ensures steps { ForPages instance.old instance.new }
         ensures called { (request : Request) → IsAsked request (Ok (Asked.Notified notice)) → IsCalled request instance.old result instance.new }
+        // PROMISE: What the step of a notice sends to peers waits behind what waited before, in order, or memory ran out, and just those frames are counted as not sent.
+        ensures sent { PassesOn instance.old (outlets U.store_of U.outbound self.old.backend) instance.new (outlets U.store_of U.outbound self.new.backend) }
     {
         let now = self.backend.next_moment(instance.last());
         let PendingAnswer { making, outbox } = log_notice(self.alloc, instance, notice, now);
-        self.made(instance, making, outbox)
+        let changes = self.backend.commit_state().changes();
+        self.backend.follow(instance.config(), None, outbox, None);
+        Called::Made(making, changes)
     }
 
     /// Begins to write the log's live entries.
@@ -609,23 +625,13 @@ impl<U: Backend> ServerState<'_, U> {
     }
 
     /// Lists the alerts of the most recent messages.
-    fn list_recent(&mut self, instance: &Instance) -> Called
-        ensures { (request : Request) → IsAsked request (Ok Asked.Alerts) → IsCalled request instance.now result instance.now }
+    fn list_recent(&self) -> Called
+        ensures { (request : Request) (stand : InstanceState) → IsAsked request (Ok Asked.Alerts) → IsCalled request stand result stand }
     {
         let reply = self.recent.told(self.alloc);
-        let outbox = FrameSender::new(self.alloc);
-        self.made(instance, ReplyBuilder::Whole(reply), outbox)
-    }
-
-    /// Returns the reply that a step has made, and sends the frames of its outbox.
-    fn made(&mut self, instance: &Instance, making: ReplyBuilder, outbox: FrameSender) -> Called
-        ensures made { result ≡ Called.Made making (came (U.store_of self.old.backend).commit_state) }
-        ensures follows { IsFollowed outbox (U.store_of self.old.backend) (U.store_of self.new.backend) }
-        // PROMISE: What the step of a call sends to peers waits behind what waited before, in order.
-        ensures queued { IsQueued (disk_of (U.store_of self.old.backend).commit_state) outbox (U.outbound self.old.backend) (U.outbound self.new.backend) }
-    {
-        let changes = self.backend.commit_state().changes();
-        self.backend.follow(instance.config(), None, outbox, None);
-        Called::Made(making, changes)
+        Called::Made(
+            ReplyBuilder::Whole(reply),
+            self.backend.commit_state().changes(),
+        )
     }
 }

@@ -11,12 +11,13 @@ ghost use Rattle.am_instance.specs.declared.event.Event.TheVariants as events;
 ghost use Rattle.am_instance.specs.declared.reply.Outcome.{Outcome};
 ghost use Rattle.am_server.specs.Answered.{ByItself, IsStepOfFrame};
 ghost use Rattle.am_daemon.specs.Offers.{GivesFrames, IsAtRest, IsOffered, Passes, for_peers};
+ghost use Rattle.am_daemon.specs.Sending.{outlets};
 
 use super::links::address_of;
 use super::server::Server;
 use super::server_state::ServerState;
 use am_alertmanager::{Came, Report};
-use am_backend::{Backend, Incoming};
+use am_backend::{Backend, Counted, Incoming};
 use am_diagnostics::{Fault, ShortId};
 use am_gossip::{Frame, StateKey};
 use am_instance::{Config, Event, Instance, Place};
@@ -92,9 +93,8 @@ impl<U: Backend> ServerState<'_, U> {
     /// Counts an exchange with the replica at a place, which told everything, and lacked this many versions.
     fn note_exchange(&mut self, place: usize, lacked: u64) {
         let since_1970 = self.backend.since_1970();
-        let figures = self.backend.figures();
-        figures.heard.hear(place, since_1970);
-        figures.beside.lack(place, lacked);
+        self.backend.count(Counted::Heard(place, since_1970));
+        self.backend.count(Counted::Lacked(place, lacked));
     }
 
     /// Counts a silence that isn't sent to a replica, and reports it if that wasn't done before.
@@ -104,7 +104,7 @@ impl<U: Backend> ServerState<'_, U> {
             Hazard::Pattern => (WithheldBy::Pattern, Fault::WithheldPattern(id)),
             Hazard::Matcher => (WithheldBy::Matcher, Fault::WithheldMatcher(id)),
         };
-        self.backend.figures().beside.withhold(report.place, cause);
+        self.backend.count(Counted::Withheld(report.place, cause));
         if report.is_first {
             self.backend
                 .tell_of(config, Some(report.place as Place), fault);
@@ -171,7 +171,9 @@ impl<U: Backend> Server<'_, U> {
     }
 
     /// Reports which replicas weren't heard after a request that no longer waits began to wait for them, each once a minute.
-    pub(super) fn tell_missed(&mut self, config: &Config, connection: &ConnectionState) {
+    pub(super) fn tell_missed(&mut self, config: &Config, connection: &ConnectionState)
+        ensures { outlets U.store_of U.outbound self.new.state.backend ≡ outlets U.store_of U.outbound self.old.state.backend }
+    {
         let Some(turn) = connection.turn() else {
             return;
         };

@@ -3,6 +3,7 @@
 ghost use Rattle.am_http.specs.Sessions.{spoken};
 ghost use Rattle.am_server.specs.Answered.{IsAnswered};
 ghost use Rattle.am_server.specs.Talks.{talk_of};
+ghost use Rattle.am_daemon.specs.Sending.{PassesOn, outlets};
 
 use super::counting::count_where_done;
 use super::server_state::ServerState;
@@ -71,7 +72,8 @@ impl<U: Backend> ServerState<'_, U> {
         connection: &mut ConnectionState,
         heard: Heard,
     )
-        ensures { IsAnswered (spoken heard.said) instance.old (talk_of connection.old) instance.new (talk_of connection.new) }
+        ensures answered { IsAnswered (spoken heard.said) instance.old (talk_of connection.old) instance.new (talk_of connection.new) }
+        ensures sent { PassesOn instance.old (outlets U.store_of U.outbound self.old.backend) instance.new (outlets U.store_of U.outbound self.new.backend) }
     {
         let Heard { said, fault } = heard;
         self.hear(instance, connection, said);

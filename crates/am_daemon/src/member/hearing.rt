@@ -6,21 +6,21 @@ ghost use Rattle.am_http.specs.Sessions.{name_of, spoken};
 ghost use Rattle.am_server.specs.Answered.{IsAnswered, IsTaken, SaysBy};
 ghost use Rattle.am_server.specs.Talks.{Closes, IsClosed, IsOwnLine, KeepsBy, Stays, WaitsAs, talk_of};
 ghost use Rattle.am_member.specs.Exchanging.{IsSessionAnswer, left_at};
-ghost use Rattle.am_backend.specs.CommitStates.{came, disk_of, uncommitted};
-ghost use Rattle.am_backend.specs.Outbound.{IsQueued};
+ghost use Rattle.am_backend.specs.CommitStates.{came, uncommitted};
 ghost use Rattle.am_backend.specs.Stores.{SendsNews};
+ghost use Rattle.am_daemon.specs.Sending.{IsPassedOn, PassesOn, outlets};
 
 use super::counting::count_said;
 use super::links::plan_transfer;
 use super::server_state::{ServerState, random_bits};
 use am_api_silences::ReplyBuilder;
-use am_backend::{Backend, Incoming, place_of};
+use am_backend::{Backend, Counted, Incoming, place_of};
 use am_diagnostics::Fault;
 use am_gossip::{Frame, StateKey};
 use am_http::Refusal;
 use am_http::session::{Session, SessionOutput};
-use am_instance::{Config, Instance};
-use am_member::{Deferred, SessionAnswer, apply_session_output, defer_requests};
+use am_instance::{Config, Instance, Place};
+use am_member::{Deferred, PatternsAhead, SessionAnswer, apply_session_output, defer_requests};
 use am_metrics::RequestLabel;
 use am_peers::ConnectionFault;
 use am_server::{
@@ -46,6 +46,36 @@ fn brings_silences(frame: &Frame) -> bool {
     frame_bytes(frame, StateKey::Sil) > 0
 }
 
+/// Notes that more patterns are to be compiled if frames bring silences.
+fn note_patterns(ahead: &mut PatternsAhead, frames: &[Frame]) {
+    if frames.iter().any(|frame| brings_silences(frame)) {
+        ahead.note();
+    }
+}
+
+/// Returns whether each peer has pushed all that it has, now that the one of this name did. `awaited` has those that haven't.
+fn has_all_with(awaited: &mut Vec<Place>, config: &Config, name: Option<&str>) -> bool {
+    let Some(name) = name else {
+        return false;
+    };
+    let place = config.place_named(name);
+    if let Some(at) = awaited.iter().position(|peer| Some(*peer) == place) {
+        awaited.swap_remove(at);
+    }
+    awaited.is_empty()
+}
+
+/// Returns whether a peer that was asked has sent all it has, or now each peer has.
+fn is_told_all(
+    awaited: &mut Vec<Place>,
+    config: &Config,
+    name: Option<&str>,
+    asked: Asked,
+) -> bool {
+    let all = asked.asks && has_all_with(awaited, config, name);
+    asked.pulled || all
+}
+
 impl<U: Backend> ServerState<'_, U> {
     /// Answers what was said, or keeps it until it may be answered.
     pub(super) fn hear(
@@ -54,7 +84,8 @@ impl<U: Backend> ServerState<'_, U> {
         connection: &mut ConnectionState,
         said: SessionOutput,
     )
-        ensures { IsAnswered (spoken said) instance.old (talk_of connection.old) instance.new (talk_of connection.new) }
+        ensures answered { IsAnswered (spoken said) instance.old (talk_of connection.old) instance.new (talk_of connection.new) }
+        ensures sent { PassesOn instance.old (outlets U.store_of U.outbound self.old.backend) instance.new (outlets U.store_of U.outbound self.new.backend) }
     {
         let name = connection.session.name();
         let config = instance.config();
@@ -90,7 +121,8 @@ impl<U: Backend> ServerState<'_, U> {
         connection: &mut ConnectionState,
         said: SessionOutput,
     )
-        ensures { IsAnswered (spoken said) instance.old (talk_of connection.old) instance.new (talk_of connection.new) }
+        ensures answered { IsAnswered (spoken said) instance.old (talk_of connection.old) instance.new (talk_of connection.new) }
+        ensures sent { PassesOn instance.old (outlets U.store_of U.outbound self.old.backend) instance.new (outlets U.store_of U.outbound self.new.backend) }
     {
         if is_nothing(&said) && connection.session.name().is_none() {
             return;
@@ -106,6 +138,7 @@ impl<U: Backend> ServerState<'_, U> {
         ensures refused { IsTrue result → Closes (talk_of connection.old) (talk_of connection.new) }
         ensures saying { (talk_of connection.new).saying ≡ (talk_of connection.old).saying }
         ensures heard { ¬ IsTrue result → talk_of connection.new ≡ talk_of connection.old }
+        ensures stays { outlets U.store_of U.outbound self.new.backend ≡ outlets U.store_of U.outbound self.old.backend }
     {
         let is_inner = match connection.session.name() {
             Some(name) => self.is_inner(config, name),
@@ -126,7 +159,9 @@ impl<U: Backend> ServerState<'_, U> {
         connection: &mut ConnectionState,
         said: SessionOutput,
     )
-        ensures { IsTaken (spoken said) instance.old (talk_of connection.old) instance.new (talk_of connection.new) }
+        ensures taken { IsTaken (spoken said) instance.old (talk_of connection.old) instance.new (talk_of connection.new) }
+        // PROMISE: What the steps of what a connection says send to peers waits behind what waited before, in order, or memory ran out, and just those frames are counted as not sent.
+        ensures sent { PassesOn instance.old (outlets U.store_of U.outbound self.old.backend) instance.new (outlets U.store_of U.outbound self.new.backend) }
     {
         self.backend.take(Incoming {
             silences: silences_said(&said),
@@ -134,9 +169,7 @@ impl<U: Backend> ServerState<'_, U> {
             may_change: may_change(&said),
         });
         // (the patterns of a post are kept before its step)
-        if said.frames.iter().any(|frame| brings_silences(frame)) {
-            self.ahead.note();
-        }
+        note_patterns(&mut self.ahead, &said.frames);
         let pulled = ends_pull(&said);
         let has_frames = !said.frames.is_empty();
         let Deferred { said, asks, ticks } = defer_requests(said);
@@ -161,6 +194,7 @@ impl<U: Backend> ServerState<'_, U> {
     ) -> SessionAnswer
         ensures exchanged { (bits : ℕ) × (now : ℕ) × IsSessionAnswer (name_of session.old) bits now (spoken said) instance.old instance.new result }
         ensures session { session.new ≡ left_at result.fault session.old }
+        ensures stays { outlets U.store_of U.outbound self.new.backend ≡ outlets U.store_of U.outbound self.old.backend }
     {
         let bits = random_bits(&mut self.random);
         let now = self.backend.next_moment(instance.last());
@@ -173,8 +207,7 @@ impl<U: Backend> ServerState<'_, U> {
         ensures says { SaysBy exchanged.reply (talk_of connection.old).saying (talk_of connection.new).saying }
         // PROMISE: With logs, the reply of a step that sends a version to the place of the disk waits for the next commit, as one that has changed something.
         ensures waits { IsSome exchanged.reply → SendsNews exchanged.effects.outbox (U.store_of self.old.backend) → WaitsAs true connection.new.work }
-        // PROMISE: What the steps of a connection send to peers waits behind what waited before, in order.
-        ensures queued { IsQueued (disk_of (U.store_of self.old.backend).commit_state) exchanged.effects.outbox (U.outbound self.old.backend) (U.outbound self.new.backend) }
+        ensures passed { IsPassedOn exchanged.effects.outbox (outlets U.store_of U.outbound self.old.backend) (outlets U.store_of U.outbound self.new.backend) }
     {
         let SessionAnswer {
             reply,
@@ -215,45 +248,51 @@ impl<U: Backend> ServerState<'_, U> {
         name: Option<&str>,
         asked: Asked,
         fault: Option<ConnectionFault>,
-    ) {
-        if fault.is_none() {
-            self.end_first_pull_after(config, name, asked);
-        }
-        if fault.is_none() && asked.has_frames {
-            self.note_frames(config, name);
-        }
-        if fault != Some(ConnectionFault::UnknownName) {
-            self.schedule_transfer(config, name, asked);
+    )
+        ensures { outlets U.store_of U.outbound self.new.backend ≡ outlets U.store_of U.outbound self.old.backend }
+    {
+        match fault {
+            None => {
+                self.end_first_pull_after(config, name, asked);
+                self.note_frames(config, name, asked);
+                self.schedule_transfer(config, name, asked);
+            }
+            Some(ConnectionFault::UnknownName) => {}
+            Some(_) => self.schedule_transfer(config, name, asked),
         }
     }
 
-    /// Remembers that frames of a peer were taken now.
-    fn note_frames(&mut self, config: &Config, name: Option<&str>) {
+    /// Remembers that frames of a peer, if there were any, were taken now.
+    fn note_frames(&mut self, config: &Config, name: Option<&str>, asked: Asked)
+        ensures { outlets U.store_of U.outbound self.new.backend ≡ outlets U.store_of U.outbound self.old.backend }
+    {
+        if !asked.has_frames {
+            return;
+        }
         if let Some(place) = place_of(config, name) {
             let since_1970 = self.backend.since_1970();
             self.backend
-                .figures()
-                .heard
-                .hear(place as usize, since_1970);
+                .count(Counted::Heard(place as usize, since_1970));
         }
     }
 
     /// Ends the first pull, if it is going on, when a peer has sent all it has, or now that each peer has.
-    fn end_first_pull_after(&mut self, config: &Config, name: Option<&str>, asked: Asked) {
+    fn end_first_pull_after(&mut self, config: &Config, name: Option<&str>, asked: Asked)
+        ensures { outlets U.store_of U.outbound self.new.backend ≡ outlets U.store_of U.outbound self.old.backend }
+    {
         if !self.duties.waits_for_pull() {
             return;
         }
-        let all = asked.asks && self.has_all_with(config, name);
-        if asked.pulled || all {
+        if is_told_all(&mut self.awaited, config, name, asked) {
             self.end_first_pull();
         }
     }
 
     /// Remembers what the frames of a peer asked for: a Tick, and, except during the first pull, all that is held here.
-    fn schedule_transfer(&mut self, config: &Config, name: Option<&str>, asked: Asked) {
-        if asked.ticks {
-            self.duties.owe_tick();
-        }
+    fn schedule_transfer(&mut self, config: &Config, name: Option<&str>, asked: Asked)
+        ensures { outlets U.store_of U.outbound self.new.backend ≡ outlets U.store_of U.outbound self.old.backend }
+    {
+        self.duties.owe_tick(asked.ticks);
         if !asked.asks || self.duties.waits_for_pull() {
             return;
         }
@@ -261,21 +300,5 @@ impl<U: Backend> ServerState<'_, U> {
             return;
         };
         plan_transfer(&mut self.transfers, place as usize, TransferKind::Send);
-    }
-
-    /// Returns whether each peer has pushed all that it has, now that the one of this name did.
-    fn has_all_with(&mut self, config: &Config, name: Option<&str>) -> bool {
-        let Some(name) = name else {
-            return false;
-        };
-        let place = config.place_named(name);
-        if let Some(at) = self
-            .awaited
-            .iter()
-            .position(|awaited| Some(*awaited) == place)
-        {
-            self.awaited.swap_remove(at);
-        }
-        self.awaited.is_empty()
     }
 }

@@ -8,6 +8,7 @@ ghost use Rattle.am_server.specs.Talks.{IsGiven, IsGivenOn, KeepsGone, Lasts, Re
 ghost use Rattle.am_server.specs.Talks.Saying.{Silent};
 ghost use Rattle.am_http.specs.declared.request.Request.{Request};
 ghost use Rattle.am_server.specs.Talking.{IsTakenUp};
+ghost use Rattle.am_daemon.specs.Sending.{PassesOn, outlets};
 
 use super::server_state::ServerState;
 use super::telling::tell;
@@ -20,7 +21,8 @@ use std::mem;
 impl<U: Backend> ServerState<'_, U> {
     /// Continues what is still to be done for a connection. What waits for its turn goes on waiting.
     pub(super) fn resume(&mut self, instance: &mut Instance, connection: &mut ConnectionState)
-        ensures { IsTakenUp (talk_of connection.old).waiting instance.old (talk_of connection.old) instance.new (talk_of connection.new) }
+        ensures taken_up { IsTakenUp (talk_of connection.old).waiting instance.old (talk_of connection.old) instance.new (talk_of connection.new) }
+        ensures sent { PassesOn instance.old (outlets U.store_of U.outbound self.old.backend) instance.new (outlets U.store_of U.outbound self.new.backend) }
     {
         match mem::replace(&mut connection.work, ConnectionWork::Nothing) {
             ConnectionWork::Request(said) => self.answer_late(instance, connection, said),
@@ -48,6 +50,7 @@ impl<U: Backend> ServerState<'_, U> {
         ensures gone { KeepsGone (talk_of connection.old).saying (talk_of connection.new).saying }
         ensures given { (request : Request) → (talk_of connection.old).saying ≡ Silent → IsProgressOf request call →
             IsGiven request instance.old instance.new (talk_of connection.new).saying }
+        ensures sent { PassesOn instance.old (outlets U.store_of U.outbound self.old.backend) instance.new (outlets U.store_of U.outbound self.new.backend) }
     {
         match call {
             CallProgress::Turn(turn) => connection.put_off(CallProgress::Turn(turn)),
@@ -74,7 +77,8 @@ impl<U: Backend> ServerState<'_, U> {
         connection: &mut ConnectionState,
         said: SessionOutput,
     )
-        ensures { IsAnswered (spoken said) instance.old (talk_of connection.old) instance.new (talk_of connection.new) }
+        ensures answered { IsAnswered (spoken said) instance.old (talk_of connection.old) instance.new (talk_of connection.new) }
+        ensures sent { PassesOn instance.old (outlets U.store_of U.outbound self.old.backend) instance.new (outlets U.store_of U.outbound self.new.backend) }
     {
         if self.turns_away {
             connection.refuse_unready(self.alloc, Some(said));
@@ -92,6 +96,7 @@ impl<U: Backend> ServerState<'_, U> {
         ensures steps { ForPages instance.old instance.new }
         ensures lasts { Lasts (talk_of connection.old) (talk_of connection.new) }
         ensures given { IsGivenOn instance.old (talk_of connection.old).saying instance.new (talk_of connection.new).saying }
+        ensures sent { PassesOn instance.old (outlets U.store_of U.outbound self.old.backend) instance.new (outlets U.store_of U.outbound self.new.backend) }
     {
         match mem::replace(&mut connection.work, ConnectionWork::Nothing) {
             ConnectionWork::Call(call) => {

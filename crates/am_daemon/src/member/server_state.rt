@@ -1,9 +1,12 @@
 //! The part of a member that answers those who connect to it.
 
+ghost use Rattle.std.specs.Prelude.{◌≡◌};
+ghost use Rattle.am_daemon.specs.Sending.{outlets};
+
 use super::links::{address_of, hand_nothing, plan_transfer};
 use super::pending_frames::PendingFrames;
 use am_api_decisions::RecentAlerts;
-use am_backend::{Backend, DISK, cause_of, sooner};
+use am_backend::{Backend, DISK, sooner};
 use am_diagnostics::Fault;
 use am_instance::{Config, Instance, Place};
 use am_member::PatternsAhead;
@@ -111,7 +114,9 @@ impl<U: Backend> ServerState<'_, U> {
     }
 
     /// Ends the first pull, since all that the peers have is here.
-    pub(super) fn end_first_pull(&mut self) {
+    pub(super) fn end_first_pull(&mut self)
+        ensures { outlets U.store_of U.outbound self.new.backend ≡ outlets U.store_of U.outbound self.old.backend }
+    {
         if let Some(now) = self.backend.now() {
             self.duties.end_first_pull(now);
         }
@@ -121,11 +126,7 @@ impl<U: Backend> ServerState<'_, U> {
     pub(super) fn lose_link(&mut self, peer: usize, fault: LinkFault) -> Option<SocketAddr> {
         hand_nothing(&mut self.transfers, peer);
         let dropped = self.close_link(peer);
-        let heard = &mut self.backend.figures().heard;
-        if dropped > 0 {
-            heard.hand_on(peer, dropped as u64);
-        }
-        heard.lose(peer, cause_of(fault));
+        self.backend.drop_frames(peer, dropped, fault);
         address_of(&self.addresses, peer)
     }
 

@@ -9,13 +9,14 @@ ghost use Rattle.am_server.specs.Talks.{IsGivenOn, IsReleased, Lasts, talk_of};
 ghost use Rattle.am_backend.specs.CommitStates.{kept, uncommitted as uncommitted_in};
 ghost use Rattle.am_backend.specs.Stores.{IsKept};
 ghost use Rattle.am_daemon.specs.Offers.{IsAtRest, IsGiven, IsOffered, for_peers};
+ghost use Rattle.am_daemon.specs.Sending.{PassesOn, outlets};
 
 use super::counting::{count_broken, count_where_done};
 use super::guarding::accepted_at;
 use super::links::address_of;
 use super::server::Server;
 use super::server_state::random_challenge;
-use am_backend::{Backend, place_of, sooner};
+use am_backend::{Backend, Counted, place_of, sooner};
 use am_diagnostics::Fault;
 use am_instance::{Config, Instance, Place};
 use am_peer_auth::Lock;
@@ -47,7 +48,7 @@ impl<U: Backend> Server<'_, U> {
     pub fn begin(&mut self, entrance: Entrance) -> ConnectionState
         ensures { talk_of result ≡ fresh_talk }
     {
-        self.state.backend.figures().begin();
+        self.state.backend.count(Counted::Begun);
         let accepts = accepted_at(self.state.backend.options(), entrance);
         ConnectionState::new(self.state.alloc, accepts)
     }
@@ -60,8 +61,10 @@ impl<U: Backend> Server<'_, U> {
         lock: Option<Lock<'_>>,
         piece: &[u8],
     )
-        ensures { IsScreened instance.old (talk_of connection.old) instance.new (talk_of connection.new)
+        ensures heard { IsScreened instance.old (talk_of connection.old) instance.new (talk_of connection.new)
             ⊎ IsLetIn lock.entry piece.now instance.old (talk_of connection.old) instance.new (talk_of connection.new) }
+        // PROMISE: What the steps of what comes over a connection send to peers waits behind what waited before, in order, or memory ran out, and just those frames are counted as not sent.
+        ensures sent { PassesOn instance.old (outlets U.store_of U.outbound self.old.state.backend) instance.new (outlets U.store_of U.outbound self.new.state.backend) }
     {
         if let Some(refusal) = connection.screen(piece, self.state.hosts.as_slice()) {
             return self.state.refuse(connection, &refusal);
@@ -75,8 +78,9 @@ impl<U: Backend> Server<'_, U> {
 
     /// Answers what was said by the end of a connection's input.
     pub fn end(&mut self, instance: &mut Instance, connection: &mut ConnectionState)
-        ensures { (said : Spoken) × SaysEnd connection.old.session said × IsAnswered said instance.old
+        ensures heard { (said : Spoken) × SaysEnd connection.old.session said × IsAnswered said instance.old
             (record (talk_of connection.old) { session = ended_under (name_of connection.old.session) }) instance.new (talk_of connection.new) }
+        ensures sent { PassesOn instance.old (outlets U.store_of U.outbound self.old.state.backend) instance.new (outlets U.store_of U.outbound self.new.state.backend) }
     {
         let heard = connection.authenticator.end(&mut connection.session);
         self.state.hear_authenticated(instance, connection, heard);
@@ -84,16 +88,13 @@ impl<U: Backend> Server<'_, U> {
 
     /// Counts and reports a connection that was closed before its end.
     pub fn broken(&mut self, config: &Config, connection: &mut ConnectionState, broken: Broken)
-        ensures { talk_of connection.new ≡ talk_of connection.old }
+        ensures talk { talk_of connection.new ≡ talk_of connection.old }
+        ensures stays { outlets U.store_of U.outbound self.new.state.backend ≡ outlets U.store_of U.outbound self.old.state.backend }
     {
         if connection.turn().is_some() {
             self.state.turns.end();
         }
-        count_broken(
-            self.state.backend.figures(),
-            &mut connection.account,
-            broken.why,
-        );
+        count_broken(&mut self.state.backend, &mut connection.account, broken.why);
         if let Some(fault) = fault_of(broken, connection.session.is_over()) {
             let peer = place_of(config, connection.session.name());
             self.state.backend.tell_of(config, peer, fault);
@@ -107,7 +108,8 @@ impl<U: Backend> Server<'_, U> {
 
     /// Goes on with a connection that waits.
     pub fn resume(&mut self, instance: &mut Instance, connection: &mut ConnectionState)
-        ensures { IsTakenUp (talk_of connection.old).waiting instance.old (talk_of connection.old) instance.new (talk_of connection.new) }
+        ensures taken_up { IsTakenUp (talk_of connection.old).waiting instance.old (talk_of connection.old) instance.new (talk_of connection.new) }
+        ensures sent { PassesOn instance.old (outlets U.store_of U.outbound self.old.state.backend) instance.new (outlets U.store_of U.outbound self.new.state.backend) }
     {
         self.state.resume(instance, connection);
     }
@@ -153,13 +155,14 @@ impl<U: Backend> Server<'_, U> {
         ensures steps { ForPages instance.old instance.new }
         ensures lasts { Lasts (talk_of connection.old) (talk_of connection.new) }
         ensures given { IsGivenOn instance.old (talk_of connection.old).saying instance.new (talk_of connection.new).saying }
+        ensures sent { PassesOn instance.old (outlets U.store_of U.outbound self.old.state.backend) instance.new (outlets U.store_of U.outbound self.new.state.backend) }
     {
         self.tell_missed(instance.config(), connection);
         self.state.resume_in_turn(instance, connection);
     }
 
     /// Turns away a connection that waits, since the member stops.
-    pub fn abandon_wait(&mut self, connection: &mut ConnectionState)
+    pub fn abandon_wait(&self, connection: &mut ConnectionState)
         ensures { Lasts (talk_of connection.old) (talk_of connection.new) }
     {
         let said = connection.take_waiting();
@@ -168,7 +171,8 @@ impl<U: Backend> Server<'_, U> {
 
     /// Counts what is done of a connection.
     pub fn count_done(&mut self, connection: &mut ConnectionState)
-        ensures { talk_of connection.new ≡ talk_of connection.old }
+        ensures talk { talk_of connection.new ≡ talk_of connection.old }
+        ensures stays { outlets U.store_of U.outbound self.new.state.backend ≡ outlets U.store_of U.outbound self.old.state.backend }
     {
         count_where_done(&mut self.state.backend, connection);
     }
@@ -231,7 +235,7 @@ impl<U: Backend> Server<'_, U> {
 
     /// Reports a connection that couldn't be accepted.
     pub fn accept_failed(&mut self, config: &Config, kind: ErrorKind) {
-        self.state.backend.figures().miss();
+        self.state.backend.count(Counted::NotAccepted);
         self.state
             .backend
             .tell_of(config, None, Fault::Accept(kind));

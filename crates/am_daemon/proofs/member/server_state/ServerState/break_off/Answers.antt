@@ -1,6 +1,7 @@
 use Rattle.am_server.proofs.Calls.{broken_off_answer}
 use Rattle.am_server.proofs.Steps.{broken_off_made}
 use Rattle.am_daemon.proofs.Calling.{given_called}
+use Rattle.std.proofs.Common.{◌∙◌}
 use Rattle.am_daemon.proofs.member.server_state.ServerState.break_off.Goals as goal
 
 pub returns-clause-steps : goal.returns-clause-steps
@@ -12,4 +13,7 @@ pub returns-clause-called : goal.returns-clause-called
 returns-clause-called g c = λ request question start same asked underway only.
     given_called request question start c.break_off-verdict.result.reply c.args.unheard _ asked only c.answer_or_hear.result
     (broken_off_answer question (record { now = c.next_moment-now.result; turn_seconds = c.seconds_in-turn_seconds.result }) c.args.deciding start _
-    c.break_off-verdict.result.reply _ underway same c.break_off-verdict.ensures.decided) c.answer_or_hear.ensures
+    c.break_off-verdict.result.reply _ underway same c.break_off-verdict.ensures.decided) c.answer_or_hear.ensures.gives
+
+pub returns-clause-quiet : goal.returns-clause-quiet
+returns-clause-quiet g c = record { same = c.break_off-verdict.ensures.same; stays = c.answer_or_hear.ensures.stays ∙ c.count_decided.ensures }

@@ -1,7 +1,8 @@
-use Rattle.std.proofs.Common.{subst}
+use Rattle.std.proofs.Common.{refl, subst}
 use Rattle.am_daemon.specs.Calling.{IsCalled}
 use Rattle.am_server.proofs.Calls.{put_given}
 use Rattle.am_http.specs.declared.request.Request.{Request}
+use Rattle.am_daemon.proofs.Sending.{quiet_on, still_on}
 use Rattle.am_daemon.proofs.member.server_state.ServerState.resume_call.Goals as goal
 
 pub returns-in-Turn-clause-given : goal.returns-in-Turn-clause-given
@@ -21,3 +22,15 @@ returns-in-Log-clause-given g c = rw c.in-Log.is (λ request silent came. c.resu
 
 pub returns-in-Counting-clause-given : goal.returns-in-Counting-clause-given
 returns-in-Counting-clause-given g c = rw c.in-Counting.is (λ request silent came. absurd came)
+
+pub returns-in-Turn-clause-sent : goal.returns-in-Turn-clause-sent
+returns-in-Turn-clause-sent g c = still_on _ _ _ _ refl refl
+
+pub returns-in-Log-clause-sent : goal.returns-in-Log-clause-sent
+returns-in-Log-clause-sent g c = still_on _ _ _ _ refl refl
+
+pub returns-in-Counting-clause-sent : goal.returns-in-Counting-clause-sent
+returns-in-Counting-clause-sent g c = still_on _ _ _ _ refl refl
+
+pub returns-in-Deciding-clause-sent : goal.returns-in-Deciding-clause-sent
+returns-in-Deciding-clause-sent g c = quiet_on _ _ _ _ c.resume_decision-called.ensures.quiet

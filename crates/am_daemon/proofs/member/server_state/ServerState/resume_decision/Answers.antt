@@ -1,6 +1,8 @@
 use Rattle.am_api_decisions.proofs.Same.{same_self}
 use Rattle.am_server.proofs.Calls.{question_replied}
 use Rattle.am_server.proofs.Steps.{made_on}
+use Rattle.std.proofs.Common.{refl}
+use Rattle.am_daemon.proofs.Sending.{quiet_then}
 use Rattle.am_daemon.proofs.member.server_state.ServerState.resume_decision.Goals as goal
 
 pub returns-then-is_over-clause-called : goal.returns-then-is_over-clause-called
@@ -15,3 +17,9 @@ returns-in-Ok-clause-steps g c = made_on _ _ _ _ c.ask_on.ensures.steps c.decide
 pub returns-in-Ok-clause-called : goal.returns-in-Ok-clause-called
 returns-in-Ok-clause-called g c = λ request came.
     c.decide_or_put_off.ensures.called request came.0 _ c.ask_on.ensures.same came.1 (c.in-Ok.ensures.asked came.0 came.2) came.3
+
+pub returns-in-Ok-clause-quiet : goal.returns-in-Ok-clause-quiet
+returns-in-Ok-clause-quiet g c = quiet_then _ _ _ _ _ _ c.ask_on.ensures.same refl c.decide_or_put_off.ensures.quiet
+
+pub returns-in-Err-clause-quiet : goal.returns-in-Err-clause-quiet
+returns-in-Err-clause-quiet g c = record { same = c.ask_on.ensures.same; stays = refl }
