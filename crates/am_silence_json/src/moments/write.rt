@@ -42,7 +42,8 @@ impl MomentText {
     pub fn as_str(&self) -> &str
         ensures { result.now ≡ self.now }
     {
-        str::from_utf8(&self.bytes).unwrap()
+        // SAFETY: the bytes are UTF-8.
+        unsafe { str::from_utf8_unchecked(&self.bytes) }
     }
 }
 
