@@ -2,6 +2,7 @@
 use Rattle.std.specs.Prelude.{⊤, Contains}
 use Rattle.std.proofs.Common.{◌≡◌, ◌⊎◌, inl, inr, ⊎_elim, ℕ, ◌<◌, ◌≤◌, ◌^◌, Bool, true, false, List, [], ◌∷◌, ◌++◌, length, get_or, Option, Some, None, unwrap_or, Result, refl, sym, ◌∙◌, ap, subst, arith, append-nil}
 use Rattle.std.specs.List.{All}
+use Rattle.std.proofs.lemmas.List.{append_cancel_left}
 use Rattle.std.proofs.lemmas.List.Elements.{All-contains, All-contains_itself, Contains-append_cases}
 use Rattle.std.specs.declared.cmp.Ordering.{Ordering}
 use Rattle.am_version_order.specs.Versions.{Version}
@@ -16,12 +17,14 @@ use Rattle.am_snapshot.proofs.ReadAgain.{IsReadBack}
 use Rattle.am_store.specs.Blocks.{recovered}
 use Rattle.am_store.specs.Calls.{Event, Remove, Make, Sync, Rename, SyncDirectory}
 use Rattle.am_store.specs.Crashes.{Disk, Remains, MayLeave, MayLeaveDuring, bytes_at}
-use Rattle.am_store.specs.Saves.{IsDirectoryOf, Name, Row, Unnamed, Unreplaced, Unsettled, beside, replacing, saving}
+use Rattle.am_store.specs.Saves.{IsDirectoryOf, IsTried, Name, Row, Unnamed, Unreplaced, Unsettled, beside, replacing, saving}
+use Rattle.am_store.specs.declared.file_fault.FileFault.{FileFault}
 use Rattle.am_store.specs.declared.stages.CompactionStage.{CompactionStage}
 use Rattle.am_store.specs.declared.stages.CompactionStage.TheVariants as stages
 use Rattle.am_store.specs.Rewrites.{AreOfRewriting, First, End, HasCome, Has, HasWhole, IsCause, IsRewritten, IsUnderWay, IsWritten, Place, RewritingStop, StopsRewriting, LogUnnamed, LogKept, LogUnsettled, Unsaved, calls_before, calls_of, making, new_bytes, old_log, own_log, place_from, place_of, rewriting, rewriting_until, stage_of}
 use Rattle.am_store.specs.Logs.{AreInBatches}
 use Rattle.am_store.specs.Outlasting.{HasAtLeast, IsKept, IsKnown, IsState, Outlasts, OutlastsDuring, StartsWith, content_at}
+use Rattle.am_store.proofs.Crashes.{Fine, is_saved, is_stopped}
 use Rattle.am_store.proofs.BlockLemmas.{recovered_none}
 use Rattle.am_store.proofs.Outlasting.{IsOf, Reaches, none_held, of_row, pieces_of, same_start}
 use Rattle.am_store.proofs.ReadRows.{read_same}
@@ -134,6 +137,36 @@ module _ {K X : Type 0} (seen : X → Version K) (cmp : K → K → Ordering) (p
         (during calls (calls_before (stage_of compaction) come.stood come.ended path come.directory come.row) (sym same ∙ come.calls) may);
   }
 
+-- ---- a new file is read as the versions that it was made of
+row_read_again : {K X : Type 0} (seen : X → Version K) (reads : ℕ → List ℕ → Result X WireError) (path : List ℕ) (left : Remains) (map : List X) (starts : StartsWith seen reads path left map)
+    (row : List ℕ) (versions : List X) → bytes_at left path ≡ Some row → row ≡ row_text seen versions → length row < 2 ^ 64 → All (IsReadBack seen reads) versions → starts.in_row ≡ versions
+row_read_again seen reads path left map starts row versions found text small back =
+    read_same seen reads versions starts.in_row back (omega (arith, small, ap length text))
+    (subst (λ (bytes : List ℕ). AreMessages reads bytes starts.in_row) (ap (λ (o : Option (List ℕ)). unwrap_or o []) found ∙ text) starts.all_of_row)
+
+-- ---- what a start has after a save
+module _ {K X : Type 0} (seen : X → Version K) (cmp : K → K → Ordering) (is_value : X → Type 0) (plain : X → X) (unknown : Unknown)
+    (reads : ℕ → List ℕ → Result X WireError) (back : (v : X) → is_value v × StaysWhole plain unknown v → IsReadBack seen reads v)
+    (path : List ℕ) (fits : Type 0) (state : List X) (earlier calls : List Event) (fault : FileFault) (disk : Disk) (left : Remains)
+    (small : length (row_text seen state) < 2 ^ 64) (is : IsState seen cmp is_value plain unknown state) where
+  abbrev BeforeOrNew : Option (List ℕ) → Option (List ℕ) → Option (List ℕ) → Type 0
+  BeforeOrNew found there log = AsBefore path disk found there log ⊎ (found ≡ Some (row_text seen state))
+
+  save_leaves : IsTried fits path (row_text seen state) earlier (earlier ++ calls) fault → MayLeaveDuring calls disk left → Fine path (row_text seen state) BeforeOrNew left
+  save_leaves (inl stopped) may =
+      is_stopped path (row_text seen state) BeforeOrNew (λ found there log new. inr refl) left stopped.stop stopped.stood stopped.removed disk (λ l m. inl (before path disk l m))
+      (subst (λ (events : List Event). MayLeaveDuring events disk left) (append_cancel_left earlier _ _ stopped.calls) may)
+  save_leaves (inr saved) may =
+      is_saved path (row_text seen state) BeforeOrNew (λ found there log new. inr refl) left saved.stood saved.directory disk (λ l m. inl (before path disk l m))
+      (subst (λ (events : List Event). MayLeaveDuring events disk left) (append_cancel_left earlier _ _ saved.calls) may)
+
+  pub outlasts_save : IsTried fits path (row_text seen state) earlier (earlier ++ calls) fault → MayLeaveDuring calls disk left → (v : X) → Outlasts seen reads path v disk → HasAtLeast seen v state → IsKept seen reads path v left
+  outlasts_save tried may v safe has map starts = ⊎_elim
+      (λ old. safe old.earlier old.might map (same_start seen reads path old.earlier left map old.file old.first old.second starts))
+      (λ new. of_row seen reads path v left map starts (subst (HasAtLeast seen v) (sym (row_read_again seen reads path left map starts (row_text seen state) state new refl small
+      (λ k d lt. back (get_or state k d) (is.values k d lt, is.whole k d lt)))) has))
+      (save_leaves tried may)
+
 -- ---- what a start has
 module _ {K X : Type 0} (seen : X → Version K) (cmp : K → K → Ordering) (keys : IsKeyOrder cmp) (is_value : X → Type 0) (plain : X → X) (unknown : Unknown)
     (reads : ℕ → List ℕ → Result X WireError) (back : (v : X) → is_value v × StaysWhole plain unknown v → IsReadBack seen reads v)
@@ -155,12 +188,10 @@ module _ {K X : Type 0} (seen : X → Version K) (cmp : K → K → Ordering) (k
         let is = All-contains (IsState seen cmp is_value plain unknown) states state are among in
         back v (All-contains is_value state v is.values has, All-contains (StaysWhole plain unknown) state v is.whole has)
 
-    -- the new file is read as these versions
     new_row : bytes_at left path ≡ Some leaves.row → starts.in_row ≡ pieces.versions
     new_row found =
-        let text : content_at left path ≡ row_text seen pieces.versions = ap (λ (o : Option (List ℕ)). unwrap_or o []) found ∙ pieces.text in
-        read_same seen reads pieces.versions starts.in_row (λ k d lt. readable (get_or pieces.versions k d) (All-contains_itself pieces.versions k d lt))
-        (omega (arith, small, leaves.fits, ap length pieces.text)) (subst (λ (row : List ℕ). AreMessages reads row starts.in_row) text starts.all_of_row)
+        row_read_again seen reads path left map starts leaves.row pieces.versions found pieces.text (omega (arith, small, leaves.fits))
+        (λ k d lt. readable (get_or pieces.versions k d) (All-contains_itself pieces.versions k d lt))
 
     pub outlasts : (v : X) → Outlasts seen reads path v disk → All (HasAtLeast seen v) states → HasAtLeast seen v map
     outlasts v safe all = ⊎_elim

@@ -1,6 +1,6 @@
 //! Laws about what a crash leaves of a save, and of a file that is written anew in stretches.
 
-ghost use Rattle.std.specs.Prelude.{◌≡◌, ◌⊎◌, ◌<◌, ◌^◌, ℕ, false, List, [], ◌++◌, All, Contains, Option, Some, None, codes};
+ghost use Rattle.std.specs.Prelude.{◌≡◌, ◌⊎◌, ◌<◌, ◌^◌, ℕ, false, List, [], ◌++◌, All, Contains, length, Option, Some, None, codes};
 ghost use Rattle.am_version_order.specs.Versions.{IsLive};
 ghost use Rattle.am_merge.specs.Maps.{IsJoin, IsMap, swept};
 ghost use Rattle.am_snapshot.specs.Texts.{row_text};
@@ -9,7 +9,7 @@ ghost use Rattle.am_store.specs.declared.file_fault.FileFault.{FileFault};
 ghost use Rattle.am_wire.specs.declared.unknown.Unknown.{Unknown};
 ghost use Rattle.am_store.specs.Blocks.{IsBeforeOrAfter};
 ghost use Rattle.am_store.specs.Calls.{Event};
-ghost use Rattle.am_store.specs.Saves.{IsDirectoryOf, IsSaved, IsStopped, saving};
+ghost use Rattle.am_store.specs.Saves.{IsDirectoryOf, IsSaved, IsStopped, IsTried, saving};
 ghost use Rattle.am_store.specs.Crashes.{Disk, Remains, Keeps, MayLeave, MayLeaveDuring, Runs, Stays, bytes_at};
 ghost use Rattle.am_store.specs.Outlasting.{HasAtLeast, InBatches, IsKept, IsKnown, IsState, Outlasts, OutlastsDuring, Stands, StartsWith, content_at};
 ghost use Rattle.am_store.specs.Rewrites.{AreOfRewriting, End, IsRewritten, IsWritten, StopsRewriting, old_log, own_log};
@@ -102,32 +102,38 @@ pub fn pieces_of_one_map_are_its_row<V: Version>()
         IsWritten V.seen V.Key.cmp maps row End → row ≡ row_text V.seen map }
 {}
 
-/// States that no crash loses a version while a file is written anew, whenever it comes: of a version that a start has after any
-/// crash before, and that each state has which the file is written from, a start has that version then, too, or a greater one of
-/// its key. A log that is written meanwhile isn't synced, as far as these disks know, and may hold anything: what it acknowledged
-/// is in it.
+/// States that no crash loses a version while a file is written anew or saved, whenever it comes. To have a version is to have
+/// it, or a greater one of its key. What stands in the file or a log after any crash outlasts a crash; and what outlasts one
+/// before a file is written anew outlasts one while it is, and after it, if each state has it from which the file is written. A log
+/// that is written meanwhile isn't synced, as far as these disks know, and may hold anything: what it acknowledged is in it.
 pub fn no_crash_loses_a_version<V: Record>()
     ensures stands { (unknown : Unknown) (path : List ℕ) (v : V) (left : Remains) →
         Stands V.seen (V.reads unknown) path v left → IsKept V.seen (V.reads unknown) path v left }
-    // PROMISE: After any crash a start has each version that a log acknowledged, or a greater one of its key.
+    // PROMISE: After any crash, a start that succeeds has each version that a log acknowledged, or a greater one of its key.
     ensures acknowledged { (unknown : Unknown) (path : List ℕ) (batches : List (List ℕ)) (batch : List ℕ) (v : V) (left : Remains) →
         InBatches V.seen (V.reads unknown) batches v → IsBeforeOrAfter batches batch (content_at left (own_log path)) →
         IsKept V.seen (V.reads unknown) path v left }
-    // PROMISE: No crash while a file is written anew loses a version that no crash before would have lost, and that each state has from which the file is written: a start has it, or a greater one of its key.
+    // PROMISE: A crash while a file is written anew loses no version that no crash before would have lost, and that each state has from which the file is written: a start that succeeds has it, or a greater one of its key.
     ensures outlasts { (unknown : Unknown) (path : List ℕ) (most : ℕ) (states : List (List V)) (calls : List Event) (disk : Disk) (v : V) →
         most < 2 ^ 32 → IsDirectoryOf path disk.directory → All (IsState V.seen V.Key.cmp V.Version.is_value V.plain unknown) states →
         AreOfRewriting V.seen V.Key.cmp path most states calls →
         Outlasts V.seen (V.reads unknown) path v disk → All (HasAtLeast V.seen v) states →
         OutlastsDuring V.seen (V.reads unknown) path v calls disk }
-    ensures after { (unknown : Unknown) (path : List ℕ) (calls : List Event) (disk new : Disk) (v : V) →
-        Runs calls disk new → OutlastsDuring V.seen (V.reads unknown) path v calls disk → Outlasts V.seen (V.reads unknown) path v new }
-    // PROMISE: After such a crash a start has no version that was never read or taken: each is in the log, or was in the file or its old log, or in a state from which the file is written.
+    // PROMISE: After such a crash a start has no version that never was: each is in the log, or was in the file or its old log, or in a state from which the file is written.
     ensures nothing_new { (unknown : Unknown) (path : List ℕ) (most : ℕ) (states : List (List V)) (calls : List Event) (disk : Disk) (left : Remains)
         (map : List V) (v : V) →
         most < 2 ^ 32 → IsDirectoryOf path disk.directory → All (IsState V.seen V.Key.cmp V.Version.is_value V.plain unknown) states →
         AreOfRewriting V.seen V.Key.cmp path most states calls → MayLeaveDuring calls disk left →
         StartsWith V.seen (V.reads unknown) path left map → Contains map v →
         IsKnown V.seen (V.reads unknown) path states disk left v }
+    // PROMISE: Nor does a crash at any moment of a save lose a version, if the state that is saved has it, or a greater one of its key.
+    ensures saved { (unknown : Unknown) (path : List ℕ) (most : ℕ) (state : List V) (before calls : List Event) (fault : FileFault) (disk : Disk) (v : V) →
+        length (row_text V.seen state) < 2 ^ 64 → IsState V.seen V.Key.cmp V.Version.is_value V.plain unknown state →
+        IsTried (FitsRow V.seen most state) path (row_text V.seen state) before (before ++ calls) fault →
+        Outlasts V.seen (V.reads unknown) path v disk → HasAtLeast V.seen v state →
+        OutlastsDuring V.seen (V.reads unknown) path v calls disk }
+    ensures after { (unknown : Unknown) (path : List ℕ) (calls : List Event) (disk new : Disk) (v : V) →
+        Runs calls disk new → OutlastsDuring V.seen (V.reads unknown) path v calls disk → Outlasts V.seen (V.reads unknown) path v new }
 {}
 
 /// States that a state keeps a version, or a greater one of its key, as it takes others and is swept, unless the one that it had

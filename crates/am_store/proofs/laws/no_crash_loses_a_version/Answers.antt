@@ -1,8 +1,9 @@
 use Rattle.am_merge.proofs.Keys.{key_order}
+use Rattle.am_snapshot.specs.Saving.{FitsRow}
 use Rattle.am_snapshot.proofs.ReadAgain.{read_back}
 use Rattle.am_store.proofs.Crashes.{right_after}
 use Rattle.am_store.proofs.Outlasting.{acknowledged_kept, stands_kept}
-use Rattle.am_store.proofs.RewriteOutlasting.{nothing_new, outlasts}
+use Rattle.am_store.proofs.RewriteOutlasting.{nothing_new, outlasts, outlasts_save}
 use Rattle.am_store.proofs.laws.no_crash_loses_a_version.Goals as goal
 
 pub returns-clause-stands : goal.returns-clause-stands
@@ -17,6 +18,12 @@ returns-clause-outlasts g c = λ unknown path most states calls disk v small its
     let back = read_back g.V.Version.seen g.V.Message.plain g.V.Message.reads g.met.V.Message.dropped unknown g.V.Message.writes g.V.Version.is_value g.V.Message.is_value
     g.met.V.Message.round_trip g.met.V.Record.written in
     outlasts g.V.Version.seen g.V.Key.Ord.cmp keys g.V.Version.is_value g.V.Message.plain unknown (g.V.Message.reads unknown) back path most states calls disk small its are made left may map starts v safe all
+
+pub returns-clause-saved : goal.returns-clause-saved
+returns-clause-saved g c = λ unknown path most state before calls fault disk v small is tried safe has left may.
+    let back = read_back g.V.Version.seen g.V.Message.plain g.V.Message.reads g.met.V.Message.dropped unknown g.V.Message.writes g.V.Version.is_value g.V.Message.is_value
+    g.met.V.Message.round_trip g.met.V.Record.written in
+    outlasts_save g.V.Version.seen g.V.Key.Ord.cmp g.V.Version.is_value g.V.Message.plain unknown (g.V.Message.reads unknown) back path (FitsRow g.V.Version.seen most state) state before calls fault disk left small is tried may v safe has
 
 pub returns-clause-after : goal.returns-clause-after
 returns-clause-after g c = λ unknown path calls disk new v runs kept left may. kept left (right_after calls disk new left runs may)
