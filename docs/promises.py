@@ -48,6 +48,7 @@ ANCHORS = {
     "log": ("am_store::Journal::commit", "acknowledged"),
     "save": ("am_store::a_crash_leaves_the_old_file_or_the_new_one", "saved"),
     "anew": ("am_store::a_crash_leaves_the_old_file_or_the_one_written_anew", "rewritten"),
+    "outlasts": ("am_store::no_crash_loses_a_version", "outlasts"),
     "life": ("am_daemon::live", "lived"),
     "kept": ("am_daemon::Server::release", "kept"),
     "commits": ("am_reactor::Service::release", "committed"),
