@@ -20,13 +20,14 @@ use crate::cluster::Cluster;
 use crate::error::ClusterError;
 use crate::flight::Flight;
 use crate::journal::Journal;
-use crate::recording::{PendingDelivery, PendingRecord, kind_of, write_answer};
+use crate::recording::{PendingDelivery, kind_of, write_answer};
 use crate::step_laws::{
     collecting_leaves_nothing_out, few_are_made, sent_frames_are_sound, steps_are_possible,
     values_are_delivered,
 };
 use crate::writing::Entry;
 use am_instance::{Event, Instance, Outcome, Reply, StepError};
+use am_runs::Source;
 use am_version_order::{Moment, Version, versions_are_values};
 use am_wire::Unknown;
 use std::alloc::{AllocError, Global};
@@ -95,41 +96,55 @@ fn step_and_record(
     instance: &mut Instance,
     journal: &mut Journal,
     flights: &mut Vec<Flight>,
-    pending: PendingRecord,
+    entry: &Entry,
+    coming: PendingDelivery,
     event: Event,
 ) -> Result<Reply, ClusterError>
-    requires ready { CanHappen journal.old pending.entry event instance.old }
-    requires coming { ComesWith pending.coming event }
+    requires ready { CanHappen journal.old entry.now event instance.old }
+    requires coming { ComesWith coming event }
     requires values { All IsValue (brought Drop event) }
-    requires room { IsRoomFor pending.coming.parted (length pending.coming.versions.items) }
+    requires room { IsRoomFor coming.parted (length coming.versions.items) }
     requires enough { 0 < journal.old.room }
-    ensures { HasActed journal.old flights.old.items pending.entry event instance.old result journal.new flights.new.items instance.new }
+    ensures { HasActed journal.old flights.old.items entry.now event instance.old result journal.new flights.new.items instance.new }
 {
     steps_are_possible();
     values_are_delivered();
     few_are_made();
     collecting_leaves_nothing_out();
     sent_frames_are_sound();
-    let answer = step_of(instance, event, pending.entry.moment);
-    write_answer(alloc, journal, flights, pending, answer)
+    let answer = step_of(instance, event, entry.moment);
+    write_answer(alloc, journal, flights, entry, coming, answer)
 }
 
 impl Cluster {
-    /// Applies an event to the member of an entry, which is able to take it.
-    pub(crate) fn apply_event(&mut self, entry: Entry, event: Event) -> Result<Reply, ClusterError>
-        requires within { entry.place < length self.old.replicas }
-        requires ready { OfMember self.old entry.place (λ replica. CanHave replica event entry.moment) }
-        requires silences { HasSource silence_state Drop (length self.old.replicas) self.old.silences entry.moment event entry.source }
-        requires log { HasSource log_state Drop (length self.old.replicas) self.old.log entry.moment event entry.source }
-        ensures { OfMember self.old entry.place
-            (λ replica. IsEvent self.old entry.place replica event entry.source entry.moment entry.line result self.new) }
+    /// Applies an event to the member at a place, which is able to take it.
+    pub(crate) fn apply_event(
+        &mut self,
+        place: usize,
+        event: Event,
+        source: Source,
+        now: Moment,
+        line: u64,
+    ) -> Result<Reply, ClusterError>
+        requires within { place < length self.old.replicas }
+        requires ready { OfMember self.old place (λ replica. CanHave replica event now) }
+        requires silences { HasSource silence_state Drop (length self.old.replicas) self.old.silences now event source }
+        requires log { HasSource log_state Drop (length self.old.replicas) self.old.log now event source }
+        ensures { OfMember self.old place (λ replica. IsEvent self.old place replica event source now line result self.new) }
     {
         self.journal.is_told_of_both();
         let coming = coming_with(self.alloc, &event)?;
         self.journal.make_room(1)?;
-        let instance = &mut self.members[entry.place].instance;
+        let entry = Entry {
+            place,
+            moment: now,
+            source,
+            line,
+        };
+        let instance = &mut self.members[place].instance;
         let (journal, flights) = (&mut self.journal, &mut self.flights);
-        let pending = PendingRecord { entry, coming };
-        step_and_record(self.alloc, instance, journal, flights, pending, event)
+        step_and_record(
+            self.alloc, instance, journal, flights, &entry, coming, event,
+        )
     }
 }

@@ -14,7 +14,6 @@ use crate::cluster::Cluster;
 use crate::error::ClusterError;
 use crate::journal::Mark;
 use crate::refusals::event_refusal;
-use crate::writing::Entry;
 use am_gossip::Frame;
 use am_instance::{Event, Place, Reply};
 use am_runs::Source;
@@ -125,12 +124,6 @@ impl Cluster {
             return Err(self.refuse_at(place, cause, now, line));
         }
         let event = self.event_of(&arrival)?;
-        let entry = Entry {
-            place,
-            moment: now,
-            source: Source::Arrived(arrival.index),
-            line,
-        };
-        self.apply_event(entry, event)
+        self.apply_event(place, event, Source::Arrived(arrival.index), now, line)
     }
 }

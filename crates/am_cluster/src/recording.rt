@@ -122,13 +122,6 @@ pub(crate) struct PendingDelivery {
     pub parted: SplitVersions,
 }
 
-/// The record of an event that isn't answered yet: its entry, and the versions that came with it.
-#[derive(Drop)]
-pub(crate) struct PendingRecord {
-    pub entry: Entry,
-    pub coming: PendingDelivery,
-}
-
 /// Returns all versions that an event delivered, by state: those that it brought, or those that were made.
 fn all_delivered(coming: PendingDelivery, made: Made) -> Delivered
     requires { IsRoomFor coming.parted (length coming.versions.items) }
@@ -161,15 +154,15 @@ fn write_outcome(
     alloc: Global,
     journal: &mut Journal,
     flights: &mut Vec<Flight>,
-    pending: PendingRecord,
+    entry: &Entry,
+    coming: PendingDelivery,
     outcome: Outcome,
 ) -> Result<Reply, ClusterError>
-    requires { IsRoomFor pending.coming.parted (length pending.coming.versions.items)
-        × (event : Event) × ComesWith pending.coming event × CanRecord journal.old pending.entry event (Ok outcome) }
-    ensures { (event : Event) → ComesWith pending.coming event → CanRecord journal.old pending.entry event (Ok outcome) →
-        IsRecorded journal.old flights.old.items pending.entry event (Ok outcome) result journal.new flights.new.items }
+    requires { IsRoomFor coming.parted (length coming.versions.items)
+        × (event : Event) × ComesWith coming event × CanRecord journal.old entry.now event (Ok outcome) }
+    ensures { (event : Event) → ComesWith coming event → CanRecord journal.old entry.now event (Ok outcome) →
+        IsRecorded journal.old flights.old.items entry.now event (Ok outcome) result journal.new flights.new.items }
 {
-    let PendingRecord { entry, coming } = pending;
     let Outcome {
         reply,
         frames,
@@ -186,10 +179,10 @@ fn write_outcome(
     }
     let delivered = all_delivered(coming, made);
     if drops(entry.source) {
-        write_silent(alloc, journal, &entry, delivered);
+        write_silent(alloc, journal, entry, delivered);
         return Ok(reply);
     }
-    write_sent(alloc, journal, flights, &entry, delivered, (frames, unsent))?;
+    write_sent(alloc, journal, flights, entry, delivered, (frames, unsent))?;
     Ok(reply)
 }
 
@@ -197,20 +190,20 @@ fn write_outcome(
 fn write_refusal(
     alloc: Global,
     journal: &mut Journal,
-    pending: PendingRecord,
+    entry: &Entry,
+    coming: PendingDelivery,
     error: StepError,
 ) -> ClusterError
-    requires { IsRoomFor pending.coming.parted (length pending.coming.versions.items)
-        × (event : Event) × ComesWith pending.coming event × CanRecord journal.old pending.entry event (Err error) }
-    ensures { (flights : List Flight) (event : Event) → ComesWith pending.coming event →
-        CanRecord journal.old pending.entry event (Err error) →
-        IsRecorded journal.old flights pending.entry event (Err error) (Err result) journal.new flights }
+    requires { IsRoomFor coming.parted (length coming.versions.items)
+        × (event : Event) × ComesWith coming event × CanRecord journal.old entry.now event (Err error) }
+    ensures { (flights : List Flight) (event : Event) → ComesWith coming event →
+        CanRecord journal.old entry.now event (Err error) →
+        IsRecorded journal.old flights entry.now event (Err error) (Err result) journal.new flights }
 {
-    let PendingRecord { entry, coming } = pending;
     match error {
         StepError::Memory { taken } => {
             let delivered = first_brought(coming.parted, coming.versions, taken);
-            write_silent(alloc, journal, &entry, delivered);
+            write_silent(alloc, journal, entry, delivered);
             ClusterError::Memory
         }
         StepError::MomentBack { .. } => unreachable!(),
@@ -224,16 +217,17 @@ pub(crate) fn write_answer(
     alloc: Global,
     journal: &mut Journal,
     flights: &mut Vec<Flight>,
-    pending: PendingRecord,
+    entry: &Entry,
+    coming: PendingDelivery,
     answer: Result<Outcome, StepError>,
 ) -> Result<Reply, ClusterError>
-    requires { IsRoomFor pending.coming.parted (length pending.coming.versions.items)
-        × (event : Event) × ComesWith pending.coming event × CanRecord journal.old pending.entry event answer }
-    ensures { (event : Event) → ComesWith pending.coming event → CanRecord journal.old pending.entry event answer →
-        IsRecorded journal.old flights.old.items pending.entry event answer result journal.new flights.new.items }
+    requires { IsRoomFor coming.parted (length coming.versions.items)
+        × (event : Event) × ComesWith coming event × CanRecord journal.old entry.now event answer }
+    ensures { (event : Event) → ComesWith coming event → CanRecord journal.old entry.now event answer →
+        IsRecorded journal.old flights.old.items entry.now event answer result journal.new flights.new.items }
 {
     match answer {
-        Ok(outcome) => write_outcome(alloc, journal, flights, pending, outcome),
-        Err(error) => Err(write_refusal(alloc, journal, pending, error)),
+        Ok(outcome) => write_outcome(alloc, journal, flights, entry, coming, outcome),
+        Err(error) => Err(write_refusal(alloc, journal, entry, coming, error)),
     }
 }

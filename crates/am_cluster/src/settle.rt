@@ -32,7 +32,6 @@ use crate::error::SettleError;
 use crate::journal::{Journal, Mark};
 use crate::member::Member;
 use crate::step_laws::lent_maps_come_from_their_lender;
-use crate::writing::Entry;
 use am_gossip::Frame;
 use am_instance::{Event, Instance, Place, whole_state};
 use am_runs::Source;
@@ -87,13 +86,7 @@ impl Cluster {
         requires ready { CanSettle self.old now }
         ensures { AreTurns self.old (Collects place ∷ []) now line result self.new }
     {
-        let entry = Entry {
-            place,
-            moment: now,
-            source: Source::Made,
-            line,
-        };
-        match self.apply_event(entry, Event::Tick) {
+        match self.apply_event(place, Event::Tick, Source::Made, now, line) {
             Ok(_reply) => Ok(()),
             Err(_) => Err(SettleError::Memory),
         }
@@ -115,13 +108,7 @@ impl Cluster {
     {
         let _ = &self.alloc;
         let event = self.lent_by(lender)?;
-        let entry = Entry {
-            place: borrower,
-            moment: now,
-            source: Source::Lent(lender),
-            line,
-        };
-        match self.apply_event(entry, event) {
+        match self.apply_event(borrower, event, Source::Lent(lender), now, line) {
             Ok(_reply) => Ok(()),
             Err(_) => Err(SettleError::Memory),
         }

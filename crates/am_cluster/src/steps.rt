@@ -11,7 +11,6 @@ use crate::error::ClusterError;
 use crate::journal::Mark;
 use crate::line_events::to_event;
 use crate::resolved_event::ResolvedEvent;
-use crate::writing::Entry;
 use am_instance::Reply;
 use am_schedule::{Action, LineEvent, Step};
 use am_version_order::Moment;
@@ -56,15 +55,9 @@ impl Cluster {
             return Err(self.refuse_at(place, cause, now, line));
         }
         match self.asked(place, event)? {
-            ResolvedEvent::Event { event, source } => {
-                let entry = Entry {
-                    place,
-                    moment: now,
-                    source,
-                    line,
-                };
-                self.apply_event(entry, event)
-            }
+            ResolvedEvent::Event { event, source } => self.apply_event(
+                place, event, source, now, line,
+            ),
             ResolvedEvent::Start => self.start_at(place, now, line),
             ResolvedEvent::NoMember => {
                 Err(self.refuse(ClusterError::UnknownPeer, Mark::Refused { now }, line))

@@ -27,4 +27,4 @@ returns-in_err-write_sent c = λ event comes can.
     let p = err_from_is_err_and c.from_residual.result c.from_residual.ensures.1 in
     recorded_alone _ _ _ _ _ event c.args.outcome c.all_delivered-delivered.result _ other (c.all_delivered-delivered.ensures event comes can.brings other)
     c.in_err-write_sent.ensures.silent c.in_err-write_sent.ensures.grounded
-    (subst (λ r. IsTold c.args.pending.entry.source (Ok c.args.outcome) [] r) (sym p.1) (p.2, refl, sym c.drops.ensures ∙ c.if-drops.false, c.in_err-write_sent.ensures.some))
+    (subst (λ r. IsTold c.args.entry.now.source (Ok c.args.outcome) [] r) (sym p.1) (p.2, refl, sym c.drops.ensures ∙ c.if-drops.false, c.in_err-write_sent.ensures.some))
