@@ -78,7 +78,7 @@ pub trait Backend {
     /// Returns the resources that the process takes.
     fn process(&self) -> Process;
 
-    /// Counts something.
+    /// Adds to the figures what happened, beside what is sent.
     fn count(&mut self, counted: Counted<'_>)
         ensures store { store_of self.new ≡ store_of self.old }
         ensures outbound { outbound self.new ≡ outbound self.old };

@@ -92,7 +92,7 @@ fn count_frames(figures: &mut Metrics, place: Place, frames: &[Frame])
     }
 }
 
-/// Counts something.
+/// Adds to the figures what happened.
 pub(crate) fn count(figures: &mut Metrics, counted: Counted<'_>)
     ensures memory { figures.new.unsent_memory ≡ figures.old.unsent_memory }
     ensures limit { figures.new.unsent_limit ≡ figures.old.unsent_limit }

@@ -9,15 +9,15 @@ use std::alloc::{AllocError, Global};
 pub struct Argument {
     /// The name under which it is read; an option has it after `--`.
     pub name: &'static str,
-    /// What it takes.
+    /// The value that it takes.
     pub takes: Takes,
-    /// When it may be given.
+    /// The rule for when it may be given.
     pub rule: Rule,
     /// The text about it in the help.
     pub help: &'static str,
 }
 
-/// What an argument takes. The help calls a value by the text.
+/// The value that an argument takes, if it takes one. The text is the value's name in the help.
 #[derive(Clone, Copy)]
 pub enum Takes {
     /// An option without a value.
@@ -34,7 +34,7 @@ pub enum Takes {
     Words(&'static str),
 }
 
-/// When an argument may be given.
+/// A rule for when an argument may be given.
 #[derive(Clone, Copy)]
 pub enum Rule {
     /// It may be left out.
@@ -51,19 +51,19 @@ pub enum Rule {
     OneOf(&'static str),
 }
 
-/// Any text.
+/// The parser of any text.
 pub const TEXT: ValueParser<'static> = ValueParser::String;
 
-/// A whole number from 1 on.
+/// The parser of a whole number from 1 on.
 pub const FROM_ONE: ValueParser<'static> = ValueParser::Unsigned(1, u64::MAX);
 
-/// A whole number of 16 bits, from 1 on.
+/// The parser of a whole number of 16 bits, from 1 on.
 pub const U16: ValueParser<'static> = ValueParser::Signed(1, 65_535);
 
-/// A whole number of 32 bits, from 1 on.
+/// The parser of a whole number of 32 bits, from 1 on.
 pub const U32: ValueParser<'static> = ValueParser::Signed(1, 4_294_967_295);
 
-/// A number of seconds, of up to an hour.
+/// The parser of a number of seconds, of up to an hour.
 pub const HOUR: ValueParser<'static> = ValueParser::Unsigned(1, 3_600);
 
 /// The option that joins files with their logs.
@@ -74,10 +74,14 @@ pub const LOG: Argument = Argument {
     help: "Joins each file with the logs beside it, FILE.log and FILE.log.old, which a member with --log keeps",
 };
 
-/// The option that names a state.
+/// The value that names a state.
 pub const STATE: Takes = Takes::Value("STATE", ValueParser::Names(&["sil", "nfl"]));
 
 /// Adds arguments to a command, in their order.
+///
+/// # Errors
+///
+/// Returns [`AllocError`] if memory runs out.
 pub fn with_arguments<'a>(
     alloc: Global,
     command: Command<'a>,
@@ -97,7 +101,7 @@ fn arg_of<'a>(alloc: Global, argument: &Argument) -> Result<Arg<'a>, AllocError>
     under(taking(arg, argument.name, argument.takes), argument.rule)
 }
 
-/// Returns an argument that takes something.
+/// Returns the argument with the value that it takes.
 fn taking<'a>(arg: Arg<'a>, name: &'static str, takes: Takes) -> Arg<'a> {
     match takes {
         Takes::Nothing => arg.long(name).action(ArgAction::SetTrue),
@@ -113,7 +117,7 @@ fn taking<'a>(arg: Arg<'a>, name: &'static str, takes: Takes) -> Arg<'a> {
     }
 }
 
-/// Returns an argument that is under a rule.
+/// Returns the argument under its rule.
 fn under<'a>(arg: Arg<'a>, rule: Rule) -> Result<Arg<'a>, AllocError> {
     match rule {
         Rule::Optional => Ok(arg),

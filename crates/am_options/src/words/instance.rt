@@ -225,7 +225,7 @@ const ARGUMENTS: &[Argument] = &[
     },
 ];
 
-/// A number of seconds, of up to 31 years.
+/// The parser of a number of seconds, of up to 31 years.
 const SECONDS: ValueParser<'static> = ValueParser::Unsigned(1, 999_999_999);
 
 /// The values of options that are judged beyond what `clap` does.
@@ -270,9 +270,9 @@ fn judge<'a, R: Files + AllocGlobal>(rt: &R, args: &ArgMatches<'a>) -> Result<Ju
 
 /// Reads the options that may be given any number of times.
 fn read_lists<'a>(alloc: Global, args: &ArgMatches<'a>) -> Result<Lists<'a>, Mistake<'a>> {
-    let hosts = Vec::from_slice(alloc, args.get_strs("host").unwrap_or(&[]))?;
     let peers = read_peers(alloc, args, "peer")?;
     let replicas = read_peers(alloc, args, "gossip")?;
+    let hosts = Vec::from_slice(alloc, args.get_strs("host").unwrap_or(&[]))?;
     Ok(Lists {
         peers,
         replicas,
