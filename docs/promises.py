@@ -80,7 +80,7 @@ A silence that is posted to a member meets these clauses, in this order. `am_dae
 
 1. `am_instance::Instance::step`: which frames the step sends to which peers, in order.
 2. `am_backend::Backend::follow`, queued: they wait behind those that waited, or memory ran out, and just they are counted as not sent. So it is with what the steps of what a connection says send (`am_daemon::ServerState::take_in`, sent), with what the step of a notice sends (`am_daemon::ServerState::log`, sent), and with the step of an Alertmanager's frame (`am_daemon::take_from`, sent). `am_daemon::Server::feed`, sent: so it is with all that comes over a connection; what is held doesn't change otherwise. The same clause stands on the other calls that the loop makes for a connection: `end`, `resume`, `reach_deadline`.
-3. `am_backend::Backend::next_frames`, taken: all that wait for a peer are taken out, in order, each once. `am_backend::Backend::text_of`, text: their bytes are the text of just these, sealed if members have a secret (`am_peer_auth::sealed_text`).
+3. `am_backend::Backend::next_frames`, taken: all that wait for a peer are taken out, in order, each once. `am_backend::Backend::encoding_of`, text: their bytes are the text of just these, sealed if members have a secret (`am_peer_auth::sealed_encoding`).
 4. `am_reactor::Service::outgoing`, committed: nothing is given for a peer before it is committed. `am_daemon::Server::outgoing`, offered: just the text of the frames that are taken out for a peer is given for that peer; or, where members have a secret, these are put by for it, behind those before, and a link is opened; rested: nothing is given only once no frame waits. `am_daemon::Server::more`: behind the peer's challenge goes the text of just the frames that were put by for it, or of a part of all that is held.
 5. `am_reactor::run`, peered: just what is given for a peer leaves over the link to it, in order, each byte once, or is told lost.
 6. At the other end a frame is fed, passes and is heard as a request is (steps 1 to 3 above; `am_gossip::Feeder::feed`), and is one step (step 5), of the place of its sender.
@@ -114,7 +114,7 @@ You have to trust the toolchain, the C library, the statements of the kit's crat
 - that a pattern of RE2 and its translation match the same texts (cases/re2.txt, recorded from Go);
 - that the frames of a connection's pieces are those of all its bytes together: `connection` says it piece by piece;
 - that an unfinished head of over 64 fields is refused at once;
-- which canonical texts are kept as they came, or that `sort_row` refuses a row over 64 MiB;
+- which canonical encodings are kept as they came, or that `sort_row` refuses a row over 64 MiB;
 - that `SystemDisk` and `LogFile` make the calls that they note, that a disk does as [its definition](../crates/am_store/specs/Crashes.antt) says, and that bytes outside of a write stay; that `read` and `write` of `NotedStream` do, and nothing else reads from its socket or writes to it;
 - when an Alertmanager beside a member is asked next and what its messages say, that what comes for it is taken, or that each silence that isn't sent is reported just once: two of them may share a mark;
 - when a clock is read, or that a stream whose other end has left says so;

@@ -3,7 +3,7 @@ use Rattle.std.proofs.Common.{◌≡◌, ℕ, ◌+◌, ◌^◌, ◌<◌, Bool, t
 use Rattle.std.proofs.lemmas.Grind.{flat_map-append}
 use Rattle.am_version_order.specs.Versions.{Version}
 use Rattle.am_wire.specs.Writing.{delimited}
-use Rattle.am_snapshot.specs.Texts.{row_text}
+use Rattle.am_snapshot.specs.Encodings.{row_encoding}
 use Rattle.am_alertmanager.specs.declared.tally.Tally.{Tally}
 use Rattle.am_alertmanager.specs.declared.tally.Withheld.{Withheld}
 use Rattle.am_alertmanager.specs.VersionFilters.{IsSifted, IsTallied, Tallies, AreChosen, AreNoted}
@@ -82,7 +82,7 @@ module _ {K X : Type 0} (passes : X → Bool → Type 0) (withholds : X → List
       pub parts : all ≡ looked ++ left
       pub some : List X
       pub tallies : Tallies passes withholds looked some old new
-      pub text : row ≡ row_text seen some
+      pub text : row ≡ row_encoding seen some
 
     pub sifting_begins : (all : List X) (tally : Tally K) → IsSifting all all [] tally tally
     sifting_begins all tally = record { looked = []; parts = refl; some = []; tallies = tallies_none tally; text = refl }
@@ -100,7 +100,7 @@ module _ {K X : Type 0} (passes : X → Bool → Type 0) (withholds : X → List
       tallies = tallies_chosen so_far.looked so_far.some v old mid new does notes counts so_far.tallies;
       text = sym (
           flat_map-append (λ w. delimited (seen w).content) so_far.some (v ∷ [])
-          ∙ ap (λ bytes. row_text seen so_far.some ++ bytes) (append-nil (delimited (seen v).content))
+          ∙ ap (λ bytes. row_encoding seen so_far.some ++ bytes) (append-nil (delimited (seen v).content))
           ∙ ap (λ bytes. bytes ++ delimited (seen v).content) (sym so_far.text)
           );
     }

@@ -6,7 +6,7 @@ use Rattle.am_version_order.specs.Versions.{Version}
 use Rattle.am_matcher.specs.declared.hazard.Hazard.{Hazard}
 use Rattle.am_merge.specs.Maps.{replaces}
 use Rattle.am_alertmanager.specs.Mending.{is_given}
-use Rattle.am_snapshot.specs.Texts.{row_text}
+use Rattle.am_snapshot.specs.Encodings.{row_encoding}
 use Rattle.am_snapshot.specs.declared.pieces.RowPiece.{RowPiece}
 use Rattle.am_alertmanager.specs.declared.version_filter.VersionFilter.{VersionFilter}
 use Rattle.am_alertmanager.specs.declared.version_filter.VersionFilter.TheVariants.{Lacked, Given}
@@ -79,5 +79,5 @@ module _ {K X : Type 0} (seen : X → Version K) where
     pub parts : all ≡ looked ++ left
     pub chosen : List X
     pub tallies : Tallies passes withholds looked chosen old new
-    pub row : piece.row ≡ row_text seen chosen
+    pub row : piece.row ≡ row_encoding seen chosen
     pub next : piece.next ≡ first_key left

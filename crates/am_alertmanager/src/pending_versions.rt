@@ -8,7 +8,7 @@ use crate::sifting::sift;
 use crate::tally::{Tally, Withheld};
 use crate::version_filter::VersionFilter;
 use am_gossip::{Part, StateKey};
-use am_memberlist::{part_text, told_text};
+use am_memberlist::{part_encoding, told_encoding};
 use am_merge::Held;
 use am_nflog::MeshEntry;
 use am_silence::MeshSilence;
@@ -68,8 +68,8 @@ where
 
 /// Returns the message that tells a row.
 fn message_with(alloc: Global, key: StateKey, row: &[u8]) -> Result<Vec<u8>, AllocError> {
-    let part = part_text(alloc, key, row)?;
-    told_text(alloc, &part)
+    let part = part_encoding(alloc, key, row)?;
+    told_encoding(alloc, &part)
 }
 
 /// Takes the versions of a row, if it can be read by the policy for unknown fields.
@@ -186,8 +186,8 @@ impl PendingVersions {
         Ok(())
     }
 
-    /// Adds new versions, read by the policy for unknown fields. Returns whether there was room and memory for them; if not, all
-    /// versions that came are forgotten.
+    /// Adds new versions, read by the policy for unknown fields. Returns whether there was room and memory for them; if not,
+    /// all versions that came are forgotten.
     pub fn add(&mut self, alloc: Global, unknown: Unknown, part: &Part) -> bool
         // PROMISE: At most 16 MiB of new versions wait for an Alertmanager; where more come, all that came is forgotten.
         ensures bounded { self.new.waiting ≤ MOST_WAITING }

@@ -6,7 +6,7 @@ ghost use Rattle.am_alertmanager.specs.Heard.{heard_all, is_due_then, lost_all};
 use crate::pending_versions::PendingVersions;
 use crate::rounds::Rounds;
 use am_gossip::Frame;
-use am_memberlist::request_text;
+use am_memberlist::request_encoding;
 use am_version_order::Moment;
 use am_wire::Unknown;
 use std::alloc::{AllocError, Global};
@@ -153,7 +153,7 @@ impl Replica {
         }
         if self.is_asked_next(round) {
             self.is_due = false;
-            let request = request_text(alloc, &[])?;
+            let request = request_encoding(alloc, &[])?;
             self.way = Way::Asked;
             self.rounds.begin(round);
             return Ok(Some(request));

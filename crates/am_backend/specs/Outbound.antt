@@ -2,7 +2,7 @@
 use Rattle.std.specs.Prelude.{◌≡◌, ◌⊎◌, ℕ, ◌+◌, List, [], ◌++◌, length, slice_get, Option, Some, None, IsSomeAnd, Result, Ok, Err}
 use Rattle.std.specs.List.{flat_map}
 use Rattle.am_gossip.specs.declared.frame.Frame.{Frame}
-use Rattle.am_gossip.specs.Frames.{frame_text}
+use Rattle.am_gossip.specs.Frames.{frame_encoding}
 use Rattle.am_gossip.specs.declared.refusals.StepError.{StepError}
 use Rattle.am_instance.specs.Configs.{Settings}
 use Rattle.am_instance.specs.declared.reply.Outcome.{Outcome}
@@ -57,7 +57,7 @@ AreGone old new = ((old.frames ≡ []) × (new ≡ old)) ⊎ (new ≡ record (le
 
 -- The bytes are the text of frames as it goes to a peer: that of the frames, or what is sealed for the peer's name from a place in
 -- its connection on.
-abbrev pub IsTextFor : Option Lock → Settings → ℕ → Option Sequence → List Frame → List ℕ → Type 0
-IsTextFor None config peer from frames bytes = bytes ≡ flat_map frame_text frames
-IsTextFor (Some lock) config peer from frames bytes = (name : List ℕ) × (place : Sequence) × (slice_get config.members peer ≡ Some name) × (from ≡ Some place)
+abbrev pub IsEncodingFor : Option Lock → Settings → ℕ → Option Sequence → List Frame → List ℕ → Type 0
+IsEncodingFor None config peer from frames bytes = bytes ≡ flat_map frame_encoding frames
+IsEncodingFor (Some lock) config peer from frames bytes = (name : List ℕ) × (place : Sequence) × (slice_get config.members peer ≡ Some name) × (from ≡ Some place)
     × (bytes ≡ sealed_frames lock name place frames)

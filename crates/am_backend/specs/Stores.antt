@@ -10,7 +10,7 @@ use Rattle.am_instance.specs.Sendings.{Sent}
 use Rattle.am_instance.specs.InstanceStates.{InstanceState}
 use Rattle.am_nflog.specs.Mesh.{mesh_version as entry_version}
 use Rattle.am_silence.specs.Mesh.{mesh_version}
-use Rattle.am_snapshot.specs.Texts.{row_text}
+use Rattle.am_snapshot.specs.Encodings.{row_encoding}
 use Rattle.am_store.specs.Appending.{Appends, Commits, IfKept, IsBegunAnew, LogRows, log_of}
 use Rattle.am_store.specs.Calls.{Event}
 use Rattle.am_store.specs.Rewrites.{path_of}
@@ -130,8 +130,8 @@ HoldsRow row file = (before : List Event) × IsSaved file.path row before file.s
 -- Both states of an instance were saved, each in its own file, and their logs begun anew.
 pub record AreSaved (stand : InstanceState) (new : Store) : Type 0 where
   pub complete : behind new.commit_state ≡ false
-  pub silences : HoldsRow (row_text mesh_version stand.silences) new.silences_file
-  pub log : HoldsRow (row_text entry_version stand.log) new.log_file
+  pub silences : HoldsRow (row_encoding mesh_version stand.silences) new.silences_file
+  pub log : HoldsRow (row_encoding entry_version stand.log) new.log_file
   pub silences_anew : IsBegunAnew new.silences
   pub log_anew : IsBegunAnew new.log
 

@@ -8,7 +8,7 @@ ghost use Rattle.am_gossip.specs.declared.refusals.StepError.{StepError};
 ghost use Rattle.am_instance.specs.Sendings.{Sent};
 ghost use Rattle.am_peer_auth.specs.declared.seal.Lock.{Lock};
 ghost use Rattle.am_backend.specs.CommitStates.{disk_of};
-ghost use Rattle.am_backend.specs.Outbound.{AreGone, IsQueued, IsTaken, IsTextFor, left_out, outbound_of};
+ghost use Rattle.am_backend.specs.Outbound.{AreGone, IsQueued, IsTaken, IsEncodingFor, left_out, outbound_of};
 ghost use Rattle.am_backend.specs.Stores.{IsFollowed, IsKept, Store, store_of as backend_store};
 
 use crate::commit_state::CommitState;
@@ -101,13 +101,14 @@ pub trait Backend {
         ensures store { store_of self.new ≡ store_of self.old }
         ensures outbound { outbound self.new ≡ outbound self.old };
 
-    /// Returns whether the log has room for `notice` bytes of a notice. If it doesn't seem to, it is counted anew, once a second.
+    /// Returns whether the log has room for `notice` bytes of a notice. If it doesn't seem to, it is counted anew, once a
+    /// second.
     fn has_room_for_notice(&mut self, instance: &Instance, notice: u64) -> bool
         ensures store { store_of self.new ≡ store_of self.old }
         ensures outbound { outbound self.new ≡ outbound self.old };
 
-    /// Returns the moment of a Tick after the last event, unless that is too far ahead of the time that has passed, and the clock
-    /// isn't trusted.
+    /// Returns the moment of a Tick after the last event, unless that is too far ahead of the time that has passed, and the
+    /// clock isn't trusted.
     fn moment_of_tick(&self, last: Moment) -> Option<Moment>
         ensures { IfSome result (λ moment. last ≤ moment) };
 
@@ -117,8 +118,8 @@ pub trait Backend {
         ensures queue { (outbound self.new).frames ≡ (outbound self.old).frames };
 
     /// Saves both states, if something may have changed since the last save: when a save is due, and at the start, if a log
-    /// stands that is to go. Without logs that is before anything comes: what ended a version that such a log has would be in no
-    /// log, and could have gone before the log does.
+    /// stands that is to go. Without logs that is before anything comes: what ended a version that such a log has would be in
+    /// no log, and could have gone before the log does.
     fn save_owed(&mut self, instance: &Instance)
         ensures { (outbound self.new).frames ≡ (outbound self.old).frames };
 
@@ -128,13 +129,13 @@ pub trait Backend {
         ensures kept { IsKept instance.now (store_of self.old) (store_of self.new) }
         ensures queue { (outbound self.new).frames ≡ (outbound self.old).frames };
 
-    /// Does the next stage of the file that is being written anew, if the logs lack nothing, and returns the time until the next
-    /// one.
+    /// Does the next stage of the file that is being written anew, if the logs lack nothing, and returns the time until the
+    /// next one.
     fn compact(&mut self, instance: &Instance, now: Instant) -> Option<Duration>
         ensures { (outbound self.new).frames ≡ (outbound self.old).frames };
 
-    /// Tells that the clock is behind the moment of the last event, and that it no longer is; and that it went far ahead, unless
-    /// it is trusted.
+    /// Tells that the clock is behind the moment of the last event, and that it no longer is; and that it went far ahead,
+    /// unless it is trusted.
     fn look_at_clock(&mut self, instance: &Instance, now: Instant)
         ensures { (outbound self.new).frames ≡ (outbound self.old).frames };
 
@@ -176,8 +177,8 @@ pub trait Backend {
     fn sends_nothing(&self) -> bool
         ensures { IsTrue result ↔ ((outbound self.now).frames ≡ []) };
 
-    /// Takes out the frames that wait for the peer of the first of them, with its place. If there is no memory for that, all that
-    /// wait are told unsent.
+    /// Takes out the frames that wait for the peer of the first of them, with its place. If there is no memory for that, all
+    /// that wait are told unsent.
     fn next_frames(&mut self, config: &Config) -> Option<(Place, Vec<Frame>)>
         // PROMISE: The frames that wait for a peer are taken out at once, in order, and those for others wait on.
         ensures taken { IfSome result (λ taken. IsTaken taken.0 taken.1.items (outbound self.old) (outbound self.new)) }
@@ -190,7 +191,7 @@ pub trait Backend {
 
     /// Returns the text of frames for a peer, sealed from a place in its connection on if members have a secret. If there is
     /// none, the frames are told unsent.
-    fn text_of(
+    fn encoding_of(
         &mut self,
         config: &Config,
         peer: Place,
@@ -198,7 +199,7 @@ pub trait Backend {
         frames: &[Frame],
     ) -> Option<Vec<u8>>
         // PROMISE: The bytes for a peer are the text of just the frames that go to it, in order, or what is sealed for its name.
-        ensures text { IfSome result (λ bytes. IsTextFor (sealed_by self.old) config.now peer from frames.now bytes.items) }
+        ensures text { IfSome result (λ bytes. IsEncodingFor (sealed_by self.old) config.now peer from frames.now bytes.items) }
         ensures queue { (outbound self.new).frames ≡ (outbound self.old).frames }
         ensures unsent { IfNone result (outbound self.new ≡ left_out (length frames.now) (outbound self.old)) }
         ensures lock { sealed_by self.new ≡ sealed_by self.old };
@@ -218,8 +219,8 @@ pub trait Backend {
         ensures outbound { outbound self.new ≡ outbound self.old }
         ensures lock { sealed_by self.new ≡ sealed_by self.old };
 
-    /// Saves both states, now that nobody is served any more, be it because the listener failed. Returns the fault with which the
-    /// member ends: that of the listener, or else the reason why a state isn't saved, which is told.
+    /// Saves both states, now that nobody is served any more, be it because the listener failed. Returns the fault with which
+    /// the member ends: that of the listener, or else the reason why a state isn't saved, which is told.
     fn end(&mut self, instance: &Instance, failed: Option<Fault>) -> Option<Fault>
         ensures { (outbound self.new).frames ≡ (outbound self.old).frames };
 }
@@ -403,7 +404,7 @@ impl<R: AllocGlobal + Clock + Eprint + Files<File = File>> Backend for SystemBac
         self.lock.is_some()
     }
 
-    fn text_of(
+    fn encoding_of(
         &mut self,
         config: &Config,
         peer: Place,

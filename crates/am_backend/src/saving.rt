@@ -3,7 +3,7 @@
 ghost use Rattle.std.specs.Prelude.{◌≡◌, IfNone};
 ghost use Rattle.am_nflog.specs.Mesh.{mesh_version as entry_version};
 ghost use Rattle.am_silence.specs.Mesh.{mesh_version};
-ghost use Rattle.am_snapshot.specs.Texts.{row_text};
+ghost use Rattle.am_snapshot.specs.Encodings.{row_encoding};
 ghost use Rattle.am_store.specs.Appending.{IsBegunAnew, log_of};
 ghost use Rattle.am_backend.specs.Stores.{HasSaved, HoldsRow, MaySave, saved_file, store_of};
 
@@ -39,7 +39,7 @@ impl<R: AllocGlobal + Clock + Eprint + Files<File = File>> SystemBackend<'_, R> 
 
     /// Saves the silences, and returns the reason why they are not saved, if they aren't, which is told.
     fn save_silences(&mut self, instance: &Instance) -> Option<Fault>
-        ensures saved { IfNone result (HoldsRow (row_text mesh_version instance.now.silences) (saved_file self.new.silences)) }
+        ensures saved { IfNone result (HoldsRow (row_encoding mesh_version instance.now.silences) (saved_file self.new.silences)) }
         ensures anew { IfNone result (IsBegunAnew (log_of self.new.silences)) }
         ensures commit_state { self.new.commit_state ≡ self.old.commit_state }
         ensures log { log_of self.new.log ≡ log_of self.old.log }
@@ -64,7 +64,7 @@ impl<R: AllocGlobal + Clock + Eprint + Files<File = File>> SystemBackend<'_, R> 
 
     /// Saves the log, and returns the reason why it is not saved, if it isn't, which is told.
     fn save_log(&mut self, instance: &Instance) -> Option<Fault>
-        ensures saved { IfNone result (HoldsRow (row_text entry_version instance.now.log) (saved_file self.new.log)) }
+        ensures saved { IfNone result (HoldsRow (row_encoding entry_version instance.now.log) (saved_file self.new.log)) }
         ensures anew { IfNone result (IsBegunAnew (log_of self.new.log)) }
         ensures commit_state { self.new.commit_state ≡ self.old.commit_state }
         ensures silences { log_of self.new.silences ≡ log_of self.old.silences }

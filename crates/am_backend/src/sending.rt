@@ -3,7 +3,7 @@
 ghost use Rattle.std.specs.Prelude.{◌≡◌, ◌⊎◌, IfSome, length};
 ghost use Rattle.am_peers.specs.Queues.{frames_for};
 ghost use Rattle.am_backend.specs.CommitStates.{disk_of};
-ghost use Rattle.am_backend.specs.Outbound.{IsTextFor, for_peers, left_out, outbound_of, with_queued};
+ghost use Rattle.am_backend.specs.Outbound.{IsEncodingFor, for_peers, left_out, outbound_of, with_queued};
 ghost use Rattle.am_backend.specs.Stores.{GoesOn, IsLogged, store_of};
 
 use crate::system_backend::SystemBackend;
@@ -11,8 +11,8 @@ use am_diagnostics::{Diagnostic, Fault};
 use am_gossip::Frame;
 use am_instance::{Config, Place};
 use am_options::Options;
-use am_peer_auth::{Lock, Secret, Sequence, sealed_text};
-use am_peers::frames_text;
+use am_peer_auth::{Lock, Secret, Sequence, sealed_encoding};
+use am_peers::frames_encoding;
 use std::rt::Clock;
 
 /// Returns the lock by which members of a cluster know one another: the secret, if they have one, and the name of this one.
@@ -27,8 +27,8 @@ pub fn lock_of<'a>(options: &Options<'a>, secret: &'a Option<Secret>) -> Option<
 }
 
 impl<R: AllocGlobal> SystemBackend<'_, R> {
-    /// Returns the bytes of frames for a peer, sealed from a place in its connection on if members have a secret: then there are
-    /// none without a place. If there is no memory for them, there are none.
+    /// Returns the bytes of frames for a peer, sealed from a place in its connection on if members have a secret: then there
+    /// are none without a place. If there is no memory for them, there are none.
     pub(crate) fn bytes_for(
         &self,
         config: &Config,
@@ -36,14 +36,14 @@ impl<R: AllocGlobal> SystemBackend<'_, R> {
         from: Option<Sequence>,
         frames: &[Frame],
     ) -> Option<Vec<u8>>
-        ensures { IfSome result (λ bytes. IsTextFor self.now.lock config.now peer from frames.now bytes.items) }
+        ensures { IfSome result (λ bytes. IsEncodingFor self.now.lock config.now peer from frames.now bytes.items) }
     {
         let alloc = self.rt.alloc();
         let Some(lock) = self.lock else {
-            return frames_text(alloc, frames).ok();
+            return frames_encoding(alloc, frames).ok();
         };
         let name = config.members().get(peer as usize)?;
-        match sealed_text(alloc, lock, name.as_str(), from?, frames) {
+        match sealed_encoding(alloc, lock, name.as_str(), from?, frames) {
             Ok(sealed) => Some(sealed.text),
             Err(_) => None,
         }

@@ -16,7 +16,7 @@ use Rattle.am_silence.specs.RoundTrip.{plain_again}
 use Rattle.am_nflog.specs.Mesh.{Mesh as LogMesh, IsMesh as IsLogMesh, mesh_version as entry_version, without_unknown as entry_without_unknown, writes_mesh_entry}
 use Rattle.am_nflog.specs.MeshTable.{reads_mesh_entry}
 use Rattle.am_nflog.specs.RoundTrip.{plain_again as plain_log_again}
-use Rattle.am_snapshot.specs.Texts.{row_text}
+use Rattle.am_snapshot.specs.Encodings.{row_encoding}
 use Rattle.am_snapshot.proofs.ReadAgain.{versions_read}
 use Rattle.am_gossip.specs.declared.frame.Part.{Part}
 use Rattle.am_gossip.specs.declared.frame.StateKey.TheVariants.{Sil, Nfl}
@@ -26,12 +26,12 @@ use Rattle.am_cluster.specs.Versions.{IsReadAgain}
 use Rattle.am_cluster.proofs.RoundTrip.{all_before, none_at_fault, read_each}
 
 module _ {K X : Type 0} (seen : X → Version K) (reads : Unknown → ℕ → List ℕ → Result X WireError) where
-  rows_read : (versions : List X) (at : ℕ) → All (IsReadAgain seen reads) versions → (unknown : Unknown) → messages_from (reads unknown) at (row_text seen versions) ≡ map sound versions
+  rows_read : (versions : List X) (at : ℕ) → All (IsReadAgain seen reads) versions → (unknown : Unknown) → messages_from (reads unknown) at (row_encoding seen versions) ≡ map sound versions
   rows_read versions at good unknown = versions_read seen (reads unknown) versions at (λ k v inside place small. (good k v inside).reads_as unknown place) (λ k v inside. (good k v inside).within)
 
   -- what was written of lines, and that it is read again
   pub record IsRowOf {L : Type 0} (version : L → X) (lines : List L) (row : List ℕ) : Type 0 where
-    pub text : row ≡ row_text seen (map version lines)
+    pub text : row ≡ row_encoding seen (map version lines)
     pub good : All (IsReadAgain seen reads) (map version lines)
 
   module _ {L : Type 0} (version : L → X) (lines : List L) where
@@ -47,9 +47,9 @@ module _ {K X : Type 0} (seen : X → Version K) (reads : Unknown → ℕ → Li
         record {
           text = written
               ∙ ap (λ (bytes : List ℕ). bytes ++ delimited (seen v).content) so_far.text
-              ∙ ap (λ (bytes : List ℕ). row_text seen (map version (take i lines)) ++ bytes) (sym (append-nil (delimited (seen v).content)))
+              ∙ ap (λ (bytes : List ℕ). row_encoding seen (map version (take i lines)) ++ bytes) (sym (append-nil (delimited (seen v).content)))
               ∙ sym (flat_map-append (λ (w : X). delimited (seen w).content) (map version (take i lines)) (v ∷ []))
-              ∙ ap (row_text seen) (sym behind);
+              ∙ ap (row_encoding seen) (sym behind);
           good = subst (All (IsReadAgain seen reads)) (sym behind) (All-append (IsReadAgain seen reads) (map version (take i lines)) (v ∷ []) so_far.good (All-cons (IsReadAgain seen reads) v [] good (All-nil (IsReadAgain seen reads))));
         }
 

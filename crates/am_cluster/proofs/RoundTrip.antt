@@ -23,7 +23,7 @@ use Rattle.am_gossip.specs.declared.frame.StateKey.TheVariants.{Sil, Nfl}
 use Rattle.am_gossip.specs.Frames.{fits}
 use Rattle.am_gossip.specs.Parts.{writes_part, writes_parts}
 use Rattle.am_gossip.proofs.Limits.{part_holds, states_hold}
-use Rattle.am_snapshot.specs.Texts.{row_text}
+use Rattle.am_snapshot.specs.Encodings.{row_encoding}
 use Rattle.am_snapshot.proofs.Fits.{shorts}
 use Rattle.am_snapshot.proofs.ReadAgain.{IsReadBack, versions_read}
 use Rattle.am_instance.specs.Deliveries.{Delivery, IsWhole, read_as, before_fault, first_fault, rows_of, rows_in, parts_of}
@@ -62,10 +62,10 @@ All-unmap P f [] all = All-nil (λ x. P (f x))
 All-unmap P f (x ∷ xs) all = All-cons (λ y. P (f y)) x xs (All-head P (f x) (map f xs) all) (All-unmap P f xs (All-tail P (f x) (map f xs) all))
 
 abbrev silence_part : List Mesh → Part
-silence_part vs = record { key = Sil; bytes = row_text mesh_version vs }
+silence_part vs = record { key = Sil; bytes = row_encoding mesh_version vs }
 
 abbrev entry_part : List LogMesh → Part
-entry_part es = record { key = Nfl; bytes = row_text entry_version es }
+entry_part es = record { key = Nfl; bytes = row_encoding entry_version es }
 
 silence_rows : (unknown : Unknown) (vs : List Mesh) → All (IsReadable unknown) (map OfSilence vs) → rows_of unknown (silence_part vs) ≡ map read (map OfSilence vs)
 unfolding rows_of
@@ -121,10 +121,10 @@ pub whole_carries : (unknown : Unknown) (silences : List Mesh) (log : List LogMe
 whole_carries unknown silences log is are = ap before_fault (whole_rows unknown silences log is are) ∙ all_before (held_in silences log)
 
 -- ---- what is readable
-pub silences_readable : (unknown : Unknown) (vs : List Mesh) → All IsMesh vs → All (StaysWhole without_unknown unknown) vs → length (row_text mesh_version vs) ≤ most → All (IsReadable unknown) (map OfSilence vs)
+pub silences_readable : (unknown : Unknown) (vs : List Mesh) → All IsMesh vs → All (StaysWhole without_unknown unknown) vs → length (row_encoding mesh_version vs) ≤ most → All (IsReadable unknown) (map OfSilence vs)
 silences_readable unknown vs is whole small = All-map (IsReadable unknown) OfSilence vs (λ k v within. record { value = is k v within; short = shorts mesh_version vs small k v within; whole = whole k v within })
 
-pub entries_readable : (unknown : Unknown) (es : List LogMesh) → All IsLogMesh es → All (StaysWhole entry_without_unknown unknown) es → length (row_text entry_version es) ≤ most → All (IsReadable unknown) (map OfEntry es)
+pub entries_readable : (unknown : Unknown) (es : List LogMesh) → All IsLogMesh es → All (StaysWhole entry_without_unknown unknown) es → length (row_encoding entry_version es) ≤ most → All (IsReadable unknown) (map OfEntry es)
 entries_readable unknown es is whole small = All-map (IsReadable unknown) OfEntry es (λ k e within. record { value = is k e within; short = shorts entry_version es small k e within; whole = whole k e within })
 
 delta_within : (part : Part) (content : List ℕ) → part.bytes ≡ delimited content → nat_le (length (writes_part part)) 4_194_304 ≡ true → length content ≤ most
@@ -143,7 +143,7 @@ pub whole_readable : (unknown : Unknown) (silences : List Mesh) (log : List LogM
     → All (StaysWhole without_unknown unknown) silences → All (StaysWhole entry_without_unknown unknown) log
     → nat_le (length (writes_parts (whole_state silences log))) 67_108_864 ≡ true → All (IsReadable unknown) (map OfSilence silences) × All (IsReadable unknown) (map OfEntry log)
 whole_readable unknown silences log is are whole entries_whole fitting =
-    let hold = states_hold (row_text mesh_version silences) (row_text entry_version log) in
+    let hold = states_hold (row_encoding mesh_version silences) (row_encoding entry_version log) in
     let small : length (writes_parts (whole_state silences log)) ≤ 67_108_864 = leb-true (length (writes_parts (whole_state silences log))) 67_108_864 fitting in
     (silences_readable unknown silences is whole (omega (arith, hold, small)), entries_readable unknown log are entries_whole (omega (arith, hold, small)))
 

@@ -11,7 +11,7 @@ use Rattle.am_instance.specs.Sendings.{whole_state}
 use Rattle.am_instance.specs.Deliveries.Delivery.{OfEntry, OfSilence}
 use Rattle.am_instance.specs.Laws.{HasMaps}
 use Rattle.am_instance.specs.InstanceStates.{InstanceState}
-use Rattle.am_snapshot.specs.Texts.{row_text}
+use Rattle.am_snapshot.specs.Encodings.{row_encoding}
 use Rattle.am_wire.specs.Limits.{most}
 use Rattle.am_merge.specs.Maps.{at, swept}
 use Rattle.am_cluster.specs.BothStates.{StateOf, log_state, silence_state}
@@ -39,8 +39,8 @@ pub record CanLend (stand : InstanceState) : Type 0 where
   pub maps : HasMaps stand
   pub silences : (unknown : Unknown) → All (IsReadable unknown) (map OfSilence stand.silences)
   pub log : (unknown : Unknown) → All (IsReadable unknown) (map OfEntry stand.log)
-  pub silences_fit : length (row_text mesh_version stand.silences) ≤ most
-  pub log_fit : length (row_text entry_version stand.log) ≤ most
+  pub silences_fit : length (row_encoding mesh_version stand.silences) ≤ most
+  pub log_fit : length (row_encoding entry_version stand.log) ≤ most
 
 -- ---- the turns of a settle
 

@@ -10,7 +10,7 @@ use Rattle.am_silence.specs.declared.matcher.MatcherKind.TheVariants as kinds
 use Rattle.am_silence.specs.Mesh.{Mesh, mesh_version, plain_version}
 use Rattle.am_nflog.specs.declared.receiver.Receiver.{Receiver}
 use Rattle.am_nflog.specs.Mesh.{Mesh as LogMesh, mesh_version as entry_version, plain_version as plain_entry}
-use Rattle.am_snapshot.specs.Texts.{row_text}
+use Rattle.am_snapshot.specs.Encodings.{row_encoding}
 use Rattle.am_gossip.specs.declared.frame.Part.{Part}
 use Rattle.am_gossip.specs.declared.frame.StateKey.TheVariants.{Sil, Nfl}
 use Rattle.am_instance.specs.Deliveries.{Delivery}
@@ -61,10 +61,10 @@ abbrev pub versions_of : Versions → List Delivery
 versions_of (states.Silences lines) = map OfSilence (map silence_of lines)
 versions_of (states.Log lines) = map OfEntry (map entry_of lines)
 
--- the part that is written of versions: their state, and the row of their canonical texts
+-- the part that is written of versions: their state, and the row of their canonical encodings
 abbrev pub part_of : Versions → Part
-part_of (states.Silences lines) = record { key = Sil; bytes = row_text mesh_version (map silence_of lines) }
-part_of (states.Log lines) = record { key = Nfl; bytes = row_text entry_version (map entry_of lines) }
+part_of (states.Silences lines) = record { key = Sil; bytes = row_encoding mesh_version (map silence_of lines) }
+part_of (states.Log lines) = record { key = Nfl; bytes = row_encoding entry_version (map entry_of lines) }
 
 -- the update moment of a version
 abbrev pub updated : Delivery → ℕ

@@ -4,7 +4,7 @@ ghost use Rattle.std.specs.Prelude.{◌≡◌, ◌++◌, ℕ, map, IfOk, OnOk};
 ghost use Rattle.am_wire.specs.Inputs.{AreMessages};
 ghost use Rattle.am_wire.specs.Writing.{delimited};
 ghost use Rattle.am_wire.specs.declared.unknown.Unknown.{Unknown};
-ghost use Rattle.am_snapshot.specs.Texts.{row_text};
+ghost use Rattle.am_snapshot.specs.Encodings.{row_encoding};
 ghost use Rattle.am_cluster.specs.Versions.{IsReadAgain, least};
 
 use am_schedule::Shared;
@@ -64,7 +64,7 @@ pub(crate) fn row<V: Record, L: VersionLine<V>>(
     alloc: Global,
     lines: &[Shared<L>],
 ) -> Result<Bytes, AllocError>
-    ensures row { IfOk result (λ row. row ≡ row_text V.seen (map L.version_of lines.now)) }
+    ensures row { IfOk result (λ row. row ≡ row_encoding V.seen (map L.version_of lines.now)) }
     ensures read { IfOk result (λ row. (unknown : Unknown) → AreMessages (V.reads unknown) row (map L.version_of lines.now)) }
 {
     let mut row = Vec::new(alloc);

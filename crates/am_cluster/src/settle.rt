@@ -7,7 +7,7 @@ ghost use Rattle.am_silence.specs.Mesh.{mesh_version};
 ghost use Rattle.am_nflog.specs.Mesh.{mesh_version as entry_version};
 ghost use Rattle.am_gossip.specs.declared.frame.Frame.TheVariants as frames;
 ghost use Rattle.am_wire.specs.Limits.{most};
-ghost use Rattle.am_snapshot.specs.Texts.{row_text};
+ghost use Rattle.am_snapshot.specs.Encodings.{row_encoding};
 ghost use Rattle.am_instance.specs.Configs.{Settings};
 ghost use Rattle.am_instance.specs.Deliveries.Delivery.{OfEntry, OfSilence};
 ghost use Rattle.am_instance.specs.InstanceStates.{HoldsWhole};
@@ -46,8 +46,8 @@ fn frame_of(alloc: Global, instance: &Instance) -> Result<Frame, AllocError>
     ensures frame { IfOk result (λ frame. frame ≡ frames.Pull (whole_state instance.now.silences instance.now.log)) }
     ensures silences { OnOk result ((unknown : Unknown) → All (IsReadable unknown) (map OfSilence instance.now.silences)) }
     ensures log { OnOk result ((unknown : Unknown) → All (IsReadable unknown) (map OfEntry instance.now.log)) }
-    ensures silences_fit { OnOk result (length (row_text mesh_version instance.now.silences) ≤ most) }
-    ensures log_fit { OnOk result (length (row_text entry_version instance.now.log) ≤ most) }
+    ensures silences_fit { OnOk result (length (row_encoding mesh_version instance.now.silences) ≤ most) }
+    ensures log_fit { OnOk result (length (row_encoding entry_version instance.now.log) ≤ most) }
     ensures maps { HasMaps instance.now }
 {
     what_keeps_its_limit_is_readable();

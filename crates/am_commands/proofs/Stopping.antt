@@ -5,7 +5,7 @@ use Rattle.std.specs.declared.cmp.Ordering.{Ordering}
 use Rattle.am_version_order.specs.Versions.{Version}
 use Rattle.am_report.specs.Sources.{Source}
 use Rattle.am_snapshot.specs.Saving.{StopsSaving}
-use Rattle.am_snapshot.specs.Texts.{row_text}
+use Rattle.am_snapshot.specs.Encodings.{row_encoding}
 use Rattle.am_snapshot.specs.declared.error.SnapshotError.{SnapshotError}
 use Rattle.am_snapshot.specs.declared.error.SnapshotError.TheVariants.{Read, Write, Wire, DuplicateKey, TooLarge, Memory}
 use Rattle.am_commands.specs.declared.fault.SourceFault.{SourceFault}
@@ -18,12 +18,12 @@ use Rattle.am_commands.specs.Telling.{StopsTelling}
 module _ {K X S W : Type 0} (seen : X → Version K) (cmp : K → K → Ordering) (gives : S → List X → Type 0) (stops : S → SourceFault → Type 0)
     (inputs : List (Input S)) (contents : W → Option (List ℕ)) where
   pub unsaved_fold : (old new : W) (sources : List (Source X)) (held : List X) → AllZip (IsRead seen cmp gives) inputs sources
-      → IsFoldOf seen cmp sources held → (e : SnapshotError) → StopsSaving contents old new (row_text seen held) e
+      → IsFoldOf seen cmp sources held → (e : SnapshotError) → StopsSaving contents old new (row_encoding seen held) e
       → StopsTelling seen cmp gives inputs contents (IsFoldRow seen cmp) stops old new (stopped.Told e)
   unsaved_fold old new sources held read folded (Write k) saving = record {
     sources = sources;
     read = read;
-    text = row_text seen held;
+    text = row_encoding seen held;
     is = (held, folded, refl);
     part = saving.0;
     written = saving.1;

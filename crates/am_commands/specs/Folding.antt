@@ -7,7 +7,7 @@ use Rattle.am_options.specs.declared.job.FoldJob.{FoldJob}
 use Rattle.am_options.specs.declared.source.TheConstants.{STANDARD_INPUT}
 use Rattle.am_version_order.specs.Versions.{Version}
 use Rattle.am_merge.specs.Maps.{IsMap, at, greater_of}
-use Rattle.am_snapshot.specs.Texts.{row_text}
+use Rattle.am_snapshot.specs.Encodings.{row_encoding}
 use Rattle.am_report.specs.Sources.{Source}
 use Rattle.am_commands.specs.declared.opened.Keys.TheVariants.{Repeated}
 use Rattle.am_commands.specs.Opening.{Named, Wanted}
@@ -41,4 +41,4 @@ module _ {K X : Type 0} (seen : X → Version K) (cmp : K → K → Ordering) wh
 
   -- the row of that map, in the order of the keys
   abbrev pub IsFoldRow : List (Source X) → List ℕ → Type 0
-  IsFoldRow sources row = (held : List X) × IsFoldOf sources held × (row ≡ row_text seen held)
+  IsFoldRow sources row = (held : List X) × IsFoldOf sources held × (row ≡ row_encoding seen held)

@@ -11,7 +11,7 @@ use crate::replica::{exchange, key_of};
 use am_alertmanager::{Candidate, Refused, is_lacked, lacked, why_refused};
 use am_diagnostics::Fault;
 use am_matcher::Hazard;
-use am_memberlist::states_text;
+use am_memberlist::states_encoding;
 use am_merge::Held;
 use am_options::PullJob;
 use am_report::{Format, ListedWord, ReportLine};
@@ -38,7 +38,7 @@ impl<V: Version> Sent<V> {
         if self.rows.is_empty() {
             return Ok(());
         }
-        let Ok(states) = states_text(rt.alloc(), key_of(to.state), &self.rows) else {
+        let Ok(states) = states_encoding(rt.alloc(), key_of(to.state), &self.rows) else {
             return Err(SourceFault::Own(Fault::Memory(AllocError)));
         };
         exchange(rt, to, &states)?;
@@ -144,8 +144,8 @@ impl<V: Candidate + Message + ReportLine> Mending<V> {
         Ok(())
     }
 
-    /// Appends a line for each version that is sent to a replica, and for each that isn't since it is later than the moment or has
-    /// a hazard. Returns whether there is one of these.
+    /// Appends a line for each version that is sent to a replica, and for each that isn't since it is later than the moment or
+    /// has a hazard. Returns whether there is one of these.
     ///
     /// # Errors
     ///
@@ -171,8 +171,8 @@ impl<V: Candidate + Message + ReportLine> Mending<V> {
         Ok(holds_back)
     }
 
-    /// Returns what the line of a version that the replica lacks and isn't sent says: that it is later than the moment, or that it
-    /// is refused for its hazard.
+    /// Returns what the line of a version that the replica lacks and isn't sent says: that it is later than the moment, or that
+    /// it is refused for its hazard.
     fn why_held_back(&self, alloc: Global, version: &V) -> Result<Option<Said>, AllocError> {
         if self.moment < version.updated() {
             return Ok(Some(Said::of("later")));

@@ -5,9 +5,9 @@ use crate::host::{Host, Streams};
 use crate::losses::warn_of_row;
 use crate::replica::{NO_STATES, answer_of, row_of};
 use am_diagnostics::{Fault, status};
-use am_nflog::EntryText;
+use am_nflog::EncodedEntry;
 use am_options::{PullJob, StateName};
-use am_silence::SilenceText;
+use am_silence::EncodedSilence;
 use am_snapshot::{SnapshotError, sort_row};
 use am_wire::Unknown;
 
@@ -35,13 +35,18 @@ fn pull<R: Host>(rt: &R, streams: Streams, job: &PullJob<'_>) -> Result<(), Stop
     };
     warn_of_row(rt, job.state, row);
     let written = match job.state {
-        StateName::Silences => sort_row::<SilenceText<'_>, _>(
+        StateName::Silences => sort_row::<EncodedSilence<'_>, _>(
             rt.alloc(),
             Unknown::Keep,
             row,
             &mut output,
         ),
-        StateName::Log => sort_row::<EntryText<'_>, _>(rt.alloc(), Unknown::Keep, row, &mut output),
+        StateName::Log => sort_row::<EncodedEntry<'_>, _>(
+            rt.alloc(),
+            Unknown::Keep,
+            row,
+            &mut output,
+        ),
     };
     match written {
         Ok(_) => Ok(()),

@@ -5,7 +5,7 @@ use crate::host::Host;
 use crate::opened::{Origin, Row, row_from};
 use am_diagnostics::Fault;
 use am_gossip::StateKey;
-use am_memberlist::{AnswerError, Said, read_message, request_text, row_in, unpack_answer};
+use am_memberlist::{AnswerError, Said, read_message, request_encoding, row_in, unpack_answer};
 use am_merge::Held;
 use am_options::{PullJob, StateName};
 use am_peers::ask;
@@ -18,9 +18,9 @@ use std::io::{self, BufReader, Read};
 /// The maximum number of bytes to which an answer is unpacked.
 const MOST_BYTES: usize = 268_435_456;
 
-/// The states that go with a pull: none, in ten bytes of a field that nobody reads. Their count, which ends the head of the request,
-/// is a line feed, and so are some of them: who listens for HTTP sees a request that is none, and refuses it at once, where it
-/// would wait for the end of its first line.
+/// The states that go with a pull: none, in ten bytes of a field that nobody reads. Their count, which ends the head of the
+/// request, is a line feed, and so are some of them: who listens for HTTP sees a request that is none, and refuses it at once,
+/// where it would wait for the end of its first line.
 pub const NO_STATES: &[u8] = b"\x7a\x08\r\n\r\n\r\n\r\n";
 
 /// The maximum number of bytes of a replica's own words that are kept.
@@ -59,7 +59,8 @@ enum Answer<'m> {
     Words(&'m [u8]),
 }
 
-/// Sends a replica states, perhaps none, and returns the row of a state that it held before. Once it has answered it has taken them.
+/// Sends a replica states, perhaps none, and returns the row of a state that it held before. Once it has answered it has taken
+/// them.
 pub fn exchange<R: Host>(rt: &R, job: &PullJob<'_>, states: &[u8]) -> Result<Vec<u8>, SourceFault> {
     let message = answer_of(rt, job, states)?;
     let row = row_of(rt.alloc(), job, &message)?;
@@ -81,7 +82,7 @@ pub fn answer_of<R: Host>(
 /// Sends a replica states, and returns its message, or why there is none.
 fn message_of<R: Host>(rt: &R, job: &PullJob<'_>, states: &[u8]) -> Result<Vec<u8>, Fault> {
     let alloc = rt.alloc();
-    let request = request_text(alloc, states)?;
+    let request = request_encoding(alloc, states)?;
     let answer = ask(alloc, rt, &job.replica, &request, job.time_limit)?;
     Ok(unpack_answer(alloc, answer, MOST_BYTES)?)
 }

@@ -7,7 +7,7 @@ ghost use Rattle.am_connection.specs.Sending.{IsSentAs, outgoing_text};
 ghost use Rattle.am_connection.specs.declared.sending.SendError.TheVariants as errors;
 
 use am_gossip::{Frame, FrameError};
-use am_peers::{frames_text, greeting};
+use am_peers::{frames_encoding, greeting};
 use std::alloc::Global;
 use std::io;
 use thiserror::Error;
@@ -38,7 +38,7 @@ fn outgoing(alloc: Global, name: &str, frames: &[Frame]) -> Result<Vec<u8>, Send
     ensures too_long { (result ≡ Err errors.Length) ↔ ((is_name name.now && all_fit frames.now) ≡ false) }
     ensures refused { IfErr result (λ e. (e ≡ errors.Memory) ⊎ (e ≡ errors.Length)) }
 {
-    let (greeting, frames) = (greeting(alloc, name), frames_text(alloc, frames));
+    let (greeting, frames) = (greeting(alloc, name), frames_encoding(alloc, frames));
     if is_too_long(&greeting) || is_too_long(&frames) {
         return Err(SendError::Length);
     }
@@ -55,8 +55,8 @@ fn outgoing(alloc: Global, name: &str, frames: &[Frame]) -> Result<Vec<u8>, Send
 ///
 /// # Errors
 ///
-/// [`SendError::Length`] if the name or a frame is over its limit, however much memory there is, and [`SendError::Memory`], both
-/// before a byte goes out; [`SendError::Write`] at the first call that fails or takes nothing, which is not tried again.
+/// [`SendError::Length`] if the name or a frame is over its limit, however much memory there is, and [`SendError::Memory`],
+/// both before a byte goes out; [`SendError::Write`] at the first call that fails or takes nothing, which is not tried again.
 pub fn send<W: io::Write>(
     alloc: Global,
     name: &str,

@@ -6,7 +6,7 @@ use Rattle.std.specs.Prelude.{IfNone, IfSome, IsSomeAnd, MatchOption, slice_get,
 use Rattle.am_instance.specs.Configs.{Settings}
 use Rattle.am_instance.specs.Sendings.{Sent}
 use Rattle.am_peers.specs.Queues.{frames_beside}
-use Rattle.am_backend.specs.Outbound.{AreGone, IsTaken, IsTextFor, left_out}
+use Rattle.am_backend.specs.Outbound.{AreGone, IsTaken, IsEncodingFor, left_out}
 use Rattle.am_peer_auth.specs.declared.sequence.Sequence.{Sequence}
 use Rattle.am_daemon.specs.Offers.{AreHandedOn, AreKeptBack, AreLost, AreNext, ForPeers, IsGiven, IsPutBy, Passes, PutBy, gone_on, nothing_put_by, place_in, put_behind, put_by_for, put_by_of, with_put_by}
 use Rattle.am_gossip.specs.declared.frame.Frame.{Frame}
@@ -117,19 +117,19 @@ module _ {V : Type 0} (bytes_in : V → List ℕ) (config : Settings) (peer : �
   AreSettled result new = MatchOption result ((new ≡ record (with_put_by peer (put_by_for new peer) was) { queue = new.queue }) × AreLost (put_by_for was peer).frames was.queue new.queue)
       (λ bytes. IsGiven config peer answer (Some (bytes_in bytes)) was new)
 
-  settled : (result : Option V) → queue.frames ≡ was.queue.frames → IfSome result (λ bytes. IsTextFor was.lock config peer from frames (bytes_in bytes)) →
+  settled : (result : Option V) → queue.frames ≡ was.queue.frames → IfSome result (λ bytes. IsEncodingFor was.lock config peer from frames (bytes_in bytes)) →
       IfNone result (queue ≡ left_out (length frames) was.queue) → AreSettled result (record (with_put_by peer it was) { queue = queue })
   unfolding AreSettled
   settled None kept text unsent = (there_now was peer it queue within, inr (frames, next, unsent))
   settled (Some bytes) kept text unsent = (
     frames,
     next,
-    subst (λ (f : Option Sequence). IsTextFor was.lock config peer f frames (bytes_in bytes)) place text,
+    subst (λ (f : Option Sequence). IsEncodingFor was.lock config peer f frames (bytes_in bytes)) place text,
     (ap (λ (i : PutBy). record (with_put_by peer i was) { queue = queue }) is, kept),
   )
 
   pub text_given : (result : Option V) (config' : Settings) (frames' : List Frame) (mid new : ForPeers) → config' ≡ config → frames' ≡ frames → mid ≡ with_put_by peer it was →
-      new ≡ record mid { queue = queue } → queue.frames ≡ mid.queue.frames → IfSome result (λ bytes. IsTextFor mid.lock config' peer from frames' (bytes_in bytes)) →
+      new ≡ record mid { queue = queue } → queue.frames ≡ mid.queue.frames → IfSome result (λ bytes. IsEncodingFor mid.lock config' peer from frames' (bytes_in bytes)) →
       IfNone result (queue ≡ left_out (length frames') mid.queue) →
       MatchOption result ((new ≡ record (with_put_by peer (put_by_for new peer) was) { queue = new.queue }) × AreLost (put_by_for was peer).frames was.queue new.queue)
       (λ bytes. IsGiven config peer answer (Some (bytes_in bytes)) was new)
@@ -137,8 +137,8 @@ module _ {V : Type 0} (bytes_in : V → List ℕ) (config : Settings) (peer : �
   text_given result config' frames' mid new same_config same_frames taken left kept text unsent = subst (λ (n : ForPeers). AreSettled result n)
       (sym (left ∙ ap (λ (m : ForPeers). record m { queue = queue }) taken))
       (settled result (kept ∙ ap (λ (m : ForPeers). m.queue.frames) taken)
-      (subst (λ (m : ForPeers). IfSome result (λ bytes. IsTextFor m.lock config peer from frames (bytes_in bytes))) taken
-      (subst (λ (fs : List Frame). IfSome result (λ bytes. IsTextFor mid.lock config peer from fs (bytes_in bytes))) same_frames
-      (subst (λ (k : Settings). IfSome result (λ bytes. IsTextFor mid.lock k peer from frames' (bytes_in bytes))) same_config text)))
+      (subst (λ (m : ForPeers). IfSome result (λ bytes. IsEncodingFor m.lock config peer from frames (bytes_in bytes))) taken
+      (subst (λ (fs : List Frame). IfSome result (λ bytes. IsEncodingFor mid.lock config peer from fs (bytes_in bytes))) same_frames
+      (subst (λ (k : Settings). IfSome result (λ bytes. IsEncodingFor mid.lock k peer from frames' (bytes_in bytes))) same_config text)))
       (subst (λ (m : ForPeers). IfNone result (queue ≡ left_out (length frames) m.queue)) taken
       (subst (λ (fs : List Frame). IfNone result (queue ≡ left_out (length fs) mid.queue)) same_frames unsent)))

@@ -2,13 +2,13 @@
 use Rattle.std.specs.Prelude.{◌≡◌, ◌⊎◌, ℕ, ◌+◌, Bool, true, false, if◌then◌else◌, nat_le, List, [], ◌∷◌, ◌++◌, length, take, map, slice_set, slice_index_or, Option, Some, None, is_some}
 use Rattle.std.specs.List.{flat_map}
 use Rattle.std.specs.declared.net.SocketAddr.{SocketAddr}
-use Rattle.am_gossip.specs.Frames.{frame_text}
+use Rattle.am_gossip.specs.Frames.{frame_encoding}
 use Rattle.am_gossip.specs.declared.frame.Frame.{Frame}
 use Rattle.am_instance.specs.Configs.{Settings}
 use Rattle.am_instance.specs.Sendings.{Sent, capped}
 use Rattle.am_peer_auth.specs.declared.seal.Lock.{Lock}
 use Rattle.am_peer_auth.specs.declared.sequence.Sequence.{Sequence}
-use Rattle.am_backend.specs.Outbound.{AreGone, IsTaken, IsTextFor, left_out}
+use Rattle.am_backend.specs.Outbound.{AreGone, IsTaken, IsEncodingFor, left_out}
 use Rattle.am_daemon.specs.declared.member.pending_frames.PendingFrames.{PendingFrames}
 use Rattle.am_daemon.specs.declared.member.server_state.ServerState.{ServerState}
 
@@ -81,7 +81,7 @@ AreKeptBack (Some lock) peer frames old new = IsPutBy peer frames false old new
 
 -- Bytes are given for a peer's frames, by this lock: their text; or none, which opens a link, and the frames are put by.
 abbrev pub AreGiven : Option Lock → ℕ → List Frame → List ℕ → ForPeers → ForPeers → Type 0
-AreGiven None peer frames bytes old new = (bytes ≡ flat_map frame_text frames) × OnlyCounts old new
+AreGiven None peer frames bytes old new = (bytes ≡ flat_map frame_encoding frames) × OnlyCounts old new
 AreGiven (Some lock) peer frames bytes old new = (bytes ≡ []) × IsPutBy peer frames true old new
 
 -- The frames for a place that are taken out are handed to the Alertmanager there, or are kept back.
@@ -140,6 +140,6 @@ AreLost put_by old new = ((put_by ≡ []) × (new ≡ old)) ⊎ ((frames : List 
 -- connection on. Or nothing, and the link is closed.
 abbrev pub IsGiven : Settings → ℕ → List ℕ → Option (List ℕ) → ForPeers → ForPeers → Type 0
 IsGiven config peer answer (Some bytes) old new = (frames : List Frame) × AreNext (put_by_for old peer).frames frames
-    × IsTextFor old.lock config peer (place_in answer (put_by_for old peer).number) frames bytes
+    × IsEncodingFor old.lock config peer (place_in answer (put_by_for old peer).number) frames bytes
     × OnlyCounts (with_put_by peer (gone_on (length frames) (put_by_for old peer)) old) new
 IsGiven config peer answer None old new = (queue : Sent) × AreLost (put_by_for old peer).frames old.queue queue × (new ≡ record (with_put_by peer nothing_put_by old) { queue = queue })

@@ -24,7 +24,7 @@ use Rattle.am_gossip.specs.declared.frame.StateKey.TheVariants as keys
 use Rattle.am_gossip.specs.Keys.{key_of, key_text}
 use Rattle.am_gossip.specs.Kinds.{limit}
 use Rattle.am_gossip.specs.Parts.{part_table, part_tests, part_value, known, parts_fit, parts_in, parts_of, reads_part, writes_part, reads_parts, writes_parts}
-use Rattle.am_gossip.specs.Frames.{kind_of, payload_text, frame_text, reads_payload}
+use Rattle.am_gossip.specs.Frames.{kind_of, payload_encoding, frame_encoding, reads_payload}
 use Rattle.am_gossip.specs.Streams.{stream_of}
 use Rattle.am_gossip.specs.Grammar.{IsFrame, AreFrames}
 use Rattle.am_gossip.proofs.Fronts.{front_more_wanted}
@@ -97,7 +97,7 @@ parts_again ps small =
     ap (λ (x : List ℕ). parts_of (fields_of parts_fit 0 x)) (sym same) ∙ ap parts_of fields ∙ each_part_again ps 0 len
 
 -- ---- a frame
-payload_again : (f : Frame) → length (payload_text f) < 2 ^ 64 → reads_payload (kind_of f) (payload_text f) ≡ Ok f
+payload_again : (f : Frame) → length (payload_encoding f) < 2 ^ 64 → reads_payload (kind_of f) (payload_encoding f) ≡ Ok f
 unfolding reads_payload
 payload_again (frames.Delta p) small = rw (part_again p 0 small) refl
 payload_again (frames.Push ps) small = rw (parts_again ps small) refl
@@ -110,33 +110,33 @@ limit_small (frames.Push ps) = omega arith
 limit_small (frames.Pull ps) = omega arith
 limit_small frames.Tick = omega arith
 
-pub frame_again : (f : Frame) → length (payload_text f) ≤ limit (kind_of f) → IsFrame f (frame_text f)
+pub frame_again : (f : Frame) → length (payload_encoding f) ≤ limit (kind_of f) → IsFrame f (frame_encoding f)
 frame_again f small =
     let most = limit_small f in
     record {
-      size = shortest (length (payload_text f));
-      payload = payload_text f;
+      size = shortest (length (payload_encoding f));
+      payload = payload_encoding f;
       text_is = refl;
-      size_is = shortest_spells (length (payload_text f)) (omega (arith, most, small));
+      size_is = shortest_spells (length (payload_encoding f)) (omega (arith, most, small));
       small = small;
       reads = payload_again f (omega (arith, most, small));
     }
 
 -- ---- a stream
 abbrev pub Fits : Frame → Type 0
-Fits f = length (payload_text f) ≤ limit (kind_of f)
+Fits f = length (payload_encoding f) ≤ limit (kind_of f)
 
-frames_again : (fs : List Frame) → All Fits fs → AreFrames fs (flat_map frame_text fs)
+frames_again : (fs : List Frame) → All Fits fs → AreFrames fs (flat_map frame_encoding fs)
 frames_again [] small = refl
-frames_again (f ∷ fs) small = (frame_text f, flat_map frame_text fs, refl, frame_again f (All-head Fits f fs small), frames_again fs (All-tail Fits f fs small))
+frames_again (f ∷ fs) small = (frame_encoding f, flat_map frame_encoding fs, refl, frame_again f (All-head Fits f fs small), frames_again fs (All-tail Fits f fs small))
 
-pub stream_again : (fs : List Frame) → All Fits fs → make fs (Ok []) ≡ stream_of (flat_map frame_text fs)
+pub stream_again : (fs : List Frame) → All Fits fs → make fs (Ok []) ≡ stream_of (flat_map frame_encoding fs)
 unfolding header_of
 stream_again fs small =
-    stream_is (make fs (Ok [])) (flat_map frame_text fs) (record {
-      front = flat_map frame_text fs;
+    stream_is (make fs (Ok [])) (flat_map frame_encoding fs) (record {
+      front = flat_map frame_encoding fs;
       behind = [];
-      bytes_are = sym (append-nil (flat_map frame_text fs));
+      bytes_are = sym (append-nil (flat_map frame_encoding fs));
       frames_are = frames_again fs small;
       ends = (refl, unfinished_found [] (front_more_wanted [] refl));
     })

@@ -20,15 +20,15 @@ kind_of (Pull parts) = kinds.Pull
 kind_of Tick = kinds.Tick
 
 -- the canonical payload of a frame
-abbrev pub payload_text : Frame → List ℕ
-payload_text (Delta p) = writes_part p
-payload_text (Push parts) = writes_parts parts
-payload_text (Pull parts) = writes_parts parts
-payload_text Tick = []
+abbrev pub payload_encoding : Frame → List ℕ
+payload_encoding (Delta p) = writes_part p
+payload_encoding (Push parts) = writes_parts parts
+payload_encoding (Pull parts) = writes_parts parts
+payload_encoding Tick = []
 
--- the canonical text of a frame
-abbrev pub frame_text : Frame → List ℕ
-frame_text f = code_of (kind_of f) ∷ (shortest (length (payload_text f)) ++ payload_text f)
+-- the canonical encoding of a frame
+abbrev pub frame_encoding : Frame → List ℕ
+frame_encoding f = code_of (kind_of f) ∷ (shortest (length (payload_encoding f)) ++ payload_encoding f)
 
 -- the second bytes begin with the first
 abbrev pub BeginsWith : List ℕ → List ℕ → Type 0
@@ -36,7 +36,7 @@ BeginsWith front bytes = (rest : List ℕ) × (bytes ≡ front ++ rest)
 
 -- the payload is within the limit of its kind
 abbrev pub fits : Frame → Bool
-fits f = nat_le (length (payload_text f)) (limit (kind_of f))
+fits f = nat_le (length (payload_encoding f)) (limit (kind_of f))
 
 -- the parts of a full state, from the rows of both states, with the silences first
 abbrev pub states : List ℕ → List ℕ → List Part

@@ -34,7 +34,7 @@ known (Err e) = Err (Wire e)
 unfoldable pub reads_part : ℕ → List ℕ → Result Part FrameError
 reads_part at bytes = known (read_by part_table part_tests part_value at at bytes)
 
--- the canonical text of a part
+-- the canonical encoding of a part
 unfoldable pub writes_part : Part → List ℕ
 writes_part p = writes_text 1 (key_text p.key) ++ writes_text 2 p.bytes
 
@@ -60,6 +60,6 @@ parts_of (Err e ∷ items) = Err (Wire e)
 unfoldable pub reads_parts : List ℕ → Result (List Part) FrameError
 reads_parts bytes = parts_of (fields_of parts_fit 0 bytes)
 
--- the canonical text of a full state
+-- the canonical encoding of a full state
 unfoldable pub writes_parts : List Part → List ℕ
 writes_parts parts = writes_messages writes_part 1 parts

@@ -6,7 +6,7 @@ ghost use Rattle.am_wire.specs.Varint.{shortest};
 ghost use Rattle.am_wire.specs.Writing.{writes_delimited, writes_text};
 ghost use Rattle.am_gossip.specs.Kinds.{limit};
 ghost use Rattle.am_gossip.specs.Parts.{writes_part, writes_parts};
-ghost use Rattle.am_gossip.specs.Frames.{BeginsWith, fits, frame_text, kind_of, payload_text, states};
+ghost use Rattle.am_gossip.specs.Frames.{BeginsWith, fits, frame_encoding, kind_of, payload_encoding, states};
 ghost use Rattle.am_gossip.specs.declared.frame.Part.{Part};
 ghost use Rattle.am_gossip.specs.declared.frame.Frame.TheVariants as frames;
 
@@ -74,7 +74,7 @@ fn parts_len(parts: &[Part]) -> u128
 }
 
 fn payload_len(frame: &Frame) -> u128
-    ensures { result ≡ length (payload_text frame.now) }
+    ensures { result ≡ length (payload_encoding frame.now) }
 {
     match frame {
         Frame::Delta(part) => u128::from(part_len(part)),
@@ -137,7 +137,7 @@ fn push_parts(out: &mut Vec<u8>, parts: &[Part]) -> Result<(), AllocError>
 }
 
 fn push_payload(out: &mut Vec<u8>, frame: &Frame) -> Result<(), AllocError>
-    ensures ok { OnOk result (out.new.items ≡ out.old.items ++ payload_text frame.now) }
+    ensures ok { OnOk result (out.new.items ≡ out.old.items ++ payload_encoding frame.now) }
     ensures front { BeginsWith out.old.items out.new.items }
 {
     match frame {
@@ -149,9 +149,9 @@ fn push_payload(out: &mut Vec<u8>, frame: &Frame) -> Result<(), AllocError>
 
 /// Returns the length of a frame's payload, or [`FrameError::Length`] if it is over the limit of its kind.
 fn payload_size(frame: &Frame) -> Result<u64, FrameError>
-    ensures exact { IfOk result (λ size. size ≡ length (payload_text frame.now)) }
-    ensures within { OnOk result (length (payload_text frame.now) ≤ limit (kind_of frame.now)) }
-    ensures too_long { IfErr result (λ e. (e ≡ FrameError.Length) × (limit (kind_of frame.now) < length (payload_text frame.now))) }
+    ensures exact { IfOk result (λ size. size ≡ length (payload_encoding frame.now)) }
+    ensures within { OnOk result (length (payload_encoding frame.now) ≤ limit (kind_of frame.now)) }
+    ensures too_long { IfErr result (λ e. (e ≡ FrameError.Length) × (limit (kind_of frame.now) < length (payload_encoding frame.now))) }
 {
     let size = payload_len(frame);
     if size > u128::from(frame.kind().limit()) {
@@ -162,8 +162,8 @@ fn payload_size(frame: &Frame) -> Result<u64, FrameError>
 
 /// Appends a frame whose payload has `size` bytes.
 fn push_frame(out: &mut Vec<u8>, frame: &Frame, size: u64) -> Result<(), AllocError>
-    requires { size ≡ length (payload_text frame.now) }
-    ensures ok { OnOk result (out.new.items ≡ out.old.items ++ frame_text frame.now) }
+    requires { size ≡ length (payload_encoding frame.now) }
+    ensures ok { OnOk result (out.new.items ≡ out.old.items ++ frame_encoding frame.now) }
     ensures front { BeginsWith out.old.items out.new.items }
 {
     out.push(frame.kind().code())?;
@@ -171,7 +171,7 @@ fn push_frame(out: &mut Vec<u8>, frame: &Frame, size: u64) -> Result<(), AllocEr
     push_payload(out, frame)
 }
 
-/// Returns the canonical text of a frame: the byte of its kind, the length of its payload in the shortest spelling, and the
+/// Returns the canonical encoding of a frame: the byte of its kind, the length of its payload in the shortest spelling, and the
 /// payload. Memory is allocated once, for exactly these bytes.
 ///
 /// # Errors
@@ -180,9 +180,9 @@ fn push_frame(out: &mut Vec<u8>, frame: &Frame, size: u64) -> Result<(), AllocEr
 /// or a Pull, whatever memory there is; or else [`FrameError::Memory`].
 pub fn encode_frame(alloc: Global, frame: &Frame) -> Result<Vec<u8>, FrameError>
     // PROMISE: A frame is written in its one form.
-    ensures written { IfOk result (λ bytes. bytes.items ≡ frame_text frame.now) }
-    ensures size { OnOk result (length (payload_text frame.now) ≤ limit (kind_of frame.now)) }
-    ensures too_long { (result ≡ Err FrameError.Length) ↔ (limit (kind_of frame.now) < length (payload_text frame.now)) }
+    ensures written { IfOk result (λ bytes. bytes.items ≡ frame_encoding frame.now) }
+    ensures size { OnOk result (length (payload_encoding frame.now) ≤ limit (kind_of frame.now)) }
+    ensures too_long { (result ≡ Err FrameError.Length) ↔ (limit (kind_of frame.now) < length (payload_encoding frame.now)) }
     ensures refused { IfErr result (λ e. (e ≡ FrameError.Length) ⊎ (e ≡ FrameError.Memory)) }
 {
     let size = payload_size(frame)?;
@@ -191,15 +191,15 @@ pub fn encode_frame(alloc: Global, frame: &Frame) -> Result<Vec<u8>, FrameError>
     Ok(out)
 }
 
-/// Appends the canonical text of a frame, as [`encode_frame`] returns it.
+/// Appends the canonical encoding of a frame, as [`encode_frame`] returns it.
 ///
 /// # Errors
 ///
 /// As for [`encode_frame`]. The bytes in `out` are unchanged after either.
 pub fn append_frame(out: &mut Vec<u8>, frame: &Frame) -> Result<(), FrameError>
-    ensures written { OnOk result (out.new.items ≡ out.old.items ++ frame_text frame.now) }
+    ensures written { OnOk result (out.new.items ≡ out.old.items ++ frame_encoding frame.now) }
     ensures unchanged { OnErr result (out.new.items ≡ out.old.items) }
-    ensures too_long { (result ≡ Err FrameError.Length) ↔ (limit (kind_of frame.now) < length (payload_text frame.now)) }
+    ensures too_long { (result ≡ Err FrameError.Length) ↔ (limit (kind_of frame.now) < length (payload_encoding frame.now)) }
     ensures refused { IfErr result (λ e. (e ≡ FrameError.Length) ⊎ (e ≡ FrameError.Memory)) }
 {
     let size = payload_size(frame)?;

@@ -5,7 +5,7 @@ ghost use Rattle.std.specs.Prelude.{◌≡◌, ℕ, ◌≤◌, ◌⊎◌, List, 
 ghost use Rattle.std.specs.List.{flat_map};
 ghost use Rattle.am_gossip.specs.declared.frame.Frame.{Frame};
 ghost use Rattle.am_gossip.specs.Kinds.{limit};
-ghost use Rattle.am_gossip.specs.Frames.{kind_of, payload_text, frame_text};
+ghost use Rattle.am_gossip.specs.Frames.{kind_of, payload_encoding, frame_encoding};
 ghost use Rattle.am_gossip.specs.Hellos.{hello_of, IsHello};
 ghost use Rattle.am_gossip.specs.Streams.{Stream, stream_of, goes_on, fed_in};
 ghost use Rattle.am_gossip.specs.Grammar.{IsFrame, IsStream};
@@ -25,13 +25,13 @@ pub fn cuts_change_nothing()
     ensures pieces { (pieces : List (List ℕ)) → fed_in (stream_of []) pieces ≡ stream_of (flat_map (λ piece. piece) pieces) }
 {}
 
-/// States that the canonical text of a frame whose payload is within its kind's limit is a text of it, and that such texts,
-/// one after another, are read as their frames.
+/// States that the canonical encoding of a frame whose payload is within its kind's limit is one of its encodings, and that
+/// such encodings, one after another, are read as their frames.
 pub fn frames_are_read_again()
-    ensures frame { (f : Frame) → length (payload_text f) ≤ limit (kind_of f) → IsFrame f (frame_text f) }
+    ensures frame { (f : Frame) → length (payload_encoding f) ≤ limit (kind_of f) → IsFrame f (frame_encoding f) }
     // PROMISE: A frame that was written is read again.
-    ensures stream { (fs : List Frame) → All (λ f. length (payload_text f) ≤ limit (kind_of f)) fs →
-        stream_of (flat_map frame_text fs) ≡ record { frames = fs; ending = Ok [] } }
+    ensures stream { (fs : List Frame) → All (λ f. length (payload_encoding f) ≤ limit (kind_of f)) fs →
+        stream_of (flat_map frame_encoding fs) ≡ record { frames = fs; ending = Ok [] } }
 {}
 
 /// States that a greeting is read if and only if there is one at the front, and that more bytes change the result only if

@@ -16,7 +16,7 @@ use Rattle.am_nflog.specs.LogKeys.{LogKey}
 use Rattle.am_gossip.specs.declared.frame.Part.{Part}
 use Rattle.am_gossip.specs.declared.frame.StateKey.{StateKey}
 use Rattle.am_gossip.specs.declared.frame.StateKey.TheVariants.{Sil, Nfl}
-use Rattle.am_snapshot.specs.Texts.{row_text}
+use Rattle.am_snapshot.specs.Encodings.{row_encoding}
 use Rattle.am_snapshot.specs.Pieces.{IsPiece}
 use Rattle.am_snapshot.proofs.PieceRows.{some_left, piece_over}
 use Rattle.am_instance.specs.Sendings.{whole_state}
@@ -37,7 +37,7 @@ pub record Follows {K X : Type 0} (seen : X → Version K) (cmp : K → K → Or
 -- so does what a piece leaves, and behind the piece it is all that was left
 pub record GoesFurther {K X : Type 0} (seen : X → Version K) (cmp : K → K → Ordering) (map : List X) (from : Option K) (row : List ℕ) (key : K) : Type 0 where
   pub follows : Follows seen cmp map (Some key)
-  pub rows : row ++ row_text seen (left_of seen cmp map (Some key)) ≡ row_text seen (left_of seen cmp map from)
+  pub rows : row ++ row_encoding seen (left_of seen cmp map (Some key)) ≡ row_encoding seen (left_of seen cmp map from)
 
 module _ {K X : Type 0} (seen : X → Version K) (cmp : K → K → Ordering) (map : List X) where
   pub follows_all : Follows seen cmp map None
@@ -57,10 +57,10 @@ module _ {K X : Type 0} (seen : X → Version K) (cmp : K → K → Ordering) (m
       record {
         follows = record { front = front; parts = cut ∙ ap (λ xs. front ++ xs) (sym behind) };
         rows =
-            ap (λ bytes. bytes ++ row_text seen (from_key seen cmp map key)) piece.row
-            ∙ ap (λ xs. row_text seen piece.taken ++ row_text seen xs) behind
+            ap (λ bytes. bytes ++ row_encoding seen (from_key seen cmp map key)) piece.row
+            ∙ ap (λ xs. row_encoding seen piece.taken ++ row_encoding seen xs) behind
             ∙ sym (flat_map-append (λ w. delimited (seen w).content) piece.taken (leaves.version ∷ leaves.rest))
-            ∙ ap (row_text seen) (sym own);
+            ∙ ap (row_encoding seen) (sym own);
       }
 
 -- the rows of parts of one state, and of both
@@ -70,14 +70,14 @@ sil_alone row = append-nil row
 nfl_alone : (row : List ℕ) → rows_of is_nfl (alone Nfl row) ≡ row
 nfl_alone row = append-nil row
 
-sil_both : (silences : List Mesh) (log : List LogMesh) → rows_of is_sil (whole_state silences log) ≡ row_text mesh_version silences
-sil_both silences log = append-nil (row_text mesh_version silences)
+sil_both : (silences : List Mesh) (log : List LogMesh) → rows_of is_sil (whole_state silences log) ≡ row_encoding mesh_version silences
+sil_both silences log = append-nil (row_encoding mesh_version silences)
 
-nfl_both : (silences : List Mesh) (log : List LogMesh) → rows_of is_nfl (whole_state silences log) ≡ row_text entry_version log
-nfl_both silences log = append-nil (row_text entry_version log)
+nfl_both : (silences : List Mesh) (log : List LogMesh) → rows_of is_nfl (whole_state silences log) ≡ row_encoding entry_version log
+nfl_both silences log = append-nil (row_encoding entry_version log)
 
 -- where both fit, the first part is the last
-pub small_whole : (most : ℕ) (silences : List Mesh) (log : List LogMesh) (state : List Part) (next : Option Handout) → length (row_text mesh_version silences) + length (row_text entry_version log) ≤ most → HandsSilences most silences log state next → (state ≡ whole_state silences log) × (next ≡ None)
+pub small_whole : (most : ℕ) (silences : List Mesh) (log : List LogMesh) (state : List Part) (next : Option Handout) → length (row_encoding mesh_version silences) + length (row_encoding entry_version log) ≤ most → HandsSilences most silences log state next → (state ≡ whole_state silences log) × (next ≡ None)
 small_whole most silences log state None fits hands = (hands.0, refl)
 small_whole most silences log state (Some (Log None)) fits hands = let over = hands.2 in absurd (omega arith)
 small_whole most silences log state (Some (Log (Some key))) fits hands = absurd hands
@@ -87,12 +87,12 @@ small_whole most silences log state (Some (Silences (Some key))) fits hands = le
 module _ (most : ℕ) (silences : List Mesh) (log : List LogMesh) (ids : GoesOn mesh_version (slice_cmp nat_cmp)) (keys : GoesOn entry_version key_cmp) (silences_rise : IsMap mesh_version (slice_cmp nat_cmp) silences) (log_rises : IsMap entry_version key_cmp log) where
   -- what is left, as rows
   abbrev pub sil_row : Handout → List ℕ
-  sil_row (Silences from) = row_text mesh_version (left_of mesh_version (slice_cmp nat_cmp) silences from)
+  sil_row (Silences from) = row_encoding mesh_version (left_of mesh_version (slice_cmp nat_cmp) silences from)
   sil_row (Log from) = []
 
   abbrev pub nfl_row : Handout → List ℕ
-  nfl_row (Silences from) = row_text entry_version log
-  nfl_row (Log from) = row_text entry_version (left_of entry_version key_cmp log from)
+  nfl_row (Silences from) = row_encoding entry_version log
+  nfl_row (Log from) = row_encoding entry_version (left_of entry_version key_cmp log from)
 
   abbrev pub IsReady : Handout → Type 0
   IsReady (Silences from) = Follows mesh_version (slice_cmp nat_cmp) silences from
@@ -120,7 +120,7 @@ module _ (most : ℕ) (silences : List Mesh) (log : List LogMesh) (ids : GoesOn 
       record {
         ready = follows_all entry_version key_cmp log;
         of_silences = append-nil (rows_of is_sil state) ∙ ap (rows_of is_sil) hands.0 ∙ sil_alone (sil_row (Silences from));
-        of_log = ap (λ parts. rows_of is_nfl parts ++ row_text entry_version log) hands.0;
+        of_log = ap (λ parts. rows_of is_nfl parts ++ row_encoding entry_version log) hands.0;
       }
   silences_pass from state (Some (Log (Some key))) ready hands = absurd hands
   silences_pass from state (Some (Silences None)) ready hands = absurd hands
@@ -130,7 +130,7 @@ module _ (most : ℕ) (silences : List Mesh) (log : List LogMesh) (ids : GoesOn 
       record {
         ready = further.follows;
         of_silences = ap (λ parts. rows_of is_sil parts ++ sil_row (Silences (Some key))) hands.2 ∙ ap (λ bytes. bytes ++ sil_row (Silences (Some key))) (sil_alone row) ∙ further.rows;
-        of_log = ap (λ parts. rows_of is_nfl parts ++ row_text entry_version log) hands.2;
+        of_log = ap (λ parts. rows_of is_nfl parts ++ row_encoding entry_version log) hands.2;
       }
 
   log_passes : (from : Option LogKey) (state : List Part) (next : Option Handout) → IsReady (Log from) → HandsLog most (left_of entry_version key_cmp log from) state next → MatchOption next (IsEnd (Log from) state) (IsPassed (Log from) state)

@@ -12,7 +12,7 @@ use Rattle.am_nflog.specs.Keys.{key_cmp}
 use Rattle.am_gossip.specs.declared.frame.Part.{Part}
 use Rattle.am_gossip.specs.declared.frame.StateKey.{StateKey}
 use Rattle.am_gossip.specs.declared.frame.StateKey.TheVariants.{Sil, Nfl}
-use Rattle.am_snapshot.specs.Texts.{row_text}
+use Rattle.am_snapshot.specs.Encodings.{row_encoding}
 use Rattle.am_snapshot.specs.Pieces.{IsPiece}
 use Rattle.am_instance.specs.Sendings.{whole_state}
 use Rattle.am_instance.specs.declared.handing.HandedPart.{HandedPart}
@@ -57,11 +57,11 @@ module _ (most : ℕ) where
   abbrev pub HandsSilences : List Mesh → List LogMesh → List Part → Option Handout → Type 0
   HandsSilences silences log state None =
       (state ≡ whole_state silences log)
-      × (length (row_text mesh_version silences) + length (row_text entry_version log) ≤ most)
+      × (length (row_encoding mesh_version silences) + length (row_encoding entry_version log) ≤ most)
   HandsSilences silences log state (Some (Log None)) =
-      (state ≡ alone Sil (row_text mesh_version silences))
-      × IsPiece mesh_version most silences (record { row = row_text mesh_version silences; next = None })
-      × (most < length (row_text mesh_version silences) + length (row_text entry_version log))
+      (state ≡ alone Sil (row_encoding mesh_version silences))
+      × IsPiece mesh_version most silences (record { row = row_encoding mesh_version silences; next = None })
+      × (most < length (row_encoding mesh_version silences) + length (row_encoding entry_version log))
   HandsSilences silences log state (Some (Silences (Some key))) = GoesAlone mesh_version most Sil silences key state
   HandsSilences silences log state (Some _) = ⊥
 
@@ -69,7 +69,7 @@ module _ (most : ℕ) where
   abbrev pub HandsLog : List LogMesh → List Part → Option Handout → Type 0
   HandsLog log state None =
       (state ≡ whole_state [] log)
-      × IsPiece entry_version most log (record { row = row_text entry_version log; next = None })
+      × IsPiece entry_version most log (record { row = row_encoding entry_version log; next = None })
   HandsLog log state (Some (Log (Some key))) = GoesAlone entry_version most Nfl log key state
   HandsLog log state (Some _) = ⊥
 

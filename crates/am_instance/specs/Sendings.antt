@@ -11,7 +11,7 @@ use Rattle.am_gossip.specs.declared.frame.Part.{Part}
 use Rattle.am_gossip.specs.declared.frame.StateKey.{StateKey}
 use Rattle.am_gossip.specs.declared.frame.StateKey.TheVariants.{Sil, Nfl}
 use Rattle.am_gossip.specs.Frames.{fits, states}
-use Rattle.am_snapshot.specs.Texts.{row_text}
+use Rattle.am_snapshot.specs.Encodings.{row_encoding}
 use Rattle.am_instance.specs.declared.frame_sender.Exchange.{Exchange}
 use Rattle.am_instance.specs.declared.frame_sender.Exchange.TheVariants.{Ask, Answer}
 use Rattle.am_instance.specs.declared.reply.Outcome.{Outcome}
@@ -102,7 +102,7 @@ deltas_to places ds = flat_map (λ d. addressed places (delta_of d)) ds
 
 -- both whole maps, including versions that aren't live
 abbrev pub whole_state : List Mesh → List LogMesh → List Part
-whole_state silences log = states (row_text mesh_version silences) (row_text entry_version log)
+whole_state silences log = states (row_encoding mesh_version silences) (row_encoding entry_version log)
 
 -- the frame that carries both states
 abbrev pub states_frame : Exchange → List Part → Frame

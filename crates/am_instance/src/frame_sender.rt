@@ -6,7 +6,7 @@ ghost use Rattle.am_wire.specs.Limits.{most};
 ghost use Rattle.am_wire.specs.Writing.{delimited};
 ghost use Rattle.am_silence.specs.Mesh.{mesh_version};
 ghost use Rattle.am_nflog.specs.Mesh.{mesh_version as entry_version};
-ghost use Rattle.am_snapshot.specs.Texts.{row_text};
+ghost use Rattle.am_snapshot.specs.Encodings.{row_encoding};
 ghost use Rattle.am_gossip.specs.Frames.{fits, states};
 ghost use Rattle.am_gossip.specs.declared.frame.Frame.TheVariants as frames;
 ghost use Rattle.am_instance.specs.Configs.{is_other, places_but};
@@ -106,7 +106,7 @@ impl FrameSender {
         }
     }
 
-    /// Sends a version, given by its canonical text, to each place of the route.
+    /// Sends a version, given by its canonical encoding, to each place of the route.
     pub(crate) fn send_version(&mut self, route: Route, key: StateKey, content: &[u8])
         ensures { Sends (addressed (places_but route.members route.own route.origin) (delta key content.now)) self.old self.new }
     {
@@ -211,8 +211,8 @@ fn keep_limit(silences: &Held<MeshSilence>, log: &Held<MeshEntry>) -> bool
 
 /// Returns the row of a map. The result is [`AllocError`] also if it has more than 67,108,864 bytes.
 fn row_of<V: Version>(alloc: Global, held: &Held<V>) -> Result<Bytes, AllocError>
-    ensures row { IfOk result (λ bytes. bytes ≡ row_text V.seen held.now) }
-    ensures short { OnOk result (length (row_text V.seen held.now) ≤ most) }
+    ensures row { IfOk result (λ bytes. bytes ≡ row_encoding V.seen held.now) }
+    ensures short { OnOk result (length (row_encoding V.seen held.now) ≤ most) }
 {
     let Some(length) = row_length(held) else {
         return Err(AllocError);
@@ -228,8 +228,8 @@ pub fn whole_state(
     log: &Held<MeshEntry>,
 ) -> Result<FullState, AllocError>
     ensures state { IfOk result (λ state. state ≡ whole_state silences.now log.now) }
-    ensures silences_fit { OnOk result (length (row_text mesh_version silences.now) ≤ most) }
-    ensures log_fit { OnOk result (length (row_text entry_version log.now) ≤ most) }
+    ensures silences_fit { OnOk result (length (row_encoding mesh_version silences.now) ≤ most) }
+    ensures log_fit { OnOk result (length (row_encoding entry_version log.now) ≤ most) }
 {
     let silences = row_of(alloc, silences)?;
     let log = row_of(alloc, log)?;

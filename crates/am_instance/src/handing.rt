@@ -6,7 +6,7 @@ ghost use Rattle.std.specs.Option.{option_copied};
 ghost use Rattle.am_silence.specs.Mesh.{Mesh, mesh_version};
 ghost use Rattle.am_nflog.specs.Mesh.{Mesh as LogMesh, mesh_version as entry_version};
 ghost use Rattle.am_gossip.specs.Frames.{states};
-ghost use Rattle.am_snapshot.specs.Texts.{row_text};
+ghost use Rattle.am_snapshot.specs.Encodings.{row_encoding};
 ghost use Rattle.am_snapshot.specs.Pieces.{IsPiece};
 ghost use Rattle.am_instance.specs.Handings.{HandsLog, HandsSilences, IsHandedOut, alone, is_nfl, is_sil, left_of, names_both};
 
@@ -126,8 +126,8 @@ fn log_beside(
     log: &Held<MeshEntry>,
     most: usize,
 ) -> Result<Option<Bytes>, AllocError>
-    ensures { IfOk result (λ row. MatchOption row (most < used + length (row_text entry_version log.now))
-        (λ bytes. (bytes ≡ row_text entry_version log.now) × (used + length bytes ≤ most))) }
+    ensures { IfOk result (λ row. MatchOption row (most < used + length (row_encoding entry_version log.now))
+        (λ bytes. (bytes ≡ row_encoding entry_version log.now) × (used + length bytes ≤ most))) }
 {
     let Some(room) = most.checked_sub(used) else {
         return Ok(None);

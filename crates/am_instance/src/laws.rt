@@ -17,7 +17,7 @@ ghost use Rattle.am_merge.specs.Views.{IsViewAt};
 ghost use Rattle.am_collect.specs.Events.{HaveSame, taken};
 ghost use Rattle.am_collect.specs.Calm.{IsCalm};
 ghost use Rattle.am_instance.specs.Deliveries.{to_silences, to_log};
-ghost use Rattle.am_snapshot.specs.Texts.{row_text};
+ghost use Rattle.am_snapshot.specs.Encodings.{row_encoding};
 ghost use Rattle.am_instance.specs.Handings.{AreHandedOut, IsHandedOut, is_nfl, is_sil, rows_of};
 ghost use Rattle.am_instance.specs.InstanceStates.{InstanceState};
 ghost use Rattle.am_instance.specs.Sendings.{whole_state};
@@ -146,11 +146,11 @@ pub fn parts_have_all_that_is_held()
     ensures silences { (most : ℕ) (silences : List Mesh) (log : List LogMesh) (parts : List HandedPart) →
         IsMap mesh_version (slice_cmp nat_cmp) silences → IsMap entry_version key_cmp log →
         AreHandedOut most silences log (Silences None) parts →
-        rows_of is_sil (flat_map (λ p. p.state) parts) ≡ row_text mesh_version silences }
+        rows_of is_sil (flat_map (λ p. p.state) parts) ≡ row_encoding mesh_version silences }
     ensures log { (most : ℕ) (silences : List Mesh) (log : List LogMesh) (parts : List HandedPart) →
         IsMap mesh_version (slice_cmp nat_cmp) silences → IsMap entry_version key_cmp log →
         AreHandedOut most silences log (Silences None) parts →
-        rows_of is_nfl (flat_map (λ p. p.state) parts) ≡ row_text entry_version log }
+        rows_of is_nfl (flat_map (λ p. p.state) parts) ≡ row_encoding entry_version log }
 {
     a_map_goes_on_from_a_key::<MeshSilence>();
     a_map_goes_on_from_a_key::<MeshEntry>();
@@ -159,7 +159,7 @@ pub fn parts_have_all_that_is_held()
 /// States that a single part has both states whole if they fit it.
 pub fn small_states_are_one_part()
     ensures { (most : ℕ) (silences : List Mesh) (log : List LogMesh) (handed : HandedPart) →
-        length (row_text mesh_version silences) + length (row_text entry_version log) ≤ most →
+        length (row_encoding mesh_version silences) + length (row_encoding entry_version log) ≤ most →
         IsHandedOut most silences log (Silences None) handed →
         (handed.state ≡ whole_state silences log) × (handed.next ≡ None) }
 {}

@@ -10,7 +10,7 @@ use Rattle.am_memberlist.specs.declared.error.AnswerError.{AnswerError}
 use Rattle.am_memberlist.specs.Answers.{◌>>=◌}
 use Rattle.am_memberlist.specs.Messages.{behind_nodes, message_in, states, states_in}
 use Rattle.am_memberlist.specs.Msgpack.{PairAt, ValueAt, as_raw, cut_at, map_at, number, pair_at, pairs_at, raw, scalar_at, word}
-use Rattle.am_memberlist.specs.Requests.{header, number_text, request_text}
+use Rattle.am_memberlist.specs.Requests.{header, number_text, request_encoding}
 
 -- so many bytes as the first part has
 cut_front : (front rest : List ℕ) → cut_at (length front) (front ++ rest) ≡ Ok (front, rest)
@@ -98,7 +98,7 @@ message_again : (bytes rest : List ℕ) → states_in bytes ≡ Ok rest → mess
 unfolding message_in
 message_again bytes rest is = rw is refl
 
-pub request_again : (bytes : List ℕ) → length bytes < 4_294_967_296 → message_in (request_text bytes) ≡ Ok (states bytes)
+pub request_again : (bytes : List ℕ) → length bytes < 4_294_967_296 → message_in (request_encoding bytes) ≡ Ok (states bytes)
 request_again bytes h =
     let behind_size = number_text (length bytes) ++ bytes in
     let behind_nodes = 0xac ∷ (codes "UserStateLen" ++ behind_size) in

@@ -16,9 +16,9 @@ abbrev pub header : ℕ → List ℕ
 header size = 6 ∷ 0x83 ∷ 0xa4 ∷ (codes "Join" ++ 0xc2 ∷ 0xa5 ∷ (codes "Nodes" ++ 0 ∷ 0xac ∷ (codes "UserStateLen" ++ number_text size)))
 
 -- a request that gives these states
-abbrev pub request_text : List ℕ → List ℕ
-request_text states = header (length states) ++ states
+abbrev pub request_encoding : List ℕ → List ℕ
+request_encoding states = header (length states) ++ states
 
 -- a message that gives a part of a state
-abbrev pub told_text : List ℕ → List ℕ
-told_text part = 8 ∷ 0x81 ∷ 0xaa ∷ (codes "UserMsgLen" ++ (number_text (length part) ++ part))
+abbrev pub told_encoding : List ℕ → List ℕ
+told_encoding part = 8 ∷ 0x81 ∷ 0xaa ∷ (codes "UserMsgLen" ++ (number_text (length part) ++ part))

@@ -59,9 +59,9 @@ abbrev pub nothing_of : List FieldAt → Unit {0}
 nothing_of fields = tt
 
 -- ---- the only text that is written for a state: its part
-unfoldable pub part_text : StateKey → List ℕ → List ℕ
-part_text key row = writes_text 1 (key_text key) ++ writes_text 2 row
+unfoldable pub part_encoding : StateKey → List ℕ → List ℕ
+part_encoding key row = writes_text 1 (key_text key) ++ writes_text 2 row
 
 -- a full state with this part alone
-unfoldable pub states_text : StateKey → List ℕ → List ℕ
-states_text key row = writes_delimited 1 (part_text key row)
+unfoldable pub states_encoding : StateKey → List ℕ → List ℕ
+states_encoding key row = writes_delimited 1 (part_encoding key row)

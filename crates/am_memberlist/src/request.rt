@@ -1,7 +1,7 @@
 //! Requests of a push/pull.
 
 ghost use Rattle.std.specs.Prelude.{◌≡◌, ◌++◌, length, IfOk, OnOk};
-ghost use Rattle.am_memberlist.specs.Requests.{number_text, request_text, told_text};
+ghost use Rattle.am_memberlist.specs.Requests.{number_text, request_encoding, told_encoding};
 
 use std::alloc::{AllocError, Global};
 
@@ -40,9 +40,9 @@ fn add_number(out: &mut Vec<u8>, number: u64) -> Result<(), AllocError>
 /// # Errors
 ///
 /// Returns [`AllocError`] if memory runs out.
-pub fn request_text(alloc: Global, states: &[u8]) -> Result<Vec<u8>, AllocError>
+pub fn request_encoding(alloc: Global, states: &[u8]) -> Result<Vec<u8>, AllocError>
     // PROMISE: A request claims exactly the bytes that follow, no nodes, and nothing compressed.
-    ensures { IfOk result (λ text. text.items ≡ request_text states.now) }
+    ensures { IfOk result (λ text. text.items ≡ request_encoding states.now) }
 {
     let mut text = Vec::new(alloc);
     text.extend_from_slice(HEAD.as_slice())?;
@@ -51,15 +51,15 @@ pub fn request_text(alloc: Global, states: &[u8]) -> Result<Vec<u8>, AllocError>
     Ok(text)
 }
 
-/// Returns a message that gives a part of a state and asks for nothing: no reply comes. Its header claims exactly the bytes that
-/// follow, and nothing is compressed.
+/// Returns a message that gives a part of a state and asks for nothing: no reply comes. Its header claims exactly the bytes
+/// that follow, and nothing is compressed.
 ///
 /// # Errors
 ///
 /// Returns [`AllocError`] if memory runs out.
-pub fn told_text(alloc: Global, part: &[u8]) -> Result<Vec<u8>, AllocError>
+pub fn told_encoding(alloc: Global, part: &[u8]) -> Result<Vec<u8>, AllocError>
     // PROMISE: What a replica is told claims exactly the bytes that follow, and nothing compressed.
-    ensures { IfOk result (λ text. text.items ≡ told_text part.now) }
+    ensures { IfOk result (λ text. text.items ≡ told_encoding part.now) }
 {
     let mut text = Vec::new(alloc);
     text.extend_from_slice(TOLD_HEAD.as_slice())?;

@@ -5,7 +5,7 @@ ghost use Rattle.am_wire.specs.Fields.{field_of};
 ghost use Rattle.am_gossip.specs.Keys.{key_text};
 ghost use Rattle.am_gossip.specs.Parts.{part_table, parts_fit};
 ghost use Rattle.am_memberlist.specs.Answers.{GivesUnlessMemory};
-ghost use Rattle.am_memberlist.specs.Rows.{part_row, part_text, with_part, row_in, states_text};
+ghost use Rattle.am_memberlist.specs.Rows.{part_row, part_encoding, with_part, row_in, states_encoding};
 ghost use Rattle.am_memberlist.specs.Seen.{row_seen, found_seen};
 
 use crate::error::AnswerError;
@@ -126,8 +126,8 @@ fn with_part<'a>(
     }
 }
 
-/// Returns the row of a state in a replica's full state, as it stands there, or `None` if the replica has no such state. Parts of
-/// other states are skipped.
+/// Returns the row of a state in a replica's full state, as it stands there, or `None` if the replica has no such state. Parts
+/// of other states are skipped.
 ///
 /// # Errors
 ///
@@ -151,9 +151,9 @@ pub fn row_in<'a>(
 /// # Errors
 ///
 /// Returns [`AllocError`] if memory runs out.
-#[tactic(auto, unfolding(crate::specs::Rows::part_text))]
-pub fn part_text(alloc: Global, key: StateKey, row: &[u8]) -> Result<Vec<u8>, AllocError>
-    ensures { IfOk result (λ text. text.items ≡ part_text key row.now) }
+#[tactic(auto, unfolding(crate::specs::Rows::part_encoding))]
+pub fn part_encoding(alloc: Global, key: StateKey, row: &[u8]) -> Result<Vec<u8>, AllocError>
+    ensures { IfOk result (λ text. text.items ≡ part_encoding key row.now) }
 {
     let mut part = Vec::new(alloc);
     write_text(&mut part, 1, key.as_str())?;
@@ -168,11 +168,11 @@ pub fn part_text(alloc: Global, key: StateKey, row: &[u8]) -> Result<Vec<u8>, Al
 /// # Errors
 ///
 /// Returns [`AllocError`] if memory runs out.
-#[tactic(auto, unfolding(crate::specs::Rows::states_text))]
-pub fn states_text(alloc: Global, key: StateKey, row: &[u8]) -> Result<Vec<u8>, AllocError>
-    ensures { IfOk result (λ text. text.items ≡ states_text key row.now) }
+#[tactic(auto, unfolding(crate::specs::Rows::states_encoding))]
+pub fn states_encoding(alloc: Global, key: StateKey, row: &[u8]) -> Result<Vec<u8>, AllocError>
+    ensures { IfOk result (λ text. text.items ≡ states_encoding key row.now) }
 {
-    let part = part_text(alloc, key, row)?;
+    let part = part_encoding(alloc, key, row)?;
     let mut text = Vec::new(alloc);
     write_delimited(&mut text, 1, &part)?;
     Ok(text)

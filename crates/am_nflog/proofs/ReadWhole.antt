@@ -1,4 +1,4 @@
--- A canonical text that was read to its end.
+-- A canonical encoding that was read to its end.
 use Rattle.std.proofs.Common.{◌≡◌, ℕ, ◌-◌, ◌≤◌, ◌^◌, List, [], ◌++◌, length, sym, ap, subst, ◌∙◌}
 use Rattle.am_version_order.specs.Moments.{greatest}
 use Rattle.am_wire.proofs.Kept.{is_none}

@@ -16,7 +16,7 @@ spelled_is m text is written =
     let small = is.size in
     ap spelled written ∙ ap version_of (mesh_again m 0 is (omega (arith, small)))
 
--- a canonical text without unknown fields is read as its version, wherever it stands
+-- a canonical encoding without unknown fields is read as its version, wherever it stands
 pub read_anywhere : (m : Mesh) (text : List ℕ) (unknown : Unknown) (at : ℕ) → IsMesh m → text ≡ writes_mesh_entry m → without_unknown m ≡ m
     → reads_mesh_entry unknown at text ≡ Ok m
 read_anywhere m text unknown at is written plain =

@@ -1,4 +1,4 @@
--- The reading of canonical texts of versions.
+-- The reading of canonical encodings of versions.
 use Rattle.std.specs.Prelude.{◌≡◌, ℕ, List}
 use Rattle.am_wire.specs.Passing.{Passing, Passes}
 use Rattle.am_nflog.specs.declared.canonical.CanonicalEntry.{CanonicalEntry}

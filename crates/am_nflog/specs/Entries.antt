@@ -40,7 +40,7 @@ entry_tests place es = if is_given 2 es then moment_test 5 es else Some (errors.
 unfoldable pub reads_entry : ℕ → List ℕ → Result Entry WireError
 reads_entry at bytes = read_by entry entry_tests entry_value at at bytes
 
--- the canonical text of an entry
+-- the canonical encoding of an entry
 unfoldable pub writes_entry : Entry → List ℕ
 writes_entry e =
     writes_text 1 e.key.group_key ++ writes_delimited 2 (writes_receiver e.key.receiver) ++ writes_text 3 e.group_hash

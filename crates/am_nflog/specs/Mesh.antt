@@ -26,7 +26,7 @@ without_unknown m = plain_version m.entry m.expires_at
 abbrev pub entry_numbers : List ℕ
 entry_numbers = 1 ∷ 2 ∷ 3 ∷ 4 ∷ 5 ∷ 6 ∷ 7 ∷ []
 
--- the canonical text of a version
+-- the canonical encoding of a version
 unfoldable pub writes_mesh_entry : Mesh → List ℕ
 writes_mesh_entry m = writes_with m.unknown (writes_entry m.entry) m.expires_at
 

@@ -24,7 +24,7 @@ receiver_tests place es = None
 unfoldable pub reads_receiver : ℕ → List ℕ → Result Receiver WireError
 reads_receiver at bytes = read_by receiver receiver_tests receiver_value at at bytes
 
--- the canonical text of a receiver
+-- the canonical encoding of a receiver
 unfoldable pub writes_receiver : Receiver → List ℕ
 writes_receiver r = writes_text 1 r.group_name ++ writes_text 2 r.integration ++ writes_number 3 r.idx
 

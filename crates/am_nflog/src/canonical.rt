@@ -1,4 +1,4 @@
-//! A reader of canonical texts of versions.
+//! A reader of canonical encodings of versions.
 
 ghost use Rattle.std.specs.Prelude.{◌≡◌, IfSome, if◌then◌else◌};
 ghost use Rattle.am_wire.specs.Passing.{Passes};
@@ -12,7 +12,7 @@ use crate::receiver::ReceiverRef;
 use am_version_order::Moment;
 use am_wire::reading::CanonicalReader;
 
-/// An entry in a canonical text: the parts that are read at once, and the places of the others.
+/// An entry in a canonical encoding: the parts that are read at once, and the places of the others.
 #[derive(Drop)]
 pub struct CanonicalEntry<'a> {
     pub key: KeyParts<'a>,

@@ -2,8 +2,8 @@
 #![tactic(auto)]
 
 mod canonical;
+mod encoded_entry;
 mod entry;
-mod entry_text;
 mod fields;
 mod hash_iter;
 mod hashes;
@@ -17,8 +17,8 @@ mod receiver;
 mod record;
 
 pub use am_wire::Bytes;
+pub use encoded_entry::EncodedEntry;
 pub use entry::{Entry, EntryDraft, EntryParts};
-pub use entry_text::EntryText;
 pub use hash_iter::HashIter;
 pub use hashes::Hashes;
 pub use key::LogKey;

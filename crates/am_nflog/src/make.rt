@@ -29,7 +29,7 @@ fn expiry(repeat: Interval, retention: Interval, now: Moment) -> Moment
 ///
 /// # Errors
 ///
-/// [`WireError::TooLarge`] if and only if an entry is to be made and its version's canonical text has more than 67,108,864
+/// [`WireError::TooLarge`] if and only if an entry is to be made and its version's canonical encoding has more than 67,108,864
 /// bytes, and [`WireError::Memory`] if memory runs out.
 pub fn make_entry(
     alloc: Global,

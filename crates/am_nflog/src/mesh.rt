@@ -33,7 +33,7 @@ pub const KNOWN_FIELDS: [u32; 7] = [1, 2, 3, 4, 5, 6, 7];
 /// A version of an entry: the entry, the moment from which it may be forgotten, and the fields that a reader kept without
 /// knowing them.
 ///
-/// It is stored as its canonical text, so that comparing allocates nothing, with its key and its moments beside it, and the
+/// It is stored as its canonical encoding, so that comparing allocates nothing, with its key and its moments beside it, and the
 /// places of its other parts in the text.
 pub struct MeshEntry {
     key: LogKey,
@@ -84,8 +84,8 @@ impl MeshEntry {
     ///
     /// # Errors
     ///
-    /// [`WireError::TooLarge`] if and only if its canonical text has more than 67,108,864 bytes, and [`WireError::Memory`] if
-    /// memory runs out.
+    /// [`WireError::TooLarge`] if and only if its canonical encoding has more than 67,108,864 bytes, and [`WireError::Memory`]
+    /// if memory runs out.
     pub fn new(alloc: Global, entry: Entry, expires_at: Moment) -> Result<MeshEntry, WireError>
         ensures parts { IfOk result (λ m. m ≡ plain_version entry expires_at) }
         ensures within { IfOk result (λ m. length (writes_mesh_entry m) ≤ most) }

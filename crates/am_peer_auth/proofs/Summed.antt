@@ -3,27 +3,27 @@ use Rattle.std.proofs.Common.{◌≡◌, ℕ, zero, suc, ◌+◌, ◌≤◌, Lis
 use Rattle.std.proofs.lemmas.List.{drop-append-le, length-drop, take-append-le}
 use Rattle.am_peer_auth.specs.declared.summing.Summing.{Summing}
 use Rattle.am_peer_auth.specs.Macs.{Holds}
-use Rattle.am_peer_auth.specs.Summings.{Covers, CoversIn, text_so_far}
+use Rattle.am_peer_auth.specs.Summings.{Covers, CoversIn, encoding_so_far}
 
-grown : (bytes piece : List ℕ) → 36 ≤ length bytes → text_so_far (bytes ++ piece) ≡ text_so_far bytes ++ piece
+grown : (bytes piece : List ℕ) → 36 ≤ length bytes → encoding_so_far (bytes ++ piece) ≡ encoding_so_far bytes ++ piece
 grown bytes piece long =
     ap (drop 4) (drop-append-le 32 bytes piece (omega (arith, long)))
     ∙ drop-append-le 4 (drop 32 bytes) piece (omega (arith, length-drop 32 bytes, long))
 
-long_enough : (n : ℕ) (bytes : List ℕ) → n + 1 ≤ length (text_so_far bytes) → 36 ≤ length bytes
+long_enough : (n : ℕ) (bytes : List ℕ) → n + 1 ≤ length (encoding_so_far bytes) → 36 ≤ length bytes
 long_enough n bytes within = omega (arith, length-drop 4 (drop 32 bytes), length-drop 32 bytes, within)
 
-same_beginning : (n : ℕ) (bytes piece : List ℕ) → n ≤ length (text_so_far bytes) → take n (text_so_far (bytes ++ piece)) ≡ take n (text_so_far bytes)
+same_beginning : (n : ℕ) (bytes piece : List ℕ) → n ≤ length (encoding_so_far bytes) → take n (encoding_so_far (bytes ++ piece)) ≡ take n (encoding_so_far bytes)
 same_beginning zero bytes piece within = refl
 same_beginning (suc n) bytes piece within =
     ap (take (suc n)) (grown bytes piece (long_enough n bytes (omega (arith, within))))
-    ∙ take-append-le (suc n) (text_so_far bytes) piece within
+    ∙ take-append-le (suc n) (encoding_so_far bytes) piece within
 
-still_within : (n : ℕ) (bytes piece : List ℕ) → n ≤ length (text_so_far bytes) → n ≤ length (text_so_far (bytes ++ piece))
+still_within : (n : ℕ) (bytes piece : List ℕ) → n ≤ length (encoding_so_far bytes) → n ≤ length (encoding_so_far (bytes ++ piece))
 still_within zero bytes piece within = omega arith
 still_within (suc n) bytes piece within =
-    let longer : length (text_so_far (bytes ++ piece)) ≡ length (text_so_far bytes) + length piece =
-    ap length (grown bytes piece (long_enough n bytes (omega (arith, within)))) ∙ length-append (text_so_far bytes) piece in
+    let longer : length (encoding_so_far (bytes ++ piece)) ≡ length (encoding_so_far bytes) + length piece =
+    ap length (grown bytes piece (long_enough n bytes (omega (arith, within)))) ∙ length-append (encoding_so_far bytes) piece in
     omega (arith, within, longer)
 
 -- more bytes come

@@ -2,7 +2,7 @@
 use Rattle.std.specs.Prelude.{◌≡◌, ℕ, List, [], ◌∷◌, ◌++◌, length, ⊤, Ok}
 use Rattle.std.specs.Int.{w32, w64, to_be_bytes}
 use Rattle.am_gossip.specs.declared.frame.Frame.{Frame}
-use Rattle.am_gossip.specs.Frames.{frame_text}
+use Rattle.am_gossip.specs.Frames.{frame_encoding}
 use Rattle.am_gossip.specs.Streams.{stream_of}
 use Rattle.am_peer_auth.specs.declared.seal.Lock.{Lock}
 use Rattle.am_peer_auth.specs.declared.seal.SealError.{SealError}
@@ -50,7 +50,7 @@ IsNoFrame text _ = ⊥
 -- a sealed frame as it is sent: its sum, its length in 4 bytes, and its text
 abbrev pub sealed_frame : Lock → List ℕ → Sequence → Frame → List ℕ
 sealed_frame lock addressee place frame =
-    seal_sum lock.secret.now place lock.name.now addressee (frame_text frame) ++ to_be_bytes w32 (length (frame_text frame)) ++ frame_text frame
+    seal_sum lock.secret.now place lock.name.now addressee (frame_encoding frame) ++ to_be_bytes w32 (length (frame_encoding frame)) ++ frame_encoding frame
 
 -- sealed frames as they are sent, from a place in the connection on, each at the next place
 abbrev pub sealed_frames : Lock → List ℕ → Sequence → List Frame → List ℕ

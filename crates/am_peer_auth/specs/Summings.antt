@@ -23,9 +23,9 @@ pub record IsBegun (secret front : List ℕ) (summing : Summing) : Type 0 where
   pub holds : Holds summing.mac secret front
 
 -- the bytes behind the head of a sealed frame, as far as they have come
-abbrev pub text_so_far : List ℕ → List ℕ
-text_so_far bytes = drop 4 (drop 32 bytes)
+abbrev pub encoding_so_far : List ℕ → List ℕ
+encoding_so_far bytes = drop 4 (drop 32 bytes)
 
 -- the sum covers the beginning of the text of the sealed frame at the front of these bytes
 abbrev pub CoversIn : List ℕ → Summing → Type 0
-CoversIn bytes summing = Covers summing (text_so_far bytes)
+CoversIn bytes summing = Covers summing (encoding_so_far bytes)

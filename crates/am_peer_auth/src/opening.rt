@@ -17,10 +17,10 @@ use std::mem;
 /// The first byte of a sealed connection, which is followed by a greeting and then by sealed frames.
 pub const SEALED: u8 = 1;
 
-/// The number of bytes before the text of a frame: its sum, and its length.
+/// The number of bytes before the encoding of a frame: its sum, and its length.
 const HEAD: usize = 36;
 
-/// The maximum number of bytes in a frame's text: 67,108,864 of its payload, and 11 before them.
+/// The maximum number of bytes in a frame's encoding: 67,108,864 of its payload, and 11 before them.
 pub const MOST_TEXT: usize = 67_108_875;
 
 /// The front of sealed bytes.
@@ -32,7 +32,7 @@ enum Front {
         len: usize,
         next: Sequence,
     },
-    /// The frame isn't whole yet. Its text may be summed already, as far as it has come.
+    /// The frame isn't whole yet. Its encoding may be summed already, as far as it has come.
     Waits(Option<Summing>),
     Refused(SealError),
 }
@@ -48,7 +48,7 @@ pub struct Opened {
     pub next: Sequence,
 }
 
-/// The bytes of a sealed frame that isn't whole, and perhaps the sum of its text so far. Contracts see the bytes.
+/// The bytes of a sealed frame that isn't whole, and perhaps the sum of its encoding so far. Contracts see the bytes.
 #[derive(Drop)]
 pub struct Waiting {
     bytes: Vec<u8>,
@@ -94,7 +94,7 @@ impl Waiting {
     }
 }
 
-/// Returns the sum of a text that isn't whole, or `None` if memory runs out.
+/// Returns the sum of an encoding that isn't whole, or `None` if memory runs out.
 fn summed(
     alloc: Global,
     summing: Option<Summing>,
@@ -110,7 +110,7 @@ fn summed(
     }
 }
 
-/// Returns the sum if it covers no more than the first `size` bytes of a text.
+/// Returns the sum if it covers no more than the first `size` bytes of an encoding.
 fn summed_within(summing: Option<Summing>, size: usize) -> Option<Summing>
     ensures within { (text : List ℕ) → size ≤ length text → IfSome summing (λ s. Covers s text) → IfSome result (λ s. Covers s (take size text)) }
 {
@@ -122,7 +122,7 @@ fn summed_within(summing: Option<Summing>, size: usize) -> Option<Summing>
     }
 }
 
-/// Returns the front of sealed bytes of this origin. `summing` covers the beginning of its text, if it is there.
+/// Returns the front of sealed bytes of this origin. `summing` covers the beginning of its encoding, if it is there.
 fn front_of(alloc: Global, origin: Origin<'_>, bytes: &[u8], summing: Option<Summing>) -> Front
     requires covers { IfSome summing (CoversIn bytes.now) }
     ensures { StandsFirst origin.entry.lock origin.entry.sender.now origin.entry.place bytes.now result }
@@ -160,12 +160,12 @@ struct AllOpened {
     opened: Opened,
     /// The number of bytes that the frames take.
     used: usize,
-    /// The sum of the text that waits behind them.
+    /// The sum of the encoding that waits behind them.
     summing: Option<Summing>,
 }
 
 /// Returns the frames at the front of sealed bytes, the first of this origin, and the reason why none is taken after them.
-/// `summing` covers the beginning of the first one's text, if it is there.
+/// `summing` covers the beginning of the first one's encoding, if it is there.
 ///
 /// # Errors
 ///
@@ -245,11 +245,11 @@ fn open_on(
     Ok(all.opened)
 }
 
-/// Takes the next piece of a sealed stream, after the waiting beginning of a frame of this origin. Returns the frames with correct
-/// sums that end in it, and the reason why none is taken after them.
+/// Takes the next piece of a sealed stream, after the waiting beginning of a frame of this origin. Returns the frames with
+/// correct sums that end in it, and the reason why none is taken after them.
 ///
-/// The places of the cuts between pieces make no difference. Only the bytes of an incomplete frame wait, and they are summed as they
-/// come: so a long frame takes no longer at its end than at any other piece, but for the reading of its text.
+/// The places of the cuts between pieces make no difference. Only the bytes of an incomplete frame wait, and they are summed as
+/// they come: so a long frame takes no longer at its end than at any other piece, but for the reading of its encoding.
 pub fn open_piece(alloc: Global, origin: Origin<'_>, waiting: &mut Waiting, piece: &[u8]) -> Opened
     // PROMISE: Of a connection just the frames are taken whose sums are right for its challenge, each at the number behind that of the one before.
     ensures opens { Opens origin.entry.lock origin.entry.sender.now origin.entry.place (waiting.old ++ piece.now) result.frames.items (ended waiting.new result.fault) }

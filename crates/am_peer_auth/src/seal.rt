@@ -56,8 +56,8 @@ impl From<AllocError> for SealError {
     }
 }
 
-/// Returns the sum of a frame's text that one member sends to another at a place in a connection: the sum of the challenge, of the
-/// number in 8 bytes, the highest first, of both names, each after its length in 8 such bytes, and of the text.
+/// Returns the sum of a frame's encoding that one member sends to another at a place in a connection: the sum of the challenge,
+/// of the number in 8 bytes, the highest first, of both names, each after its length in 8 such bytes, and of the encoding.
 #[tactic(auto, unfolding(crate::specs::Seals::seal_sum))]
 pub fn sum_of(
     secret: &[u8],
@@ -79,11 +79,11 @@ pub fn sum_of(
     mac.finalize()
 }
 
-/// Reads a text as exactly one frame.
+/// Reads an encoding as exactly one frame.
 ///
 /// # Errors
 ///
-/// Returns [`SealError::Text`] if the text is no frame, or more than one, and [`SealError::Memory`] if memory runs out.
+/// Returns [`SealError::Text`] if the encoding is no frame, or more than one, and [`SealError::Memory`] if memory runs out.
 fn only_frame(alloc: Global, text: &[u8]) -> Result<Frame, SealError>
     ensures taken { IfOk result (λ frame. IsOnly text.now frame) }
     ensures refused { IfErr result (IsNoFrame text.now) }
@@ -102,12 +102,12 @@ fn only_frame(alloc: Global, text: &[u8]) -> Result<Frame, SealError>
     }
 }
 
-/// Returns the frame of this origin that stands after a sum. What `summing` covers of its text isn't summed again.
+/// Returns the frame of this origin that stands after a sum. What `summing` covers of its encoding isn't summed again.
 ///
 /// # Errors
 ///
-/// Returns [`SealError::Sum`] if the sum isn't correct, before the text is read; [`SealError::Text`] if the text is not one frame;
-/// and [`SealError::Memory`] if memory runs out.
+/// Returns [`SealError::Sum`] if the sum isn't correct, before the encoding is read; [`SealError::Text`] if the encoding is not
+/// one frame; and [`SealError::Memory`] if memory runs out.
 pub fn open_frame(
     alloc: Global,
     origin: Origin<'_>,
@@ -135,14 +135,14 @@ pub struct Sealed {
     pub next: Sequence,
 }
 
-/// Returns frames for an addressee from a place in a connection on, each sealed: its sum, its length in 4 bytes, the highest first,
-/// and its text.
+/// Returns frames for an addressee from a place in a connection on, each sealed: its sum, its length in 4 bytes, the highest
+/// first, and its encoding.
 ///
 /// # Errors
 ///
-/// Returns [`FrameError::Length`] if a frame is over its limit or there is no number for a next one, and [`FrameError::Memory`] if
-/// memory runs out.
-pub fn sealed_text(
+/// Returns [`FrameError::Length`] if a frame is over its limit or there is no number for a next one, and [`FrameError::Memory`]
+/// if memory runs out.
+pub fn sealed_encoding(
     alloc: Global,
     lock: Lock<'_>,
     addressee: &str,

@@ -1,4 +1,4 @@
-//! The sum of a frame whose text comes in pieces: each piece is summed as it comes.
+//! The sum of a frame whose encoding comes in pieces: each piece is summed as it comes.
 
 ghost use Rattle.std.specs.Prelude.{◌≡◌, ℕ, List, IfOk, IfSome, IsTrue};
 ghost use Rattle.am_peer_auth.specs.Seals.{message_front, seal_sum};
@@ -9,17 +9,17 @@ use crate::seal::{Origin, sum_of};
 use crate::sequence::Sequence;
 use std::alloc::{AllocError, Global};
 
-/// The sum of the beginning of a frame's text, with the secret and the front of the message that it belongs to.
+/// The sum of the beginning of a frame's encoding, with the secret and the front of the message that it belongs to.
 #[derive(Drop)]
 pub struct Summing {
     secret: Vec<u8>,
     front: Vec<u8>,
     mac: Mac,
-    /// The number of bytes of the text that the sum covers.
+    /// The number of bytes of the encoding that the sum covers.
     count: usize,
 }
 
-/// Returns the front of the message that a sum covers: all of it before the frame's text.
+/// Returns the front of the message that a sum covers: all of it before the frame's encoding.
 fn front_of_message(
     alloc: Global,
     place: Sequence,
@@ -38,7 +38,7 @@ fn front_of_message(
 }
 
 impl Summing {
-    /// Begins a sum of which no text has come.
+    /// Begins a sum of which no encoding has come.
     fn begin(alloc: Global, secret: &[u8], front: Vec<u8>) -> Result<Summing, AllocError>
         ensures { IfOk result (IsBegun secret.now front.items) }
     {
@@ -52,7 +52,7 @@ impl Summing {
         })
     }
 
-    /// Returns the number of bytes of the text that the sum covers.
+    /// Returns the number of bytes of the encoding that the sum covers.
     pub fn count(&self) -> usize
         ensures { result ≡ self.now.count }
     {
@@ -67,7 +67,7 @@ impl Summing {
         self.secret.as_slice() == secret && self.front.as_slice() == front
     }
 
-    /// Takes in the rest of a text.
+    /// Takes in the rest of an encoding.
     fn sum_rest(&mut self, text: &[u8])
         requires covers { Covers self.old text.now }
         ensures sum { IsSumOf self.new self.old.secret.items self.old.front.items text.now }
@@ -77,8 +77,8 @@ impl Summing {
     }
 }
 
-/// Returns the sum of a text of this origin so far. It goes on with `summing` if that is a sum of the same message, and otherwise
-/// begins anew.
+/// Returns the sum of an encoding of this origin so far. It goes on with `summing` if that is a sum of the same message, and
+/// otherwise begins anew.
 ///
 /// # Errors
 ///
@@ -103,7 +103,8 @@ pub fn sum_so_far(
     Ok(summing)
 }
 
-/// Returns `summing` if it belongs to a message with this front, under this secret, and otherwise one of which no text has come.
+/// Returns `summing` if it belongs to a message with this front, under this secret, and otherwise one of which no encoding has
+/// come.
 fn begun_for(
     alloc: Global,
     summing: Option<Summing>,
@@ -120,7 +121,8 @@ fn begun_for(
     }
 }
 
-/// Returns the correct sum of a frame's whole text of this origin. What `summing` covers of the text isn't summed again.
+/// Returns the correct sum of a frame's whole encoding of this origin. What `summing` covers of the encoding isn't summed
+/// again.
 ///
 /// # Errors
 ///

@@ -6,8 +6,8 @@ use Rattle.am_gossip.specs.declared.frame.Frame.{Frame}
 use Rattle.am_gossip.specs.Frames.{fits}
 
 -- the one greeting that is written for a name: a byte 0, its length and the name
-abbrev pub greeting_text : List ℕ → List ℕ
-greeting_text name = 0 ∷ (shortest (length name) ++ name)
+abbrev pub greeting_encoding : List ℕ → List ℕ
+greeting_encoding name = 0 ∷ (shortest (length name) ++ name)
 
 -- true if a greeting may have a name: it has 1 to 255 bytes
 abbrev pub is_name : List ℕ → Bool

@@ -30,4 +30,4 @@ pub use queue::{Parted, split_by_peer};
 pub use reply::body_of;
 pub use shown::{held_of, shown_of_row};
 pub use times::{Times, times_of};
-pub use writing::{frames_text, greeting};
+pub use writing::{frames_encoding, greeting};

@@ -2,8 +2,8 @@
 
 ghost use Rattle.std.specs.Prelude.{◌≡◌, ◌++◌, ◌⊎◌, ◌↔◌, false, Err, OnOk, IfOk, IfErr};
 ghost use Rattle.std.specs.List.{flat_map};
-ghost use Rattle.am_gossip.specs.Frames.{frame_text};
-ghost use Rattle.am_peers.specs.Outgoing.{all_fit, greeting_text, is_name};
+ghost use Rattle.am_gossip.specs.Frames.{frame_encoding};
+ghost use Rattle.am_peers.specs.Outgoing.{all_fit, greeting_encoding, is_name};
 ghost use Rattle.am_gossip.specs.declared.error.FrameError.TheVariants as errors;
 
 use am_gossip::{Frame, FrameError, MOST_NAME_BYTES, append_frame, frame_fits};
@@ -26,7 +26,7 @@ fn all_fit(frames: &[Frame]) -> bool
 
 /// Appends a greeting.
 fn append_greeting(out: &mut Vec<u8>, name: &str) -> Result<(), AllocError>
-    ensures { OnOk result (out.new.items ≡ out.old.items ++ greeting_text name.now) }
+    ensures { OnOk result (out.new.items ≡ out.old.items ++ greeting_encoding name.now) }
 {
     out.push(0)?;
     append_delimited(out, name.as_bytes())
@@ -34,7 +34,7 @@ fn append_greeting(out: &mut Vec<u8>, name: &str) -> Result<(), AllocError>
 
 /// Appends frames, one after the other; one over its limit would be an error too, but the callers have checked that before.
 fn append_frames(out: &mut Vec<u8>, frames: &[Frame]) -> Result<(), AllocError>
-    ensures { OnOk result (out.new.items ≡ out.old.items ++ flat_map frame_text frames.now) }
+    ensures { OnOk result (out.new.items ≡ out.old.items ++ flat_map frame_encoding frames.now) }
 {
     for frame in frames {
         if append_frame(out, frame).is_err() {
@@ -51,7 +51,7 @@ fn append_frames(out: &mut Vec<u8>, frames: &[Frame]) -> Result<(), AllocError>
 /// [`FrameError::Length`] if the name is empty or has more than 255 bytes, however much memory there is, and
 /// [`FrameError::Memory`].
 pub fn greeting(alloc: Global, name: &str) -> Result<Vec<u8>, FrameError>
-    ensures text { IfOk result (λ text. text.items ≡ greeting_text name.now) }
+    ensures text { IfOk result (λ text. text.items ≡ greeting_encoding name.now) }
     ensures too_long { (result ≡ Err errors.Length) ↔ (is_name name.now ≡ false) }
     ensures refused { IfErr result (λ e. (e ≡ errors.Memory) ⊎ (e ≡ errors.Length)) }
 {
@@ -63,14 +63,14 @@ pub fn greeting(alloc: Global, name: &str) -> Result<Vec<u8>, FrameError>
     Ok(text)
 }
 
-/// Returns the text of frames, one after the other, as it goes to a peer behind the greeting.
+/// Returns the encoding of frames, one after the other, as it goes to a peer behind the greeting.
 ///
 /// # Errors
 ///
 /// [`FrameError::Length`] if the payload of a frame is over its limit, however much memory there is, and
 /// [`FrameError::Memory`].
-pub fn frames_text(alloc: Global, frames: &[Frame]) -> Result<Vec<u8>, FrameError>
-    ensures text { IfOk result (λ text. text.items ≡ flat_map frame_text frames.now) }
+pub fn frames_encoding(alloc: Global, frames: &[Frame]) -> Result<Vec<u8>, FrameError>
+    ensures text { IfOk result (λ text. text.items ≡ flat_map frame_encoding frames.now) }
     ensures too_long { (result ≡ Err errors.Length) ↔ (all_fit frames.now ≡ false) }
     ensures refused { IfErr result (λ e. (e ≡ errors.Memory) ⊎ (e ≡ errors.Length)) }
 {

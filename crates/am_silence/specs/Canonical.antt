@@ -1,4 +1,4 @@
--- The parts of a version in its canonical text.
+-- The parts of a version in its canonical encoding.
 use Rattle.std.specs.Prelude.{◌≡◌, ℕ, List}
 use Rattle.am_silence.specs.declared.canonical.CanonicalSilence.{CanonicalSilence}
 use Rattle.am_silence.specs.Mesh.{Mesh, IsMesh, plain_version, writes_mesh_silence}

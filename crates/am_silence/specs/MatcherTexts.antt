@@ -6,7 +6,7 @@ use Rattle.am_wire.specs.Writing.{delimited, writes_messages}
 use Rattle.am_silence.specs.declared.matcher.Matcher.{Matcher}
 use Rattle.am_silence.specs.Matchers.{matcher, matcher_value, matcher_tests, writes_matcher, IsMatcher}
 
--- the canonical text of matchers
+-- the canonical encoding of matchers
 abbrev pub writes_matchers : List Matcher → List ℕ
 writes_matchers matchers = writes_messages writes_matcher 2 matchers
 

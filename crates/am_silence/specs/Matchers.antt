@@ -27,7 +27,7 @@ matcher_tests place es = if nat_lt (low_half (last_number 1 es)) 4 then None els
 unfoldable pub reads_matcher : ℕ → List ℕ → Result Matcher WireError
 reads_matcher at bytes = read_by matcher matcher_tests matcher_value at at bytes
 
--- the canonical text of a matcher
+-- the canonical encoding of a matcher
 unfoldable pub writes_matcher : Matcher → List ℕ
 writes_matcher m = writes_number 1 (kind_code m.kind) ++ writes_text 2 m.name ++ writes_text 3 m.pattern
 

@@ -34,7 +34,7 @@ without_unknown m = plain_version m.silence m.expires_at
 abbrev pub silence_numbers : List ℕ
 silence_numbers = 1 ∷ 2 ∷ 3 ∷ 4 ∷ 5 ∷ 7 ∷ 8 ∷ 9 ∷ []
 
--- the canonical text of a version
+-- the canonical encoding of a version
 unfoldable pub writes_mesh_silence : Mesh → List ℕ
 writes_mesh_silence m = writes_with m.unknown (writes_silence m.silence) m.expires_at
 

@@ -60,11 +60,11 @@ unfoldable pub held_refusal : Option Silence → ℕ → Option SilenceError
 held_refusal None now = None
 held_refusal (Some held) now = if has_expired held now then None else newer_refusal held now
 
--- the canonical text of a version has more than 67,108,864 bytes
+-- the canonical encoding of a version has more than 67,108,864 bytes
 abbrev pub is_too_large : Mesh → Bool
 is_too_large version = nat_lt most (length (writes_mesh_silence version))
 
--- the refusal if a version's canonical text is too large
+-- the refusal if a version's canonical encoding is too large
 unfoldable pub size_refusal : List Mesh → Option SilenceError
 size_refusal made = errors.TooLarge when list_any is_too_large made
 

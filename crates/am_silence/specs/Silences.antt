@@ -53,7 +53,7 @@ silence_tests place es = moment_test 3 es then moment_test 4 es then moment_test
 unfoldable pub reads_silence : ℕ → List ℕ → Result Silence WireError
 reads_silence at bytes = read_by silence silence_tests silence_value at at bytes
 
--- the canonical text of a silence
+-- the canonical encoding of a silence
 unfoldable pub writes_silence : Silence → List ℕ
 writes_silence s =
     writes_text 1 s.id ++ writes_messages writes_matcher 2 s.matchers ++ writes_delimited 3 (writes_moment s.starts_at)

@@ -1,4 +1,4 @@
--- The version that a canonical text spells.
+-- The version that a canonical encoding spells.
 use Rattle.std.specs.Prelude.{ℕ, List, [], Result, Ok, Err}
 use Rattle.std.proofs.Common.{◌≡◌, ap, arith}
 use Rattle.am_wire.specs.declared.error.WireError.{WireError}

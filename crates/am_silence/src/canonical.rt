@@ -1,4 +1,4 @@
-//! A reader of canonical texts of versions, as replicas write them, which leaves the parts where they are.
+//! A reader of canonical encodings of versions, as replicas write them, which leaves the parts where they are.
 
 ghost use Rattle.std.specs.Prelude.{◌≡◌, ◌≤◌, ◌<◌, ◌^◌, All, IfSome, length};
 ghost use Rattle.am_version_order.specs.Moments.{greatest};
@@ -19,7 +19,7 @@ use crate::sizes::SilenceFields;
 use am_version_order::Moment;
 use am_wire::reading::{CanonicalReader, Offset};
 
-/// The parts of a version, and their places in its canonical text.
+/// The parts of a version, and their places in its canonical encoding.
 #[derive(Drop)]
 pub(crate) struct CanonicalSilence<'a> {
     pub fields: SilenceFields<'a, MatcherIter<'a>>,
@@ -27,7 +27,7 @@ pub(crate) struct CanonicalSilence<'a> {
     pub places: Offsets,
 }
 
-/// Returns the version that a canonical text spells, or `None` if the text isn't canonical.
+/// Returns the version that a canonical encoding spells, or `None` if the text isn't canonical.
 pub(crate) fn read_version(text: &[u8]) -> Option<CanonicalSilence<'_>>
     ensures { IfSome result (IsCanonical text.now) }
 {

@@ -1,4 +1,4 @@
-//! An iterator over matchers, which reads them from their canonical text.
+//! An iterator over matchers, which reads them from their canonical encoding.
 
 ghost use Rattle.std.specs.Prelude.{◌≡◌, ℕ, ◌==◌, ◌<◌, ◌^◌, ◌++◌, List, All, length};
 ghost use Rattle.std.specs.Iterator.{YieldsFirst, item_count};
@@ -28,7 +28,7 @@ pub trait HasMatchers: Drop {
         ensures { result ≡ listed self.now };
 }
 
-/// An iterator over matchers, which reads them from their canonical text, and allocates nothing.
+/// An iterator over matchers, which reads them from their canonical encoding, and allocates nothing.
 ///
 /// Contracts see the matchers to come.
 #[derive(Drop)]
@@ -64,7 +64,7 @@ impl<'a> MatcherIter<'a> {
         self.rest.is_empty()
     }
 
-    /// Returns the canonical text of the matchers to come.
+    /// Returns the canonical encoding of the matchers to come.
     pub(crate) fn as_text(&self) -> &'a [u8]
         ensures text { result.now ≡ writes_matchers self.now }
         ensures values { All IsMatcher self.now }
@@ -99,7 +99,7 @@ impl<'a> Iterator for MatcherIter<'a> {
     }
 }
 
-// Returns the matcher with this canonical text.
+// Returns the matcher with this canonical encoding.
 fn matcher_of(text: &[u8]) -> MatcherRef<'_>
     requires { (m : Matcher) × IsMatcherText text.now m }
     ensures { (m : Matcher) → IsMatcherText text.now m → result ≡ m }

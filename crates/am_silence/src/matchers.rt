@@ -16,7 +16,7 @@ use std::marker::Model;
 
 /// The matchers of a silence, in their order. Contracts see the list.
 ///
-/// They are stored as their canonical text.
+/// They are stored as their canonical encoding.
 pub struct Matchers {
     text: Vec<u8>,
 }

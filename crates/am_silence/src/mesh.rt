@@ -31,7 +31,7 @@ pub const KNOWN_FIELDS: [u32; 8] = [1, 2, 3, 4, 5, 7, 8, 9];
 /// A version of a silence: the silence, the moment from which it may be forgotten, and the fields that a reader kept without
 /// knowing them.
 ///
-/// A version is stored as its canonical text, with the identifier and the moments beside it, and the places of the other
+/// A version is stored as its canonical encoding, with the identifier and the moments beside it, and the places of the other
 /// parts in the text, from which they are read when they are needed.
 pub struct MeshSilence {
     id: Text,
@@ -85,8 +85,8 @@ impl MeshSilence {
     ///
     /// # Errors
     ///
-    /// [`WireError::TooLarge`] if and only if its canonical text has more than 67,108,864 bytes, and [`WireError::Memory`] if
-    /// memory runs out.
+    /// [`WireError::TooLarge`] if and only if its canonical encoding has more than 67,108,864 bytes, and [`WireError::Memory`]
+    /// if memory runs out.
     pub fn new(
         alloc: Global,
         silence: Silence,
@@ -182,7 +182,7 @@ impl MeshSilence {
         }))
     }
 
-    // Returns the version that a text spells in any way; its canonical text is written anew.
+    // Returns the version that a text spells in any way; its canonical encoding is written anew.
     #[tactic(auto, unfolding(crate::specs::MeshTable::reads_mesh_silence))]
     fn of_spelling(
         alloc: Global,

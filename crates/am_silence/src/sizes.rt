@@ -1,4 +1,4 @@
-//! The lengths of canonical texts before anything of them is made.
+//! The lengths of canonical encodings before anything of them is made.
 
 ghost use Rattle.std.specs.Prelude.{◌≡◌, length};
 ghost use Rattle.am_wire.specs.Sizes.{counted};

@@ -24,7 +24,7 @@ pub fn may_update(held: &MeshSilence, posted: &Posted, now: Moment) -> bool
         }
 }
 
-// Returns whether the matchers are the same, in the same order, which means that they have the same canonical text.
+// Returns whether the matchers are the same, in the same order, which means that they have the same canonical encoding.
 fn same_matchers(posted: MatcherIter<'_>, held: MatcherIter<'_>) -> bool
     ensures test { result ≡ same_matchers posted.entry held.entry }
     ensures equal { IsTrue result ↔ (posted.entry ≡ held.entry) }

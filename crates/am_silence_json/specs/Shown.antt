@@ -56,7 +56,7 @@ until_end s = plain_version s s.ends_at
 abbrev pub cut_to_shown : Mesh → Mesh
 cut_to_shown m = until_end (cut_silence m.silence)
 
--- the canonical text of a version has at most as many bytes as a message may have
+-- the canonical encoding of a version has at most as many bytes as a message may have
 abbrev pub FitsMessage : Mesh → Type 0
 FitsMessage m = length (writes_mesh_silence m) ≤ most
 

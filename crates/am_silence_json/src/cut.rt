@@ -44,14 +44,14 @@ fn cut_silence(alloc: Global, version: &MeshSilence) -> Result<Silence, AllocErr
     })
 }
 
-/// Returns the version that API v2 shows for a version: its moments are cut to milliseconds, and its end is its expiry, since none
-/// is shown. A version written by [`write_silences`](crate::write_silences) is read as this one by
+/// Returns the version that API v2 shows for a version: its moments are cut to milliseconds, and its end is its expiry, since
+/// none is shown. A version written by [`write_silences`](crate::write_silences) is read as this one by
 /// [`read_silences`](crate::read_silences).
 ///
 /// # Errors
 ///
-/// Returns [`WireError::TooLarge`] if the canonical text has more than 67,108,864 bytes, and [`WireError::Memory`] if memory runs
-/// out.
+/// Returns [`WireError::TooLarge`] if the canonical encoding has more than 67,108,864 bytes, and [`WireError::Memory`] if
+/// memory runs out.
 pub fn cut_to_shown(alloc: Global, version: &MeshSilence) -> Result<MeshSilence, WireError>
     ensures cut { IfOk result (λ m. m ≡ cut_to_shown version.now) }
     ensures value { IfOk result IsMesh }

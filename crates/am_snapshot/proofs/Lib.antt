@@ -1,4 +1,4 @@
-pub mod RowTexts
+pub mod RowEncodings
 pub mod ReadAgain
 pub mod Passing
 pub mod Whole

@@ -9,7 +9,7 @@ use Rattle.am_merge.proofs.Fronts.{from_version}
 use Rattle.am_wire.specs.Writing.{delimited}
 use Rattle.am_wire.specs.Varint.{shortest}
 use Rattle.am_wire.specs.RoundTrip.Varints.{shortest_filled}
-use Rattle.am_snapshot.specs.Texts.{row_text}
+use Rattle.am_snapshot.specs.Encodings.{row_encoding}
 use Rattle.am_snapshot.specs.Pieces.{IsPiece, GoesOn}
 
 pub delimited_filled : (content : List ℕ) → 0 < length (delimited content)
@@ -23,23 +23,23 @@ module _ {K X : Type 0} (seen : X → Version K) (most : ℕ) where
   pub record IsFront (all left : List X) (row : List ℕ) : Type 0 where
     pub taken : List X
     pub parts : all ≡ taken ++ left
-    pub text : row ≡ row_text seen taken
+    pub text : row ≡ row_encoding seen taken
     pub fits : (length taken ≤ 1) ⊎ (length row ≤ most)
 
-  row_text-one : (taken : List X) (v : X) → row_text seen (taken ++ v ∷ []) ≡ row_text seen taken ++ delimited (seen v).content
-  row_text-one taken v =
+  row_encoding-one : (taken : List X) (v : X) → row_encoding seen (taken ++ v ∷ []) ≡ row_encoding seen taken ++ delimited (seen v).content
+  row_encoding-one taken v =
       flat_map-append (λ w. delimited (seen w).content) taken (v ∷ [])
-      ∙ ap (λ bytes. row_text seen taken ++ bytes) (append-nil (delimited (seen v).content))
+      ∙ ap (λ bytes. row_encoding seen taken ++ bytes) (append-nil (delimited (seen v).content))
 
-  none_taken : (taken : List X) → row_text seen taken ≡ [] → length taken ≡ 0
+  none_taken : (taken : List X) → row_encoding seen taken ≡ [] → length taken ≡ 0
   none_taken [] empty = refl
   none_taken (v ∷ rest) empty =
       let filled = delimited_filled (seen v).content in
-      let joined = length-append (delimited (seen v).content) (row_text seen rest) in
+      let joined = length-append (delimited (seen v).content) (row_encoding seen rest) in
       let none = ap length empty in
       absurd (omega arith)
 
-  some_taken : (taken : List X) → 0 < length (row_text seen taken) → 0 < length taken
+  some_taken : (taken : List X) → 0 < length (row_encoding seen taken) → 0 < length taken
   some_taken [] filled = absurd (omega arith)
   some_taken (v ∷ rest) filled = omega arith
 
@@ -53,7 +53,7 @@ module _ {K X : Type 0} (seen : X → Version K) (most : ℕ) where
       record {
         taken = front.taken ++ v ∷ [];
         parts = front.parts ∙ sym (append_assoc front.taken (v ∷ []) left);
-        text = ap (λ bytes. bytes ++ delimited (seen v).content) front.text ∙ sym (row_text-one front.taken v);
+        text = ap (λ bytes. bytes ++ delimited (seen v).content) front.text ∙ sym (row_encoding-one front.taken v);
         fits = elim room [
           | inl empty ↦ let none = none_taken front.taken (sym front.text ∙ empty) in inl (omega arith)
           | inr few ↦ inr (omega arith)
@@ -62,7 +62,7 @@ module _ {K X : Type 0} (seen : X → Version K) (most : ℕ) where
 
   pub piece_stops : (all : List X) (v : X) (left : List X) (row : List ℕ) → 0 < length row → most < length row + length (delimited (seen v).content) → IsFront all (v ∷ left) row → IsPiece seen most all (record { row = row; next = Some (seen v).key })
   piece_stops all v left row filled full front =
-      let size = ap length (row_text-one front.taken v) ∙ length-append (row_text seen front.taken) (delimited (seen v).content) in
+      let size = ap length (row_encoding-one front.taken v) ∙ length-append (row_encoding seen front.taken) (delimited (seen v).content) in
       let own = ap length front.text in
       record {
         taken = front.taken;
@@ -90,25 +90,25 @@ module _ {K X : Type 0} (seen : X → Version K) (most : ℕ) where
     pub is : left ≡ version ∷ rest
     pub key_is : key ≡ (seen version).key
     pub some : 0 < length taken
-    pub over : most < length (row_text seen (taken ++ version ∷ []))
+    pub over : most < length (row_encoding seen (taken ++ version ∷ []))
 
   pub some_left : (taken left : List X) (key : K) → GoesOn seen most taken left (Some key) → Leaves taken left key
   some_left taken [] key goes = absurd cc
   some_left taken (v ∷ rest) key goes = record { version = v; rest = rest; is = refl; key_is = (let some = goes.0 in cc); some = goes.1; over = goes.2 }
 
   -- the last piece is the row of all
-  pub piece_whole : (all : List X) (row : List ℕ) → IsPiece seen most all (record { row = row; next = None }) → row ≡ row_text seen all
+  pub piece_whole : (all : List X) (row : List ℕ) → IsPiece seen most all (record { row = row; next = None }) → row ≡ row_encoding seen all
   piece_whole all row piece =
-      piece.row ∙ ap (row_text seen) (sym (append-nil piece.taken) ∙ ap (λ xs. piece.taken ++ xs) (sym (none_left piece.taken piece.left piece.next)) ∙ sym piece.parts)
+      piece.row ∙ ap (row_encoding seen) (sym (append-nil piece.taken) ∙ ap (λ xs. piece.taken ++ xs) (sym (none_left piece.taken piece.left piece.next)) ∙ sym piece.parts)
 
   -- another is shorter than that
-  pub piece_over : (all : List X) (row : List ℕ) (key : K) → IsPiece seen most all (record { row = row; next = Some key }) → most < length (row_text seen all)
+  pub piece_over : (all : List X) (row : List ℕ) (key : K) → IsPiece seen most all (record { row = row; next = Some key }) → most < length (row_encoding seen all)
   piece_over all row key piece =
       let leaves = some_left piece.taken piece.left key piece.next in
-      let whole : row_text seen all ≡ row_text seen (piece.taken ++ leaves.version ∷ []) ++ row_text seen leaves.rest =
-      ap (row_text seen) (piece.parts ∙ ap (λ xs. piece.taken ++ xs) leaves.is ∙ sym (append_assoc piece.taken (leaves.version ∷ []) leaves.rest))
+      let whole : row_encoding seen all ≡ row_encoding seen (piece.taken ++ leaves.version ∷ []) ++ row_encoding seen leaves.rest =
+      ap (row_encoding seen) (piece.parts ∙ ap (λ xs. piece.taken ++ xs) leaves.is ∙ sym (append_assoc piece.taken (leaves.version ∷ []) leaves.rest))
       ∙ flat_map-append (λ w. delimited (seen w).content) (piece.taken ++ leaves.version ∷ []) leaves.rest in
-      let size = ap length whole ∙ length-append (row_text seen (piece.taken ++ leaves.version ∷ [])) (row_text seen leaves.rest) in
+      let size = ap length whole ∙ length-append (row_encoding seen (piece.taken ++ leaves.version ∷ [])) (row_encoding seen leaves.rest) in
       let over = leaves.over in
       omega arith
 
@@ -121,14 +121,14 @@ module _ {K X : Type 0} (seen : X → Version K) (most : ℕ) where
         ∙ ap (λ xs. from_key seen cmp xs (seen leaves.version).key) cut
         ∙ from_version seen cmp keys piece.taken leaves.rest leaves.version (subst (IsMap seen cmp) cut order)
 
-    pub piece_rest : (map : List X) (row : List ℕ) (key : K) → IsMap seen cmp map → IsPiece seen most map (record { row = row; next = Some key }) → row ++ row_text seen (from_key seen cmp map key) ≡ row_text seen map
+    pub piece_rest : (map : List X) (row : List ℕ) (key : K) → IsMap seen cmp map → IsPiece seen most map (record { row = row; next = Some key }) → row ++ row_encoding seen (from_key seen cmp map key) ≡ row_encoding seen map
     piece_rest map row key order piece =
         let leaves = some_left piece.taken piece.left key piece.next in
         let cut : map ≡ piece.taken ++ leaves.version ∷ leaves.rest = piece.parts ∙ ap (λ xs. piece.taken ++ xs) leaves.is in
-        ap (λ bytes. bytes ++ row_text seen (from_key seen cmp map key)) piece.row
-        ∙ ap (λ xs. row_text seen piece.taken ++ row_text seen xs) (next_on map row key order piece leaves)
+        ap (λ bytes. bytes ++ row_encoding seen (from_key seen cmp map key)) piece.row
+        ∙ ap (λ xs. row_encoding seen piece.taken ++ row_encoding seen xs) (next_on map row key order piece leaves)
         ∙ sym (flat_map-append (λ w. delimited (seen w).content) piece.taken (leaves.version ∷ leaves.rest))
-        ∙ ap (row_text seen) (sym cut)
+        ∙ ap (row_encoding seen) (sym cut)
 
     pub piece_shorter : (map : List X) (row : List ℕ) (key : K) → IsMap seen cmp map → IsPiece seen most map (record { row = row; next = Some key }) → length (from_key seen cmp map key) < length map
     piece_shorter map row key order piece =

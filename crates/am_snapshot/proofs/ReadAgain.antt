@@ -20,7 +20,7 @@ use Rattle.am_wire.specs.Limits.{most}
 use Rattle.am_wire.specs.Inputs.{sound, message_at, messages_from}
 use Rattle.am_wire.proofs.Exact.{row_read}
 use Rattle.am_snapshot.specs.Saving.{IsSavableWithin}
-use Rattle.am_snapshot.specs.Texts.{row_text}
+use Rattle.am_snapshot.specs.Encodings.{row_encoding}
 use Rattle.am_snapshot.proofs.Fits.{IsShort}
 
 -- bytes behind their length are the first row, whatever follows
@@ -40,12 +40,12 @@ module _ {K X : Type 0} (seen : X → Version K) (reads : ℕ → List ℕ → R
       let content = (seen v).content in
       rw (first_row content at rest small, back (at + (length (delimited content) - length content)) small) refl
 
-  pub versions_read : (versions : List X) (at : ℕ) → All IsReadBack versions → All (IsShort seen) versions → messages_from reads at (row_text seen versions) ≡ map sound versions
+  pub versions_read : (versions : List X) (at : ℕ) → All IsReadBack versions → All (IsShort seen) versions → messages_from reads at (row_encoding seen versions) ≡ map sound versions
   unfolding pieces
   versions_read [] at back short = refl
   versions_read (v ∷ versions) at back short =
       let content = (seen v).content in
-      let rest = row_text seen versions in
+      let rest = row_encoding seen versions in
       let len = length-append (delimited content) rest in
       let own = length-append (shortest (length content)) content in
       let filled = shortest_filled (length content) in

@@ -14,7 +14,7 @@ use Rattle.am_merge.specs.Maps.{IsMap, at}
 use Rattle.am_merge.proofs.Keys.{IsKeyOrder, IsMap-without, all_weaker, at-Contains}
 use Rattle.am_merge.proofs.Puts.{at-member}
 use Rattle.am_merge.proofs.Joins.{same_map}
-use Rattle.am_snapshot.specs.Texts.{row_text}
+use Rattle.am_snapshot.specs.Encodings.{row_encoding}
 use Rattle.am_snapshot.proofs.ReadAgain.{IsReadBack, versions_read}
 use Rattle.am_snapshot.specs.Loads.{AreDistinct, IsLoaded, StopsLoadWithin, RepeatsKey, IsOutside}
 use Rattle.am_snapshot.specs.Saving.{IsSavableWithin}
@@ -71,18 +71,18 @@ module _ {K X : Type 0} (seen : X → Version K) (cmp : K → K → Ordering) (k
     same_versions = same_map seen cmp keys xs ys is_xs is_ys (λ k. alike k (at seen cmp xs k) (at seen cmp ys k) refl refl)
 
   module _ (reads : ℕ → List ℕ → Result X WireError) (is_value : X → Type 0) (limit : ℕ) (back : (v : X) → is_value v → IsReadBack seen reads v) (versions : List X) (savable : IsSavableWithin seen cmp is_value limit versions) where
-    saved_read : AreMessages reads (row_text seen versions) versions
+    saved_read : AreMessages reads (row_encoding seen versions) versions
     saved_read = versions_read seen reads versions 0 (λ k d within. back _ (savable.values k d within)) savable.fits.short
 
-    pub saved_loaded : IsLoaded seen reads (row_text seen versions) versions
+    pub saved_loaded : IsLoaded seen reads (row_encoding seen versions) versions
     saved_loaded = (versions, saved_read, distinct_map versions savable.order, IsPermutation-refl versions)
 
-    pub loaded_saved : (held : List X) → IsMap seen cmp held → IsLoaded seen reads (row_text seen versions) held → held ≡ versions
+    pub loaded_saved : (held : List X) → IsMap seen cmp held → IsLoaded seen reads (row_encoding seen versions) held → held ≡ versions
     loaded_saved held order (others, all, distinct, members) =
         let same = same_messages reads others versions (sym all ∙ saved_read) in
         sym (same_versions versions held savable.order order (subst (λ (l : List X). IsPermutation l held) same members))
 
-    never_twice : (left : Option (List ℕ)) → RepeatsKey seen reads limit (row_text seen versions) left → ⊥
+    never_twice : (left : Option (List ℕ)) → RepeatsKey seen reads limit (row_encoding seen versions) left → ⊥
     never_twice left twice =
         let (rest, is) = messages_behind reads twice.versions versions twice.version twice.others (sym saved_read ∙ twice.messages) in
         let below = (IsMap-without seen cmp keys twice.version twice.versions rest (subst (λ (l : List X). IsMap seen cmp l) is savable.order)).1.below in
@@ -90,7 +90,7 @@ module _ {K X : Type 0} (seen : X → Version K) (cmp : K → K → Ordering) (k
         let less = All-contains P twice.versions twice.earlier (All-from_recursion P twice.versions below) twice.among in
         less_apart (seen twice.earlier).key (seen twice.version).key less twice.same_key
 
-    pub saved_sound : (left : Option (List ℕ)) (e : SnapshotError) → StopsLoadWithin seen reads limit (row_text seen versions) left e → IsOutside e
+    pub saved_sound : (left : Option (List ℕ)) (e : SnapshotError) → StopsLoadWithin seen reads limit (row_encoding seen versions) left e → IsOutside e
     saved_sound left (Read at) stop = tt
     saved_sound left Memory stop = tt
     saved_sound left (Write k) stop = stop

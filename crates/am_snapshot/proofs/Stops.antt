@@ -12,7 +12,7 @@ use Rattle.am_wire.specs.Limits.{most}
 use Rattle.am_wire.specs.declared.reader.RowPosition.{RowPosition}
 use Rattle.am_wire.specs.Fields.{pieces}
 use Rattle.am_wire.specs.Inputs.{sound, message_at, messages_of, AreMessages, StopsAfter, StopsWithin}
-use Rattle.am_snapshot.specs.Texts.{row_text}
+use Rattle.am_snapshot.specs.Encodings.{row_encoding}
 use Rattle.am_snapshot.specs.Loads.{AreDistinct, RepeatsKey, StopsLoadWithin, load_fault}
 use Rattle.am_merge.specs.Views.{HoldsBest}
 use Rattle.am_snapshot.specs.Saving.{StopsSaving}
@@ -47,7 +47,7 @@ module _ {K X : Type 0} (seen : X → Version K) (cmp : K → K → Ordering) (r
   fold_reading contents old reading.Ended stop = refl
   fold_reading contents old reading.Memory stop = refl
 
-  pub is_fold : (map : List X) (row : List ℕ) → row ≡ row_text seen map → IsMap seen cmp map → IfSome start (λ input. (versions : List X) × AreMessages reads input versions × HoldsBest seen versions map)
+  pub is_fold : (map : List X) (row : List ℕ) → row ≡ row_encoding seen map → IsMap seen cmp map → IfSome start (λ input. (versions : List X) × AreMessages reads input versions × HoldsBest seen versions map)
       → IfSome start (λ input. IsFold seen cmp reads input row)
   is_fold map row text order best = some_then _ _ (λ input one. record { versions = one.0; all = one.1; map = map; order = order; best = one.2; text = text }) start best
 

@@ -8,7 +8,7 @@ use Rattle.am_wire.specs.declared.reader.RowFault.TheVariants as reading
 use Rattle.am_merge.specs.Maps.{IsMap}
 use Rattle.am_wire.specs.Limits.{most}
 use Rattle.am_wire.specs.Inputs.{AreMessages, StopsAfter}
-use Rattle.am_snapshot.specs.Texts.{row_text}
+use Rattle.am_snapshot.specs.Encodings.{row_encoding}
 use Rattle.am_merge.specs.Views.{HoldsBest}
 use Rattle.am_snapshot.specs.declared.error.FoldError.{FoldError}
 use Rattle.am_snapshot.specs.declared.error.FoldError.TheVariants as folding
@@ -31,7 +31,7 @@ module _ {K X : Type 0} (seen : X → Version K) (cmp : K → K → Ordering) (r
     pub map : List X
     pub order : IsMap seen cmp map
     pub best : HoldsBest seen versions map
-    pub text : row ≡ row_text seen map
+    pub text : row ≡ row_encoding seen map
 
   -- the fold of an input that is within its limit
   pub record IsFoldWithin (input row : List ℕ) : Type 0 where

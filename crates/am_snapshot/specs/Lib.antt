@@ -1,4 +1,4 @@
-pub mod Texts
+pub mod Encodings
 pub mod Writing
 pub mod Saving
 pub mod Loads

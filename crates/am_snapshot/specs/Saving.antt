@@ -6,14 +6,14 @@ use Rattle.std.specs.declared.cmp.Ordering.{Ordering}
 use Rattle.am_version_order.specs.Versions.{Version}
 use Rattle.am_wire.specs.Limits.{most}
 use Rattle.am_merge.specs.Maps.{IsMap}
-use Rattle.am_snapshot.specs.Texts.{row_text}
+use Rattle.am_snapshot.specs.Encodings.{row_encoding}
 use Rattle.am_snapshot.specs.declared.error.SnapshotError.{SnapshotError}
 use Rattle.am_snapshot.specs.declared.error.SnapshotError.TheVariants.{Write, TooLarge, Memory}
 
 -- the row of the versions has at most `limit` bytes, and each of its messages can be read
 pub record FitsRow {K X : Type 0} (seen : X → Version K) (limit : ℕ) (versions : List X) : Type 0 where
   pub short : All (λ v. length (seen v).content ≤ most) versions
-  pub size : length (row_text seen versions) ≤ limit
+  pub size : length (row_encoding seen versions) ≤ limit
 
 -- a map of values whose row has at most `limit` bytes and can be read
 pub record IsSavableWithin {K X : Type 0} (seen : X → Version K) (cmp : K → K → Ordering) (is_value : X → Type 0) (limit : ℕ) (map : List X) : Type 0 where

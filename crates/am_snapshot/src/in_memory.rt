@@ -5,7 +5,7 @@ ghost use Rattle.std.specs.Option.{SomeIff};
 ghost use Rattle.am_merge.specs.Maps.{IsMap};
 ghost use Rattle.am_wire.specs.Limits.{most};
 ghost use Rattle.am_wire.specs.Writing.{delimited};
-ghost use Rattle.am_snapshot.specs.Texts.{row_text};
+ghost use Rattle.am_snapshot.specs.Encodings.{row_encoding};
 ghost use Rattle.am_snapshot.specs.Saving.{FitsRow};
 
 use am_merge::Held;
@@ -16,7 +16,7 @@ use std::alloc::{AllocError, Global};
 
 /// Returns the length of the row of the held versions, or `None` if it has more than 67,108,864 bytes. This takes no memory.
 pub fn row_length<V: Version>(held: &Held<V>) -> Option<u64>
-    ensures length { SomeIff result (length (row_text V.seen held.now) ≤ most) (length (row_text V.seen held.now)) }
+    ensures length { SomeIff result (length (row_encoding V.seen held.now) ≤ most) (length (row_encoding V.seen held.now)) }
     ensures order { IsMap V.seen V.Key.cmp held.now }
     ensures values { OnSome result (All V.is_value held.now) }
 {
@@ -37,10 +37,10 @@ pub(crate) fn with_one(total: u64, content: &[u8], limit: u32) -> Option<u64>
     (longer <= u64::from(limit)).then_some(longer)
 }
 
-/// Returns the length of the row of the held versions, or `None` if it has more than `limit` bytes, or if a version has more than
-/// [`MOST_MESSAGE_BYTES`], so that it couldn't be read again. This takes no memory.
+/// Returns the length of the row of the held versions, or `None` if it has more than `limit` bytes, or if a version has more
+/// than [`MOST_MESSAGE_BYTES`], so that it couldn't be read again. This takes no memory.
 pub fn row_length_within<V: Version>(held: &Held<V>, limit: u32) -> Option<u64>
-    ensures length { SomeIff result (FitsRow V.seen limit held.now) (length (row_text V.seen held.now)) }
+    ensures length { SomeIff result (FitsRow V.seen limit held.now) (length (row_encoding V.seen held.now)) }
     ensures order { IsMap V.seen V.Key.cmp held.now }
     ensures values { OnSome result (All V.is_value held.now) }
 {
@@ -61,7 +61,7 @@ pub fn row_bytes<V: Version>(
     held: &Held<V>,
     length: u64,
 ) -> Result<Bytes, AllocError>
-    ensures { IfOk result (λ bytes. bytes ≡ row_text V.seen held.now) }
+    ensures { IfOk result (λ bytes. bytes ≡ row_encoding V.seen held.now) }
 {
     let mut bytes = Vec::with_capacity(alloc, length as usize)?;
     for version in held.iter() {

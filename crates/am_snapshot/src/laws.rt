@@ -7,7 +7,7 @@ ghost use Rattle.am_wire.specs.declared.unknown.Unknown.{Unknown};
 ghost use Rattle.am_wire.specs.Inputs.{AreMessages, StopsWithin};
 ghost use Rattle.am_wire.specs.Unknown.{StaysWhole};
 ghost use Rattle.am_merge.specs.Maps.{IsMap, from_key};
-ghost use Rattle.am_snapshot.specs.Texts.{row_text};
+ghost use Rattle.am_snapshot.specs.Encodings.{row_encoding};
 ghost use Rattle.am_snapshot.specs.Loads.{IsLoaded, StopsLoadWithin, IsOutside};
 ghost use Rattle.am_snapshot.specs.Pieces.{IsPiece};
 ghost use Rattle.am_snapshot.specs.Saving.{IsSavableWithin};
@@ -33,23 +33,23 @@ pub fn an_input_has_one_fault<M: Message>()
 pub fn what_is_saved_is_loaded<V: Record>()
     // PROMISE: A map that was saved loads as itself.
     ensures loaded { (unknown : Unknown) (limit : ℕ) (map : List V) → IsSavableWithin V.seen V.Key.cmp V.Version.is_value limit map →
-        All (StaysWhole V.plain unknown) map → IsLoaded V.seen (V.reads unknown) (row_text V.seen map) map }
+        All (StaysWhole V.plain unknown) map → IsLoaded V.seen (V.reads unknown) (row_encoding V.seen map) map }
     ensures alone { (unknown : Unknown) (limit : ℕ) (map held : List V) → IsSavableWithin V.seen V.Key.cmp V.Version.is_value limit map →
         All (StaysWhole V.plain unknown) map → IsMap V.seen V.Key.cmp held →
-        IsLoaded V.seen (V.reads unknown) (row_text V.seen map) held → held ≡ map }
+        IsLoaded V.seen (V.reads unknown) (row_encoding V.seen map) held → held ≡ map }
     ensures sound { (unknown : Unknown) (limit : ℕ) (map : List V) (left : Option (List ℕ)) (e : SnapshotError) →
         IsSavableWithin V.seen V.Key.cmp V.Version.is_value limit map → All (StaysWhole V.plain unknown) map →
-        StopsLoadWithin V.seen (V.reads unknown) limit (row_text V.seen map) left e → IsOutside e }
+        StopsLoadWithin V.seen (V.reads unknown) limit (row_encoding V.seen map) left e → IsOutside e }
 {}
 
 /// States that a piece with no next key is the row of the whole map, and that a piece is followed by the row of the map from
 /// the next key on: piece by piece, the whole row goes out.
 pub fn pieces_are_the_row<V: Version>()
     ensures last { (most : ℕ) (map : List V) (row : List ℕ) →
-        IsPiece V.seen most map (record { row = row; next = None }) → row ≡ row_text V.seen map }
+        IsPiece V.seen most map (record { row = row; next = None }) → row ≡ row_encoding V.seen map }
     ensures others { (most : ℕ) (map : List V) (row : List ℕ) (key : V.Key) → IsMap V.seen V.Key.cmp map →
         IsPiece V.seen most map (record { row = row; next = Some key }) →
-        row ++ row_text V.seen (from_key V.seen V.Key.cmp map key) ≡ row_text V.seen map }
+        row ++ row_encoding V.seen (from_key V.seen V.Key.cmp map key) ≡ row_encoding V.seen map }
     ensures shorter { (most : ℕ) (map : List V) (row : List ℕ) (key : V.Key) → IsMap V.seen V.Key.cmp map →
         IsPiece V.seen most map (record { row = row; next = Some key }) →
         length (from_key V.seen V.Key.cmp map key) < length map }

@@ -20,7 +20,7 @@ use Rattle.am_merge.specs.Views.{HoldsBest}
 use Rattle.am_merge.proofs.Keys.{IsKeyOrder, at-Contains}
 use Rattle.am_merge.proofs.Puts.{at-member}
 use Rattle.am_merge.proofs.Sweeps.{IsMap-filter}
-use Rattle.am_snapshot.specs.Texts.{row_text}
+use Rattle.am_snapshot.specs.Encodings.{row_encoding}
 use Rattle.am_snapshot.specs.Pieces.{IsPiece, GoesOn}
 use Rattle.am_store.specs.Blocks.{recovered, with_batch, IsBeforeOrAfter}
 use Rattle.am_store.specs.Crashes.{Disk, Remains, MayLeave, bytes_at}
@@ -109,7 +109,7 @@ module _ {K X : Type 0} (seen : X → Version K) (cmp : K → K → Ordering) (k
   -- the row is that of versions of the states, and each version that all states have is among them, or its key comes at the next place
   pub record IsOf (states : List (List X)) (row : List ℕ) (place : Place K) : Type 0 where
     pub versions : List X
-    pub text : row ≡ row_text seen versions
+    pub text : row ≡ row_encoding seen versions
     pub from : (w : X) → Contains versions w → (state : List X) × Contains states state × Contains state w
     pub covers : (v : X) → All (HasAtLeast seen v) states → HasAtLeast seen v versions ⊎ Reaches place (seen v).key
 
@@ -125,7 +125,7 @@ module _ {K X : Type 0} (seen : X → Version K) (cmp : K → K → Ordering) (k
       let order = subst (IsMap seen cmp) of_piece.parts (left_order state from (All-head (IsMap seen cmp) state earlier orders)) in
       record {
         versions = was.versions ++ of_piece.taken;
-        text = whole ∙ ap (λ (l : List ℕ). l ++ piece.row) was.text ∙ ap (λ (l : List ℕ). row_text seen was.versions ++ l) of_piece.row
+        text = whole ∙ ap (λ (l : List ℕ). l ++ piece.row) was.text ∙ ap (λ (l : List ℕ). row_encoding seen was.versions ++ l) of_piece.row
             ∙ sym (flat_map-append (λ v. delimited (seen v).content) was.versions of_piece.taken);
         from = λ w held. ⊎_elim
             (λ front. let (one, among, has) = was.from w front in (one, later_held state earlier one among, has))

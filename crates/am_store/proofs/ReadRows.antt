@@ -16,7 +16,7 @@ use Rattle.am_wire.specs.RoundTrip.Pieces.{pieces-first}
 use Rattle.am_wire.specs.RoundTrip.Varints.{varint_again, shortest_spells, shortest_filled}
 use Rattle.am_wire.specs.Inputs.{sound, message_at, messages_from}
 use Rattle.am_wire.proofs.Exact.{lists_are, row_read}
-use Rattle.am_snapshot.specs.Texts.{row_text}
+use Rattle.am_snapshot.specs.Encodings.{row_encoding}
 use Rattle.am_snapshot.proofs.Fits.{IsShort}
 use Rattle.am_snapshot.proofs.OneFault.{no_fault, tail_is}
 use Rattle.am_snapshot.proofs.ReadAgain.{IsReadBack, versions_read}
@@ -62,11 +62,11 @@ module _ {K X : Type 0} (seen : X → Version K) (reads : ℕ → List ℕ → R
   behind v left [] same then = absurd cc
   behind v left (w ∷ rest) same then = then rest (tail_is reads v w left (map sound rest) same)
 
-  shorts_read : (versions others : List X) (at : ℕ) → All (IsReadBack seen reads) versions → length (row_text seen versions) < 2 ^ 64
-      → messages_from reads at (row_text seen versions) ≡ map sound others → All (IsShort seen) versions
+  shorts_read : (versions others : List X) (at : ℕ) → All (IsReadBack seen reads) versions → length (row_encoding seen versions) < 2 ^ 64
+      → messages_from reads at (row_encoding seen versions) ≡ map sound others → All (IsShort seen) versions
   shorts_read [] others at back small read = All-nil (IsShort seen)
   shorts_read (v ∷ versions) others at back small read =
-      let rest = row_text seen versions in
+      let rest = row_encoding seen versions in
       let own = length-append (shortest (length (content v))) (content v) in
       let both = length-append (delimited (content v)) rest in
       let size = length (delimited (content v)) in
@@ -75,7 +75,7 @@ module _ {K X : Type 0} (seen : X → Version K) (reads : ℕ → List ℕ → R
       All-cons (IsShort seen) v versions short (shorts_read versions more (at + size) (All-tail (IsReadBack seen reads) v versions back) (omega (arith, small, both)) is)))
       (cases_lt most (length (content v)))
 
-  pub read_same : (versions others : List X) → All (IsReadBack seen reads) versions → length (row_text seen versions) < 2 ^ 64
-      → messages_from reads 0 (row_text seen versions) ≡ map sound others → others ≡ versions
+  pub read_same : (versions others : List X) → All (IsReadBack seen reads) versions → length (row_encoding seen versions) < 2 ^ 64
+      → messages_from reads 0 (row_encoding seen versions) ≡ map sound others → others ≡ versions
   read_same versions others back small read =
       lists_are others versions (sym read ∙ versions_read seen reads versions 0 back (shorts_read versions others 0 back small read))

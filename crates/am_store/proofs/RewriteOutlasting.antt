@@ -12,7 +12,7 @@ use Rattle.am_wire.specs.Unknown.{StaysWhole}
 use Rattle.am_wire.specs.Inputs.{AreMessages}
 use Rattle.am_merge.specs.Maps.{IsMap}
 use Rattle.am_merge.proofs.Keys.{IsKeyOrder}
-use Rattle.am_snapshot.specs.Texts.{row_text}
+use Rattle.am_snapshot.specs.Encodings.{row_encoding}
 use Rattle.am_snapshot.proofs.ReadAgain.{IsReadBack}
 use Rattle.am_store.specs.Blocks.{recovered}
 use Rattle.am_store.specs.Calls.{Event, Remove, Make, Sync, Rename, SyncDirectory}
@@ -139,7 +139,7 @@ module _ {K X : Type 0} (seen : X → Version K) (cmp : K → K → Ordering) (p
 
 -- ---- a new file is read as the versions that it was made of
 row_read_again : {K X : Type 0} (seen : X → Version K) (reads : ℕ → List ℕ → Result X WireError) (path : List ℕ) (left : Remains) (map : List X) (starts : StartsWith seen reads path left map)
-    (row : List ℕ) (versions : List X) → bytes_at left path ≡ Some row → row ≡ row_text seen versions → length row < 2 ^ 64 → All (IsReadBack seen reads) versions → starts.in_row ≡ versions
+    (row : List ℕ) (versions : List X) → bytes_at left path ≡ Some row → row ≡ row_encoding seen versions → length row < 2 ^ 64 → All (IsReadBack seen reads) versions → starts.in_row ≡ versions
 row_read_again seen reads path left map starts row versions found text small back =
     read_same seen reads versions starts.in_row back (omega (arith, small, ap length text))
     (subst (λ (bytes : List ℕ). AreMessages reads bytes starts.in_row) (ap (λ (o : Option (List ℕ)). unwrap_or o []) found ∙ text) starts.all_of_row)
@@ -148,22 +148,22 @@ row_read_again seen reads path left map starts row versions found text small bac
 module _ {K X : Type 0} (seen : X → Version K) (cmp : K → K → Ordering) (is_value : X → Type 0) (plain : X → X) (unknown : Unknown)
     (reads : ℕ → List ℕ → Result X WireError) (back : (v : X) → is_value v × StaysWhole plain unknown v → IsReadBack seen reads v)
     (path : List ℕ) (fits : Type 0) (state : List X) (earlier calls : List Event) (fault : FileFault) (disk : Disk) (left : Remains)
-    (small : length (row_text seen state) < 2 ^ 64) (is : IsState seen cmp is_value plain unknown state) where
+    (small : length (row_encoding seen state) < 2 ^ 64) (is : IsState seen cmp is_value plain unknown state) where
   abbrev BeforeOrNew : Option (List ℕ) → Option (List ℕ) → Option (List ℕ) → Type 0
-  BeforeOrNew found there log = AsBefore path disk found there log ⊎ (found ≡ Some (row_text seen state))
+  BeforeOrNew found there log = AsBefore path disk found there log ⊎ (found ≡ Some (row_encoding seen state))
 
-  save_leaves : IsTried fits path (row_text seen state) earlier (earlier ++ calls) fault → MayLeaveDuring calls disk left → Fine path (row_text seen state) BeforeOrNew left
+  save_leaves : IsTried fits path (row_encoding seen state) earlier (earlier ++ calls) fault → MayLeaveDuring calls disk left → Fine path (row_encoding seen state) BeforeOrNew left
   save_leaves (inl stopped) may =
-      is_stopped path (row_text seen state) BeforeOrNew (λ found there log new. inr refl) left stopped.stop stopped.stood stopped.removed disk (λ l m. inl (before path disk l m))
+      is_stopped path (row_encoding seen state) BeforeOrNew (λ found there log new. inr refl) left stopped.stop stopped.stood stopped.removed disk (λ l m. inl (before path disk l m))
       (subst (λ (events : List Event). MayLeaveDuring events disk left) (append_cancel_left earlier _ _ stopped.calls) may)
   save_leaves (inr saved) may =
-      is_saved path (row_text seen state) BeforeOrNew (λ found there log new. inr refl) left saved.stood saved.directory disk (λ l m. inl (before path disk l m))
+      is_saved path (row_encoding seen state) BeforeOrNew (λ found there log new. inr refl) left saved.stood saved.directory disk (λ l m. inl (before path disk l m))
       (subst (λ (events : List Event). MayLeaveDuring events disk left) (append_cancel_left earlier _ _ saved.calls) may)
 
-  pub outlasts_save : IsTried fits path (row_text seen state) earlier (earlier ++ calls) fault → MayLeaveDuring calls disk left → (v : X) → Outlasts seen reads path v disk → HasAtLeast seen v state → IsKept seen reads path v left
+  pub outlasts_save : IsTried fits path (row_encoding seen state) earlier (earlier ++ calls) fault → MayLeaveDuring calls disk left → (v : X) → Outlasts seen reads path v disk → HasAtLeast seen v state → IsKept seen reads path v left
   outlasts_save tried may v safe has map starts = ⊎_elim
       (λ old. safe old.earlier old.might map (same_start seen reads path old.earlier left map old.file old.first old.second starts))
-      (λ new. of_row seen reads path v left map starts (subst (HasAtLeast seen v) (sym (row_read_again seen reads path left map starts (row_text seen state) state new refl small
+      (λ new. of_row seen reads path v left map starts (subst (HasAtLeast seen v) (sym (row_read_again seen reads path left map starts (row_encoding seen state) state new refl small
       (λ k d lt. back (get_or state k d) (is.values k d lt, is.whole k d lt)))) has))
       (save_leaves tried may)
 

@@ -10,7 +10,7 @@ use Rattle.am_merge.specs.Maps.{IsMap, from_key}
 use Rattle.am_merge.proofs.Keys.{IsKeyOrder}
 use Rattle.am_merge.proofs.Fronts.{from_version}
 use Rattle.am_wire.specs.Writing.{delimited}
-use Rattle.am_snapshot.specs.Texts.{row_text}
+use Rattle.am_snapshot.specs.Encodings.{row_encoding}
 use Rattle.am_snapshot.specs.Pieces.{IsPiece, GoesOn}
 use Rattle.am_store.specs.Rewrites.{Place, First, At, End, place_behind, left_at, stretch, IsWritten}
 
@@ -20,7 +20,7 @@ module _ {K X : Type 0} (seen : X → Version K) (cmp : K → K → Ordering) (k
     front : List X
     rest : List X
     parts : map ≡ front ++ rest
-    text : row ≡ row_text seen front
+    text : row ≡ row_encoding seen front
     behind : left_at seen cmp map place ≡ rest
 
   -- what a piece leaves stands at the place behind it
@@ -48,15 +48,15 @@ module _ {K X : Type 0} (seen : X → Version K) (cmp : K → K → Ordering) (k
         front = was.front ++ of_map.taken;
         rest = of_map.left;
         parts = parts;
-        text = whole ∙ ap (λ (l : List ℕ). l ++ piece.row) was.text ∙ ap (λ (l : List ℕ). row_text seen was.front ++ l) of_map.row
+        text = whole ∙ ap (λ (l : List ℕ). l ++ piece.row) was.text ∙ ap (λ (l : List ℕ). row_encoding seen was.front ++ l) of_map.row
             ∙ sym (flat_map-append (λ v. delimited (seen v).content) was.front of_map.taken);
         behind = ap (left_at seen cmp map) at ∙ left_behind (was.front ++ of_map.taken) of_map.taken of_map.left piece.next parts of_map.next;
       }
 
-  whole_row : (row : List ℕ) → IsCutAt row End → row ≡ row_text seen map
-  whole_row row is = is.text ∙ ap (row_text seen) (sym (append-nil is.front) ∙ ap (λ (xs : List X). is.front ++ xs) is.behind ∙ sym is.parts)
+  whole_row : (row : List ℕ) → IsCutAt row End → row ≡ row_encoding seen map
+  whole_row row is = is.text ∙ ap (row_encoding seen) (sym (append-nil is.front) ∙ ap (λ (xs : List X). is.front ++ xs) is.behind ∙ sym is.parts)
 
 pub one_row : {K X : Type 0} (seen : X → Version K) (cmp : K → K → Ordering) → IsKeyOrder cmp → (map : List X) (maps : List (List X)) (row : List ℕ)
-    → IsMap seen cmp map → All (λ (other : List X). other ≡ map) maps → IsWritten seen cmp maps row End → row ≡ row_text seen map
+    → IsMap seen cmp map → All (λ (other : List X). other ≡ map) maps → IsWritten seen cmp maps row End → row ≡ row_encoding seen map
 one_row seen cmp keys map maps row order same written =
     whole_row seen cmp keys map order row (cut seen cmp keys map order maps row End (recursion_from_All (λ m. m ≡ map) maps same) written)

@@ -3,7 +3,7 @@
 ghost use Rattle.std.specs.Prelude.{◌≡◌, ◌⊎◌, ◌<◌, ◌^◌, ℕ, false, List, [], ◌++◌, All, Contains, length, Option, Some, None, codes};
 ghost use Rattle.am_version_order.specs.Versions.{IsLive};
 ghost use Rattle.am_merge.specs.Maps.{IsJoin, IsMap, swept};
-ghost use Rattle.am_snapshot.specs.Texts.{row_text};
+ghost use Rattle.am_snapshot.specs.Encodings.{row_encoding};
 ghost use Rattle.am_snapshot.specs.Saving.{FitsRow};
 ghost use Rattle.am_store.specs.declared.file_fault.FileFault.{FileFault};
 ghost use Rattle.am_wire.specs.declared.unknown.Unknown.{Unknown};
@@ -23,15 +23,15 @@ use am_wire::Record;
 pub fn a_crash_leaves_the_old_file_or_the_new_one<V: Version>()
     // PROMISE: A crash at any moment of a save leaves the old file or the new one, whole.
     ensures saved { (path : List ℕ) (map : List V) (old : Option (List ℕ)) (before calls : List Event) (disk : Disk) (left : Remains) →
-        Keeps disk path old → IsSaved path (row_text V.seen map) before (before ++ calls) →
-        MayLeaveDuring calls disk left → (bytes_at left path ≡ old) ⊎ (bytes_at left path ≡ Some (row_text V.seen map)) }
+        Keeps disk path old → IsSaved path (row_encoding V.seen map) before (before ++ calls) →
+        MayLeaveDuring calls disk left → (bytes_at left path ≡ old) ⊎ (bytes_at left path ≡ Some (row_encoding V.seen map)) }
     ensures stopped { (path : List ℕ) (map : List V) (most : ℕ) (old : Option (List ℕ)) (before calls : List Event) (fault : FileFault)
         (disk : Disk) (left : Remains) →
-        Keeps disk path old → IsStopped (FitsRow V.seen most map) path (row_text V.seen map) before (before ++ calls) fault →
-        MayLeaveDuring calls disk left → (bytes_at left path ≡ old) ⊎ (bytes_at left path ≡ Some (row_text V.seen map)) }
+        Keeps disk path old → IsStopped (FitsRow V.seen most map) path (row_encoding V.seen map) before (before ++ calls) fault →
+        MayLeaveDuring calls disk left → (bytes_at left path ≡ old) ⊎ (bytes_at left path ≡ Some (row_encoding V.seen map)) }
     // PROMISE: After a save that is done, a crash leaves the new file.
     ensures done { (path : List ℕ) (map : List V) (before calls : List Event) (disk new : Disk) → IsDirectoryOf path disk.directory →
-        IsSaved path (row_text V.seen map) before (before ++ calls) → Runs calls disk new → Keeps new path (Some (row_text V.seen map)) }
+        IsSaved path (row_encoding V.seen map) before (before ++ calls) → Runs calls disk new → Keeps new path (Some (row_encoding V.seen map)) }
 {}
 
 /// States that a crash at any moment of a save, or right after it, leaves the new file, or what a crash before the save might
@@ -39,12 +39,12 @@ pub fn a_crash_leaves_the_old_file_or_the_new_one<V: Version>()
 /// them.
 pub fn a_save_adds_its_own_file_alone<V: Version>()
     ensures saved { (path : List ℕ) (map : List V) (before calls : List Event) (disk : Disk) (left : Remains) →
-        IsSaved path (row_text V.seen map) before (before ++ calls) → MayLeaveDuring calls disk left →
-        (bytes_at left path ≡ Some (row_text V.seen map))
+        IsSaved path (row_encoding V.seen map) before (before ++ calls) → MayLeaveDuring calls disk left →
+        (bytes_at left path ≡ Some (row_encoding V.seen map))
         ⊎ ((earlier : Remains) × MayLeave disk earlier × (bytes_at earlier path ≡ bytes_at left path)) }
     ensures stopped { (path : List ℕ) (map : List V) (most : ℕ) (before calls : List Event) (fault : FileFault) (disk : Disk) (left : Remains) →
-        IsStopped (FitsRow V.seen most map) path (row_text V.seen map) before (before ++ calls) fault → MayLeaveDuring calls disk left →
-        (bytes_at left path ≡ Some (row_text V.seen map))
+        IsStopped (FitsRow V.seen most map) path (row_encoding V.seen map) before (before ++ calls) fault → MayLeaveDuring calls disk left →
+        (bytes_at left path ≡ Some (row_encoding V.seen map))
         ⊎ ((earlier : Remains) × MayLeave disk earlier × (bytes_at earlier path ≡ bytes_at left path)) }
     ensures right_after { (calls : List Event) (disk new : Disk) (left : Remains) →
         Runs calls disk new → MayLeave new left → MayLeaveDuring calls disk left }
@@ -99,13 +99,14 @@ pub fn no_crash_leaves_the_old_file_without_the_old_log<V: Version>()
 pub fn pieces_of_one_map_are_its_row<V: Version>()
     // PROMISE: A state that doesn't change while its file is written anew is in the new file as a save writes it.
     ensures { (map : List V) (maps : List (List V)) (row : List ℕ) → IsMap V.seen V.Key.cmp map → All (λ (other : List V). other ≡ map) maps →
-        IsWritten V.seen V.Key.cmp maps row End → row ≡ row_text V.seen map }
+        IsWritten V.seen V.Key.cmp maps row End → row ≡ row_encoding V.seen map }
 {}
 
 /// States that no crash loses a version while a file is written anew or saved, whenever it comes. To have a version is to have
 /// it, or a greater one of its key. What stands in the file or a log after any crash outlasts a crash; and what outlasts one
-/// before a file is written anew outlasts one while it is, and after it, if each state has it from which the file is written. A log
-/// that is written meanwhile isn't synced, as far as these disks know, and may hold anything: what it acknowledged is in it.
+/// before a file is written anew outlasts one while it is, and after it, if each state has it from which the file is written. A
+/// log that is written meanwhile isn't synced, as far as these disks know, and may hold anything: what it acknowledged is in
+/// it.
 pub fn no_crash_loses_a_version<V: Record>()
     ensures stands { (unknown : Unknown) (path : List ℕ) (v : V) (left : Remains) →
         Stands V.seen (V.reads unknown) path v left → IsKept V.seen (V.reads unknown) path v left }
@@ -128,16 +129,16 @@ pub fn no_crash_loses_a_version<V: Record>()
         IsKnown V.seen (V.reads unknown) path states disk left v }
     // PROMISE: Nor does a crash at any moment of a save lose a version, if the state that is saved has it, or a greater one of its key.
     ensures saved { (unknown : Unknown) (path : List ℕ) (most : ℕ) (state : List V) (before calls : List Event) (fault : FileFault) (disk : Disk) (v : V) →
-        length (row_text V.seen state) < 2 ^ 64 → IsState V.seen V.Key.cmp V.Version.is_value V.plain unknown state →
-        IsTried (FitsRow V.seen most state) path (row_text V.seen state) before (before ++ calls) fault →
+        length (row_encoding V.seen state) < 2 ^ 64 → IsState V.seen V.Key.cmp V.Version.is_value V.plain unknown state →
+        IsTried (FitsRow V.seen most state) path (row_encoding V.seen state) before (before ++ calls) fault →
         Outlasts V.seen (V.reads unknown) path v disk → HasAtLeast V.seen v state →
         OutlastsDuring V.seen (V.reads unknown) path v calls disk }
     ensures after { (unknown : Unknown) (path : List ℕ) (calls : List Event) (disk new : Disk) (v : V) →
         Runs calls disk new → OutlastsDuring V.seen (V.reads unknown) path v calls disk → Outlasts V.seen (V.reads unknown) path v new }
 {}
 
-/// States that a state keeps a version, or a greater one of its key, as it takes others and is swept, unless the one that it had
-/// has expired.
+/// States that a state keeps a version, or a greater one of its key, as it takes others and is swept, unless the one that it
+/// had has expired.
 pub fn a_state_keeps_what_it_has<V: Version>()
     ensures joined { (state other joined : List V) (v : V) → IsMap V.seen V.Key.cmp state →
         IsJoin V.seen V.Key.cmp state other joined → HasAtLeast V.seen v state → HasAtLeast V.seen v joined }

@@ -1,7 +1,7 @@
 //! The saving of a state in a file.
 
 ghost use Rattle.std.specs.Prelude.{◌≡◌, ◌++◌, [], Some, length, IfOk, IfErr, OnOk};
-ghost use Rattle.am_snapshot.specs.Texts.{row_text};
+ghost use Rattle.am_snapshot.specs.Encodings.{row_encoding};
 ghost use Rattle.am_snapshot.specs.Saving.{FitsRow, IsSavableWithin};
 ghost use Rattle.am_store.specs.Saves.{IsDirectoryOf, IsLeft, IsSaved, IsStopped, beside, replacing};
 
@@ -35,10 +35,10 @@ fn replace<V: Version, D: Disk>(
 ) -> Result<u64, FileFault>
     requires new { new.now ≡ beside path.now }
     requires empty { D.File.contents file ≡ Some [] }
-    ensures replaced { OnOk result (D.calls disk.new ≡ D.calls disk.old ++ replacing path.now (row_text V.seen held.now)) }
+    ensures replaced { OnOk result (D.calls disk.new ≡ D.calls disk.old ++ replacing path.now (row_encoding V.seen held.now)) }
     ensures savable { OnOk result (IsSavableWithin V.seen V.Key.cmp V.is_value most held.now) }
-    ensures count { IfOk result (λ written. written ≡ length (row_text V.seen held.now)) }
-    ensures left { IfErr result (IsLeft (FitsRow V.seen most held.now) path.now (row_text V.seen held.now) (D.calls disk.old) (D.calls disk.new)) }
+    ensures count { IfOk result (λ written. written ≡ length (row_encoding V.seen held.now)) }
+    ensures left { IfErr result (IsLeft (FitsRow V.seen most held.now) path.now (row_encoding V.seen held.now) (D.calls disk.old) (D.calls disk.new)) }
 {
     disk.permit(&file, path)?;
     let written = save_within(alloc, held, &mut file, most)?;
@@ -52,8 +52,8 @@ fn replace<V: Version, D: Disk>(
 ///
 /// # Errors
 ///
-/// The reason why it isn't saved, as a [`FileFault`]. The file that was there is as it was then, or the new one is there if only
-/// the directory wasn't synced to the disk.
+/// The reason why it isn't saved, as a [`FileFault`]. The file that was there is as it was then, or the new one is there if
+/// only the directory wasn't synced to the disk.
 pub fn save_file<V: Version, D: Disk>(
     disk: &mut D,
     alloc: Global,
@@ -62,11 +62,11 @@ pub fn save_file<V: Version, D: Disk>(
     most: u32,
 ) -> Result<u64, FileFault>
     // PROMISE: A save that succeeds wrote a new file, synced it, renamed it and synced its directory.
-    ensures saved { OnOk result (IsSaved path.now (row_text V.seen held.now) (D.calls disk.old) (D.calls disk.new)) }
+    ensures saved { OnOk result (IsSaved path.now (row_encoding V.seen held.now) (D.calls disk.old) (D.calls disk.new)) }
     ensures savable { OnOk result (IsSavableWithin V.seen V.Key.cmp V.is_value most held.now) }
-    ensures count { IfOk result (λ written. written ≡ length (row_text V.seen held.now)) }
+    ensures count { IfOk result (λ written. written ≡ length (row_encoding V.seen held.now)) }
     // PROMISE: A save that fails removes its own new file and touches nothing else.
-    ensures stopped { IfErr result (IsStopped (FitsRow V.seen most held.now) path.now (row_text V.seen held.now) (D.calls disk.old) (D.calls disk.new)) }
+    ensures stopped { IfErr result (IsStopped (FitsRow V.seen most held.now) path.now (row_encoding V.seen held.now) (D.calls disk.old) (D.calls disk.new)) }
 {
     let Ok(new) = format!(in alloc; "{path}.new") else {
         return Err(FileFault::Snapshot(SnapshotError::Memory));

@@ -1,7 +1,7 @@
 //! The files of a state, which belong to one process for as long as it lives.
 
 ghost use Rattle.std.specs.Prelude.{◌≡◌, ◌⊎◌, is_some, IfErr, IfOk, OnErr, OnOk};
-ghost use Rattle.am_snapshot.specs.Texts.{row_text};
+ghost use Rattle.am_snapshot.specs.Encodings.{row_encoding};
 ghost use Rattle.am_snapshot.specs.Saving.{FitsRow};
 ghost use Rattle.am_store.specs.Appending.{Appends, Commits, IfKept, IsBegunAnew, IsNotTrusted, log_of};
 ghost use Rattle.am_store.specs.Rewrites.{path_of};
@@ -126,14 +126,14 @@ impl StateFile {
         self.path.as_str()
     }
 
-    /// Returns whether a log stands beside the file that is to go once the whole state is in the file: one of an earlier time if
-    /// none is kept, or one that an earlier compaction left.
+    /// Returns whether a log stands beside the file that is to go once the whole state is in the file: one of an earlier time
+    /// if none is kept, or one that an earlier compaction left.
     pub fn owes_save(&self) -> bool {
         self.owes_save
     }
 
-    /// Returns the number of bytes at the end of the logs that were being written when the last process ended. If a log is kept,
-    /// they are cut off.
+    /// Returns the number of bytes at the end of the logs that were being written when the last process ended. If a log is
+    /// kept, they are cut off.
     pub fn torn(&self) -> u64 {
         self.torn
     }
@@ -152,11 +152,11 @@ impl StateFile {
         ensures path { path_of self.new ≡ path_of self.old }
         ensures anew { OnOk result (IsBegunAnew (log_of self.new)) }
         // PROMISE: A save puts just the row of the state into its own file.
-        ensures saved { OnOk result (IsSaved (path_of self.old) (row_text V.seen held.now) (saves_of self.old) (saves_of self.new)) }
-        ensures failed { IfErr result (IsTried (FitsRow V.seen most held.now) (path_of self.old) (row_text V.seen held.now) (saves_of self.old) (saves_of self.new)) }
+        ensures saved { OnOk result (IsSaved (path_of self.old) (row_encoding V.seen held.now) (saves_of self.old) (saves_of self.new)) }
+        ensures failed { IfErr result (IsTried (FitsRow V.seen most held.now) (path_of self.old) (row_encoding V.seen held.now) (saves_of self.old) (saves_of self.new)) }
         // PROMISE: If a log can't be begun anew after a save, it is no longer trusted.
         ensures untrusted { IfErr result (λ fault.
-            IsStopped (FitsRow V.seen most held.now) (path_of self.old) (row_text V.seen held.now) (saves_of self.old) (saves_of self.new) fault
+            IsStopped (FitsRow V.seen most held.now) (path_of self.old) (row_encoding V.seen held.now) (saves_of self.old) (saves_of self.new) fault
             ⊎ IsNotTrusted self.new) }
     {
         // (want of room may be the reason for this save)
@@ -176,8 +176,8 @@ impl StateFile {
         most: u32,
     ) -> Result<u64, FileFault>
         ensures path { path_of self.new ≡ path_of self.old }
-        ensures saved { OnOk result (IsSaved (path_of self.old) (row_text V.seen held.now) (saves_of self.old) (saves_of self.new)) }
-        ensures stopped { IfErr result (IsStopped (FitsRow V.seen most held.now) (path_of self.old) (row_text V.seen held.now) (saves_of self.old) (saves_of self.new)) }
+        ensures saved { OnOk result (IsSaved (path_of self.old) (row_encoding V.seen held.now) (saves_of self.old) (saves_of self.new)) }
+        ensures stopped { IfErr result (IsStopped (FitsRow V.seen most held.now) (path_of self.old) (row_encoding V.seen held.now) (saves_of self.old) (saves_of self.new)) }
     {
         let mut disk = SystemDisk::after(rt, mem::replace(&mut self.saves, Record::new()));
         let saved = save_file(&mut disk, rt.alloc(), self.path.as_str(), held, most);

@@ -1,4 +1,4 @@
--- Canonical texts, read from the front.
+-- Canonical encodings, read from the front.
 use Rattle.std.specs.Prelude.{◌≡◌, ℕ, ◌<◌, ◌^◌, List, ◌++◌, All}
 use Rattle.std.specs.List.{flat_map}
 use Rattle.am_wire.specs.declared.offset.Offset.{Offset}

@@ -1,4 +1,4 @@
--- The canonical text of a message.
+-- The canonical encoding of a message.
 use Rattle.std.specs.Prelude.{ℕ, ◌+◌, ◌*◌, List, [], ◌++◌, length, ◌==◌, if◌then◌else◌}
 use Rattle.std.specs.List.{flat_map}
 use Rattle.am_wire.specs.Varint.{shortest}

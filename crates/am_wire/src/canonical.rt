@@ -1,4 +1,4 @@
-//! A reader of canonical texts, which accepts only what a writer of the same values writes.
+//! A reader of canonical encodings, which accepts only what a writer of the same values writes.
 
 ghost use Rattle.std.specs.Prelude.{◌≡◌, ◌<◌, ◌≤◌, ◌-◌, ◌^◌, ◌%◌, ◌∷◌, ◌++◌, [], true, false, take, drop, length, IfSome};
 ghost use Rattle.std.specs.Str.{IsUtf8};

@@ -17,12 +17,12 @@ use crate::unknown::Unknown;
 use crate::writing::write_prefix;
 use std::alloc::{AllocError, Global};
 
-/// A value that is written as one canonical text, and read from every text that spells it.
+/// A value that is written as one canonical encoding, and read from every text that spells it.
 pub trait Message: Sized + Drop {
     /// Holds of the values of the type.
     ghost is_value: { Self → Type 0 };
 
-    /// The canonical text of a value.
+    /// The canonical encoding of a value.
     ghost writes: { Self → List ℕ };
 
     /// The same value without the fields that its reader doesn't know.

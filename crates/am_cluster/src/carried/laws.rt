@@ -8,7 +8,7 @@ ghost use Rattle.am_silence.specs.Mesh.{Mesh, IsMesh, mesh_version, without_unkn
 ghost use Rattle.am_nflog.specs.Mesh.{Mesh as LogMesh, IsMesh as IsLogMesh, mesh_version as entry_version, without_unknown as entry_without_unknown};
 ghost use Rattle.am_gossip.specs.declared.frame.Frame.TheVariants.{Push, Pull};
 ghost use Rattle.am_gossip.specs.Frames.{fits};
-ghost use Rattle.am_snapshot.specs.Texts.{row_text};
+ghost use Rattle.am_snapshot.specs.Encodings.{row_encoding};
 ghost use Rattle.am_instance.specs.Deliveries.{Delivery, IsWhole, first_fault, parts_of, rows_in};
 ghost use Rattle.am_instance.specs.Deliveries.Delivery.{OfSilence, OfEntry};
 ghost use Rattle.am_instance.specs.Sendings.{delta_of, whole_state};
@@ -35,7 +35,8 @@ pub fn whole_states_carry_both_maps()
         carries unknown (Pull (whole_state silences log)) ≡ held_in silences log }
 {}
 
-/// Values of which nothing is lost are read again where a frame of them keeps its limit, or the row of their map is no longer than a row may be.
+/// Values of which nothing is lost are read again where a frame of them keeps its limit, or the row of their map is no longer
+/// than a row may be.
 pub fn what_keeps_its_limit_is_readable()
     ensures delta { (unknown : Unknown) (d : Delivery) → IsValue d → IsWhole unknown d → fits (delta_of d) ≡ true → IsReadable unknown d }
     ensures push { (unknown : Unknown) (silences : List Mesh) (log : List LogMesh) → All IsMesh silences → All IsLogMesh log →
@@ -47,10 +48,10 @@ pub fn what_keeps_its_limit_is_readable()
         fits (Pull (whole_state silences log)) ≡ true →
         All (IsReadable unknown) (map OfSilence silences) × All (IsReadable unknown) (map OfEntry log) }
     ensures silences { (unknown : Unknown) (silences : List Mesh) → All IsMesh silences →
-        All (StaysWhole without_unknown unknown) silences → length (row_text mesh_version silences) ≤ most →
+        All (StaysWhole without_unknown unknown) silences → length (row_encoding mesh_version silences) ≤ most →
         All (IsReadable unknown) (map OfSilence silences) }
     ensures log { (unknown : Unknown) (log : List LogMesh) → All IsLogMesh log →
-        All (StaysWhole entry_without_unknown unknown) log → length (row_text entry_version log) ≤ most → All (IsReadable unknown) (map OfEntry log) }
+        All (StaysWhole entry_without_unknown unknown) log → length (row_encoding entry_version log) ≤ most → All (IsReadable unknown) (map OfEntry log) }
 {}
 
 /// The versions of both maps, parted by their state, are the maps again; and what comes behind others is parted behind them.

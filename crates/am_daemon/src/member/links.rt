@@ -115,7 +115,7 @@ impl<U: Backend> ServerState<'_, U> {
             }
             return None;
         }
-        let bytes = self.backend.text_of(config, place, None, &frames)?;
+        let bytes = self.backend.encoding_of(config, place, None, &frames)?;
         Some(PeerBytes { peer, bytes })
     }
 
@@ -184,9 +184,14 @@ impl<U: Backend> ServerState<'_, U> {
         }
     }
 
-    /// Returns the bytes that go to a peer next over its link, which answered with `answer`: those of the frames that are put by,
-    /// or of the next part of all that is held.
-    fn text_behind(&mut self, instance: &Instance, peer: usize, answer: &[u8]) -> Option<Vec<u8>>
+    /// Returns the bytes that go to a peer next over its link, which answered with `answer`: those of the frames that are put
+    /// by, or of the next part of all that is held.
+    fn encoding_behind(
+        &mut self,
+        instance: &Instance,
+        peer: usize,
+        answer: &[u8],
+    ) -> Option<Vec<u8>>
         ensures { let was = for_peers U.outbound U.sealed_by self.old in let is = for_peers U.outbound U.sealed_by self.new in
             MatchOption result ((is ≡ record (with_put_by peer (put_by_for is peer) was) { queue = is.queue }) × AreLost (put_by_for was peer).frames was.queue is.queue)
             (λ bytes. IsGiven instance.now.config peer answer.now (Some bytes.items) was is) }
@@ -198,12 +203,12 @@ impl<U: Backend> ServerState<'_, U> {
             return None;
         };
         self.backend
-            .text_of(instance.config(), peer as Place, from, &frames)
+            .encoding_of(instance.config(), peer as Place, from, &frames)
     }
 
     /// Returns the bytes that go to a peer next over its link, which answered with `answer`. If there are none, the link is
     /// closed, and nothing more is handed to the peer.
-    pub(super) fn next_text(
+    pub(super) fn next_encoding(
         &mut self,
         instance: &Instance,
         peer: usize,
@@ -211,7 +216,7 @@ impl<U: Backend> ServerState<'_, U> {
     ) -> Option<Vec<u8>>
         ensures { IsGiven instance.now.config peer answer.now (option_map (λ bytes. bytes.items) result) (for_peers U.outbound U.sealed_by self.old) (for_peers U.outbound U.sealed_by self.new) }
     {
-        match self.text_behind(instance, peer, answer) {
+        match self.encoding_behind(instance, peer, answer) {
             Some(text) => Some(text),
             None => {
                 hand_nothing(&mut self.transfers, peer);

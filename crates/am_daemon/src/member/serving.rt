@@ -203,7 +203,7 @@ impl<U: Backend> Server<'_, U> {
             (for_peers U.outbound U.sealed_by self.old.state) (for_peers U.outbound U.sealed_by self.new.state) }
     {
         self.state.backend.count_all_out(peer);
-        self.state.next_text(instance, peer, answer)
+        self.state.next_encoding(instance, peer, answer)
     }
 
     /// Reports a link to a peer, or an exchange with a replica, that is lost.

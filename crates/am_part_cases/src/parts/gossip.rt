@@ -4,7 +4,7 @@ use crate::common::{Case, cut};
 use crate::parts::maps;
 use am_gossip::StateKey;
 use am_memberlist::{
-    AnswerError, LzwError, Said, read_message, request_text, row_in, states_text, unpack,
+    AnswerError, LzwError, Said, read_message, request_encoding, row_in, states_encoding, unpack,
     unpack_answer,
 };
 
@@ -23,7 +23,7 @@ pub fn answer(case: &Case, verb: &str, rest: &str) {
         "message" => message(case, rest),
         "ask" => {
             let bytes = case.bytes(rest);
-            given!(text = case.made(request_text(case.alloc, bytes.as_slice())));
+            given!(text = case.made(request_encoding(case.alloc, bytes.as_slice())));
             case.say_bytes(text.as_slice());
         }
         "told" => told(case, rest),
@@ -92,6 +92,6 @@ fn telling(case: &Case, rest: &str) {
     given!(words = state_of(case, rest));
     let (key, bytes) = words;
     let bytes = case.bytes(bytes);
-    given!(text = case.made(states_text(case.alloc, key, bytes.as_slice())));
+    given!(text = case.made(states_encoding(case.alloc, key, bytes.as_slice())));
     case.say_bytes(text.as_slice());
 }

@@ -1,8 +1,8 @@
 use Rattle.std.proofs.Common.{◌≡◌, ◌++◌, List, [], ℕ, ap, append-nil, arith, length, subst}
 use Rattle.std.proofs.lemmas.Result.{err_from_is_err_and}
 use Rattle.am_wire.specs.Writing.{delimited}
-use Rattle.am_snapshot.specs.Texts.{row_text}
-use Rattle.am_snapshot.proofs.RowTexts.{row_end, row_more, row_within}
+use Rattle.am_snapshot.specs.Encodings.{row_encoding}
+use Rattle.am_snapshot.proofs.RowEncodings.{row_end, row_more, row_within}
 use Rattle.am_snapshot.specs.Writing.{Passes}
 use Rattle.am_snapshot.proofs.Passing.{passes_none, passes_then, passes_count, stops_in_first, stops_later}
 use Rattle.am_snapshot.proofs.saving.send_versions.Goals as goal
@@ -13,7 +13,7 @@ loop-version-init g c =
     let waiting = c.args.out.now.gathered.items in
     record {
       sent = [];
-      whole = ap (λ (vs : List g.row.V.Denot). row_text g.V.Version.seen vs) same;
+      whole = ap (λ (vs : List g.row.V.Denot). row_encoding g.V.Version.seen vs) same;
       passes = subst (λ (left : List ℕ). Passes (g.W.Write.contents c.args.writer.now) (g.W.Write.contents c.args.writer.now) waiting [] left c.args.out.now.written c.args.out.now.written) (append-nil waiting) (passes_none (g.W.Write.contents c.args.writer.now) waiting [] c.args.out.now.written);
     }
 
@@ -32,7 +32,7 @@ returns-in_err-send_delimited-clause-stopped g c =
     let content = (g.V.Version.seen c.in-Some.version.now).content in
     let stop = rw c.canonical.ensures.content at c.in_err-send_delimited.ensures.stopped in
     let later = stops_later _ _ _ _ _ _ _ _ _ _ so_far.passes stop in
-    let more = stops_in_first _ _ c.args.out.now.gathered.items (so_far.sent ++ delimited content) (row_text g.V.Version.seen c.next.new.self) _ _ later in
+    let more = stops_in_first _ _ c.args.out.now.gathered.items (so_far.sent ++ delimited content) (row_encoding g.V.Version.seen c.next.new.self) _ _ later in
     let row = row_more g.V.Version.seen so_far.sent c.loop-version.version-iterator c.next.new.self c.args.held.now c.in-Some.version.now c.in-Some.ensures.steps so_far.whole in
     rw (p.1, p.2) (rw row at more)
 

@@ -4,7 +4,7 @@ use mathlib.Core.List.{append_assoc}
 use Rattle.std.specs.IoError.{error_kind}
 use Rattle.std.specs.Io.KnownBytes.{Appends}
 use Rattle.am_snapshot.specs.Saving.{FitsRow}
-use Rattle.am_snapshot.specs.Texts.{row_text}
+use Rattle.am_snapshot.specs.Encodings.{row_encoding}
 use Rattle.am_store.specs.Saves.{Row, Safety, Name}
 use Rattle.am_store.proofs.Stops.{of_row, whole}
 use Rattle.am_store.proofs.saving.replace.Goals as goal
@@ -16,13 +16,13 @@ returns-in_err-written-clause-left g c =
     rw (p.1, p.2) (record {
       lack = Row;
       calls = search (rules, append_assoc);
-      cause = (error, refl, of_row g.D.File.Write.contents c.args.file c.save_within.new.writer (FitsRow g.V.Version.seen c.args.most c.args.held.now) (row_text g.V.Version.seen c.args.held.now) error c.in_err-written.ensures.stopped (λ e. c.in_err-written.ensures.too_large.0 (ap Err e)));
+      cause = (error, refl, of_row g.D.File.Write.contents c.args.file c.save_within.new.writer (FitsRow g.V.Version.seen c.args.most c.args.held.now) (row_encoding g.V.Version.seen c.args.held.now) error c.in_err-written.ensures.stopped (λ e. c.in_err-written.ensures.too_large.0 (ap Err e)));
     })
 
 pub returns-in_err-sync-clause-left : goal.returns-in_err-sync-clause-left
 returns-in_err-sync-clause-left g c =
     let p = err_from_is_err_and c.from_residual-in_err-sync.result c.from_residual-in_err-sync.ensures.1 in
-    let row = row_text g.V.Version.seen c.args.held.now in
+    let row = row_encoding g.V.Version.seen c.args.held.now in
     let all = whole (g.D.File.Write.contents c.save_within.new.writer) row (subst (λ (o : Option (List ℕ)). Appends o (g.D.File.Write.contents c.save_within.new.writer) row) c.requires.empty c.in_ok-written.ensures.row) in
     rw (p.1, p.2) (record {
       lack = Safety;
@@ -33,7 +33,7 @@ returns-in_err-sync-clause-left g c =
 pub returns-in_err-rename-clause-left : goal.returns-in_err-rename-clause-left
 returns-in_err-rename-clause-left g c =
     let p = err_from_is_err_and c.from_residual-in_err-rename.result c.from_residual-in_err-rename.ensures.1 in
-    let row = row_text g.V.Version.seen c.args.held.now in
+    let row = row_encoding g.V.Version.seen c.args.held.now in
     let all = whole (g.D.File.Write.contents c.save_within.new.writer) row (subst (λ (o : Option (List ℕ)). Appends o (g.D.File.Write.contents c.save_within.new.writer) row) c.requires.empty c.in_ok-written.ensures.row) in
     rw (p.1, p.2) (record {
       lack = Name;
