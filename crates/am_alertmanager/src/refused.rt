@@ -17,7 +17,7 @@ pub enum Refused {
     Other,
 }
 
-/// Returns why a version that was sent isn't held, where `held` is what is at its key.
+/// Returns why a version that was sent isn't held. `held` is the one at its key.
 pub fn why_refused<V: Version>(held: Option<&V>, version: &V, now: Moment) -> Refused
     ensures { result ≡ why_refused V.seen now (option_copied held.entry) version.now }
 {

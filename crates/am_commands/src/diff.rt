@@ -225,11 +225,11 @@ fn write_report<V: ReportLine + InJson, W: Write>(
 
 /// Reads sources, and then writes all their differences: the keys at which they differ, in order.
 ///
-/// What was read is forgotten: the process is to end then, and its memory with it.
+/// The bytes that were read are forgotten: the process is to end then, and its memory with it.
 ///
 /// # Errors
 ///
-/// Those of [`read_sources`], before a byte goes out, and then [`Stopped::Told`] where memory runs out or a write fails.
+/// Those of [`read_sources`], before a byte goes out, and then [`Stopped::Told`] if memory runs out or a write fails.
 pub fn diff_sources<V: ReportLine + InJson, S: Source<V>, W: Write>(
     alloc: Global,
     inputs: &mut [Input<'_, S>],

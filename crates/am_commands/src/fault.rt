@@ -81,14 +81,14 @@ impl From<AllocError> for Stopped {
 ///
 /// # Errors
 ///
-/// [`AllocError`] where memory runs out.
+/// [`AllocError`] if memory runs out.
 pub fn add<T: Drop>(all: &mut Vec<T>, more: T) -> Result<(), AllocError>
     ensures { OnOk result (all.new.items ≡ all.old.items ++ more ∷ []) }
 {
     Ok(all.push(more)?)
 }
 
-/// Prints on standard error why a command stopped, behind the name of the source that is at fault where it has one, or the path
+/// Prints on standard error why a command stopped, behind the name of the source that is at fault if it has one, or the path
 /// of its log, and to a person what it means. Returns the exit status of the program.
 pub fn report_stopped<R: Host>(rt: &R, name: Option<&str>, stopped: &Stopped) -> u8
     // PROMISE: A command's status is that of the first fault.

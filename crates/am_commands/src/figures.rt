@@ -176,8 +176,8 @@ fn figures_of<V: InJson>(
 ///
 /// # Errors
 ///
-/// [`SnapshotError::Write`] where a write fails or takes nothing: exactly the first `written` bytes of the text went out, and it
-/// is not tried again. [`SnapshotError::Memory`] where memory runs out, before a byte goes out.
+/// [`SnapshotError::Write`] if a write fails or takes nothing: exactly the first `written` bytes of the text went out, and it
+/// is not tried again. [`SnapshotError::Memory`] if memory runs out, before a byte goes out.
 pub fn write_figures<V: InJson, W: Write>(
     alloc: Global,
     replicas: &[Replica<'_, V>],

@@ -67,7 +67,7 @@ fn fold_files<
     }
 }
 
-/// Returns the name of the file that is at fault; standard input has none where no file is named.
+/// Returns the name of the file that is at fault; standard input has none if no file is named.
 fn name_of<'a>(job: &FoldJob<'a>, stopped: &Stopped) -> Option<&'a str> {
     job.files.get(stopped.number()?).copied()
 }
@@ -118,7 +118,7 @@ fn word_of(file: &str) -> SourceWord<'_>
 /// Writes the fold of sources, a row of at most `most` bytes: the greatest version of each key that one of them holds, in the
 /// order of the keys.
 ///
-/// What was read is forgotten: the process is to end then, and its memory with it.
+/// The bytes that were read are forgotten: the process is to end then, and its memory with it.
 ///
 /// # Errors
 ///

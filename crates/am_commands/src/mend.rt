@@ -1,4 +1,5 @@
-//! Running replicas, compared and mended: each is asked for all it holds, the differences are told, and each is sent what it lacks.
+//! Running replicas, compared and mended: each is asked for all it holds, the differences are told, and each is sent what it
+//! lacks.
 
 use crate::fault::{SourceFault, Stopped, add, report_stopped};
 use crate::host::{Host, Streams};
@@ -20,7 +21,7 @@ use am_wire::{Message, Unknown};
 use std::alloc::{AllocError, Global};
 use std::io::{Stdout, Write};
 
-/// Compares running replicas, mends them where that is asked for, and returns the exit status of the program.
+/// Compares running replicas, mends them if that is asked for, and returns the exit status of the program.
 pub fn run_mend<R: Host>(rt: &R, streams: Streams, job: &MendJob<'_>) -> u8 {
     let now = match moment_of(rt, job.now) {
         Ok(now) => now,

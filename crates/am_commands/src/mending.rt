@@ -29,7 +29,7 @@ pub struct Sent<V: Version> {
 }
 
 impl<V: Version> Sent<V> {
-    /// Sends the rows to a replica, in one exchange, where there are some.
+    /// Sends the rows to a replica, in one exchange, if there are any.
     ///
     /// # Errors
     ///
@@ -118,7 +118,7 @@ impl<V: Candidate + Message + ReportLine> Mending<V> {
         Ok(())
     }
 
-    /// Adds a message to what is sent, where it is to be and its version has no hazard.
+    /// Adds a message to what is sent, if it is to be and its version has no hazard.
     fn add(
         &self,
         alloc: Global,

@@ -138,9 +138,9 @@ pub struct Asked<'a> {
 /// A source that is opened: its row, and the logs beside it.
 #[derive(Drop)]
 pub struct Opened<R: Drop> {
-    /// None where logs stand beside no file.
+    /// None if logs stand beside no file.
     pub row: Option<R>,
-    /// None where no logs are asked for.
+    /// None if no logs are asked for.
     pub logs: Option<Logs>,
     pub reading: Reading,
 }
@@ -179,7 +179,7 @@ impl<V: Version + Message, R: Read + Drop> Source<V> for Opened<R> {
     }
 }
 
-/// Reads the row of a source, where it has one.
+/// Reads the row of a source, if it has one.
 fn read_row<V: Version + Message, R: Read + Drop>(
     alloc: Global,
     row: &mut Option<R>,
@@ -243,7 +243,7 @@ pub fn join_logs<V: Version + Message>(
     }
 }
 
-/// Opens a source, and the logs beside it where these are asked for.
+/// Opens a source, and the logs beside it if these are asked for.
 ///
 /// # Errors
 ///
@@ -278,7 +278,7 @@ pub fn open<R: Host>(
     }
 }
 
-/// Opens the logs beside a source, where these are asked for. Standard input has none.
+/// Opens the logs beside a source, if these are asked for. Standard input has none.
 fn logs_beside<R: Host>(rt: &R, file: &str, has_logs: bool) -> Result<Option<Logs>, LogFault> {
     if has_logs && file != STANDARD_INPUT {
         Ok(Some(Logs::open(rt, file)?))

@@ -178,11 +178,11 @@ fn write_form<V: Viewed + InJson, W: Write>(
 /// Writes the view of a source at a moment: what it holds that is live then, in the order of the keys. Returns whether
 /// something that it holds was updated after the moment.
 ///
-/// What was read is forgotten: the process is to end then, and its memory with it.
+/// The bytes that were read are forgotten: the process is to end then, and its memory with it.
 ///
 /// # Errors
 ///
-/// [`Stopped::Source`] with the fault of the source, before a byte goes out, and then [`Stopped::Told`] where memory runs out or
+/// [`Stopped::Source`] with the fault of the source, before a byte goes out, and then [`Stopped::Told`] if memory runs out or
 /// a write fails.
 pub fn show_source<V: Viewed + InJson, S: Source<V>, W: Write>(
     alloc: Global,

@@ -47,7 +47,7 @@ pub struct Input<'n, S: Drop> {
 ///
 /// # Errors
 ///
-/// [`Stopped::Source`] with the fault of the first source that isn't opened, and [`Stopped::Told`] where memory runs out.
+/// [`Stopped::Source`] with the fault of the first source that isn't opened, and [`Stopped::Told`] if memory runs out.
 pub fn inputs_of<'n, S: Drop, F: Fn(Asked<'n>) -> Result<S, SourceFault>>(
     alloc: Global,
     words: &[SourceWord<'n>],
@@ -101,7 +101,7 @@ fn read_one<'n, V: Version, S: Source<V>>(
 ///
 /// # Errors
 ///
-/// [`Stopped::Source`] with the fault of the first source that is at fault, and [`Stopped::Told`] where memory runs out.
+/// [`Stopped::Source`] with the fault of the first source that is at fault, and [`Stopped::Told`] if memory runs out.
 pub fn read_sources<'n, V: Version, S: Source<V>>(
     alloc: Global,
     inputs: &mut [Input<'n, S>],
@@ -144,7 +144,7 @@ fn join<V: Version>(mut all: Held<V>, more: Held<V>) -> Result<Held<V>, AllocErr
 ///
 /// # Errors
 ///
-/// [`Stopped::Source`] with the fault of the first source that is at fault, and [`Stopped::Told`] where memory runs out.
+/// [`Stopped::Source`] with the fault of the first source that is at fault, and [`Stopped::Told`] if memory runs out.
 pub fn join_sources<V: Version, S: Source<V>>(
     alloc: Global,
     inputs: &mut [Input<'_, S>],

@@ -83,8 +83,8 @@ fn append_name(sheet: &Sheet<'_>, out: &mut String, place: Place) -> Result<(), 
     append_shortened(sheet.alloc, out, sheet.name(place), MOST_OF_NAME)
 }
 
-/// Returns the position of the mark of a line: at its member's lane, or where a frame is delivered or lost, or else at the
-/// words.
+/// Returns the position of the mark of a line: at its member's lane, at the place of a frame that is delivered or lost, or else
+/// at the words.
 fn lane_of_mark(sheet: &Sheet<'_>, mark: &Mark) -> u64 {
     if let Some(place) = mark.place {
         return lane_of(place);
@@ -116,7 +116,7 @@ fn append_mark_title(
     out.push_str("</title>")
 }
 
-/// Returns the shape for a line: a cross where a frame is lost, nothing for lines about the whole cluster and for a frame that
+/// Returns the shape for a line: a cross if a frame is lost, nothing for lines about the whole cluster and for a frame that
 /// isn't in flight, and otherwise a dot.
 fn shape_of(mark: &Mark) -> &'static str {
     match (mark.verb, mark.flying()) {

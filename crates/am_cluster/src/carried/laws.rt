@@ -16,13 +16,13 @@ ghost use Rattle.am_cluster.specs.BothStates.{log_state, silence_state};
 ghost use Rattle.am_cluster.specs.Contents.{carries, entries_in, held_in, silences_in, IsReadable, IsValue};
 ghost use Rattle.am_cluster.specs.StepLaws.{VersionsStayInOrder};
 
-/// A Delta of a version carries just that version, and nothing in it is at fault.
+/// States that a Delta of a version carries just that version, and nothing in it is at fault.
 pub fn deltas_carry_their_version()
     ensures rows { (unknown : Unknown) (d : Delivery) → IsReadable unknown d → rows_in unknown (parts_of (delta_of d)) ≡ Ok d ∷ [] }
     ensures carried { (unknown : Unknown) (d : Delivery) → IsReadable unknown d → carries unknown (delta_of d) ≡ d ∷ [] }
 {}
 
-/// A Push or a Pull of both maps carries all their versions, and nothing in it is at fault.
+/// States that a Push or a Pull of both maps carries all their versions, and nothing in it is at fault.
 pub fn whole_states_carry_both_maps()
     ensures sound { (unknown : Unknown) (silences : List Mesh) (log : List LogMesh) → All (IsReadable unknown) (map OfSilence silences) →
         All (IsReadable unknown) (map OfEntry log) →
@@ -35,8 +35,8 @@ pub fn whole_states_carry_both_maps()
         carries unknown (Pull (whole_state silences log)) ≡ held_in silences log }
 {}
 
-/// Values of which nothing is lost are read again where a frame of them keeps its limit, or the row of their map is no longer
-/// than a row may be.
+/// States that values of which nothing is lost are read again if a frame of them keeps its limit, or the row of their map is no
+/// longer than a row may be.
 pub fn what_keeps_its_limit_is_readable()
     ensures delta { (unknown : Unknown) (d : Delivery) → IsValue d → IsWhole unknown d → fits (delta_of d) ≡ true → IsReadable unknown d }
     ensures push { (unknown : Unknown) (silences : List Mesh) (log : List LogMesh) → All IsMesh silences → All IsLogMesh log →
@@ -54,7 +54,8 @@ pub fn what_keeps_its_limit_is_readable()
         All (StaysWhole entry_without_unknown unknown) log → length (row_encoding entry_version log) ≤ most → All (IsReadable unknown) (map OfEntry log) }
 {}
 
-/// The versions of both maps, parted by their state, are the maps again; and what comes behind others is parted behind them.
+/// States that the versions of both maps, parted by their state, are the maps again, and that what comes behind others is
+/// parted behind them.
 pub fn states_are_parted()
     ensures silences { (silences : List Mesh) (log : List LogMesh) → silences_in (held_in silences log) ≡ silences }
     ensures log { (silences : List Mesh) (log : List LogMesh) → entries_in (held_in silences log) ≡ log }

@@ -12,11 +12,12 @@ use am_silence::MeshSilence;
 use am_wire::{Messages, Unknown, WireError};
 use std::alloc::{AllocError, Global};
 
-/// The versions in the rows of a frame, read by what is done with unknown fields, in their order, up to the first fault.
+/// Returns the versions in the rows of a frame, in their order, up to the first fault. Unknown fields are treated as `unknown`
+/// says.
 ///
 /// # Errors
 ///
-/// [`AllocError`] where memory runs out.
+/// [`AllocError`] if memory runs out.
 pub fn versions_in_frame(
     alloc: Global,
     unknown: Unknown,

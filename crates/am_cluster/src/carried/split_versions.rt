@@ -31,11 +31,11 @@ impl Model for SplitVersions {
 }
 
 impl SplitVersions {
-    /// No versions, with room for so many, whichever their state.
+    /// Returns no versions, with room for so many, whichever their state.
     ///
     /// # Errors
     ///
-    /// [`AllocError`] where memory runs out.
+    /// [`AllocError`] if memory runs out.
     pub fn with_room(alloc: Global, count: usize) -> Result<SplitVersions, AllocError>
         ensures silences { IfOk result (λ sorted. sorted.silences ≡ []) }
         ensures log { IfOk result (λ sorted. sorted.log ≡ []) }
@@ -60,8 +60,7 @@ impl SplitVersions {
         }
     }
 
-    /// Puts the first so many of the versions behind those of their states, or all where they are not so many. It takes
-    /// no memory.
+    /// Puts the first `count` versions behind those of their states, or all if they are fewer. It takes no memory.
     pub fn put_first(&mut self, versions: Vec<AnyVersion>, count: usize)
         requires { min count (length versions.items) ≤ self.old.room }
         ensures silences { self.new.silences ≡ self.old.silences ++ silences_in (take count (map delivery_of versions.items)) }
@@ -75,7 +74,7 @@ impl SplitVersions {
         }
     }
 
-    /// The versions of both states. It takes no memory.
+    /// Returns the versions of both states. It takes no memory.
     pub fn into_parts(self) -> (Vec<MeshSilence>, Vec<MeshEntry>)
         ensures silences { result.0.items ≡ self.silences }
         ensures log { result.1.items ≡ self.log }

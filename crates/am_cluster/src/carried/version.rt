@@ -23,7 +23,7 @@ pub trait FrameVersion: Message {
     /// The version as what is delivered.
     ghost delivered: { Self → Delivery };
 
-    /// The version as one of either state.
+    /// Returns the version as one of either state.
     fn carried(self) -> AnyVersion
         ensures same { delivery_of result ≡ delivered self }
         ensures value { IsValue (delivery_of result) };

@@ -8,7 +8,7 @@ use std::fmt::{self, Display, Formatter};
 use std::io::ErrorKind;
 use std::net::SocketAddr;
 
-/// A name and a number.
+/// Writes a name and a number.
 fn numbered<W: fmt::Write, N: Display + Drop>(
     f: &mut Formatter<W>,
     name: &str,
@@ -39,7 +39,7 @@ pub fn write_answer_error<W: fmt::Write>(error: &AnswerError, f: &mut Formatter<
     }
 }
 
-/// The address of a peer, or 0 where none is known.
+/// The address of a peer, or 0 if none is known.
 #[derive(Clone, Copy)]
 struct PeerWord(Option<SocketAddr>);
 

@@ -24,7 +24,7 @@ pub enum Takes {
     Nothing,
     /// An option with a value that passes the parser.
     Value(&'static str, ValueParser<'static>),
-    /// The same, where the text about it names what it may be.
+    /// The same, if the text about it names what it may be.
     Named(&'static str, ValueParser<'static>),
     /// An option with a value, any number of times.
     Values(&'static str),

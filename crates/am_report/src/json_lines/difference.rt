@@ -61,7 +61,7 @@ fn add_groups<V: InJson>(
 ///
 /// # Errors
 ///
-/// [`AllocError`] where memory runs out. A part of it may be left.
+/// [`AllocError`] if memory runs out. A part of it may be left.
 pub fn add_difference<V: InJson>(
     alloc: Global,
     out: &mut Writer,

@@ -74,7 +74,7 @@ pub fn add_behind<V: InJson>(
     Ok(())
 }
 
-/// Adds the group of the sources that hold nothing, where there are some.
+/// Adds the group of the sources that hold nothing, if there are any.
 pub fn add_missing<V: Version>(
     out: &mut Writer,
     sides: &[MergeCursor<'_, V>],

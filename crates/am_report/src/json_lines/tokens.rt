@@ -25,7 +25,7 @@ pub fn add_hash(out: &mut Writer, hash: u64) -> Result<(), AllocError>
     Ok(())
 }
 
-/// The text of a value, ended by a line feed.
+/// Returns the text of a value, ended by a line feed.
 pub fn line_of(out: Writer) -> Result<Vec<u8>, AllocError>
     ensures { IfOk result (λ line. line.items ≡ out.before ++ print out.tokens ++ 10 ∷ []) }
 {

@@ -20,13 +20,13 @@ pub trait InJson: WithUnknown {
     /// The value of a key.
     ghost key_data: { Self.Key → Data };
 
-    /// The name of the member that is a version.
+    /// Returns the name of the member that is a version.
     ghost named: { List ℕ };
 
     /// The value of a version at a moment.
     ghost value: { ℕ → Self → Data };
 
-    /// The name of the member that is a version.
+    /// Returns the name of the member that is a version.
     fn name() -> &'static str
         ensures { result.now ≡ named };
 
@@ -34,7 +34,7 @@ pub trait InJson: WithUnknown {
     ///
     /// # Errors
     ///
-    /// [`AllocError`] where memory runs out. A part of the value may be left.
+    /// [`AllocError`] if memory runs out. A part of the value may be left.
     fn add_key(alloc: Global, out: &mut Writer, key: &Self::Key) -> Result<(), AllocError>
         ensures { OnOk result (Adds out.old out.new (data_tokens (key_data key.now))) };
 
@@ -42,7 +42,7 @@ pub trait InJson: WithUnknown {
     ///
     /// # Errors
     ///
-    /// [`AllocError`] where memory runs out. A part of the value may be left.
+    /// [`AllocError`] if memory runs out. A part of the value may be left.
     fn add_value(&self, alloc: Global, out: &mut Writer, now: Moment) -> Result<(), AllocError>
         ensures { OnOk result (Adds out.old out.new (data_tokens (value now self.now))) };
 }

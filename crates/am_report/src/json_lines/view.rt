@@ -52,7 +52,7 @@ fn add_view<V: InJson>(
     Ok(())
 }
 
-/// The line of the versions in view.
+/// Returns the line of the versions in view.
 fn view_line<V: InJson>(alloc: Global, held: &Held<V>, now: Moment) -> Result<Vec<u8>, AllocError>
     ensures { IfOk result (λ line. line.items ≡ view_line V.seen V.value now held.now) }
 {
@@ -67,8 +67,8 @@ fn view_line<V: InJson>(alloc: Global, held: &Held<V>, now: Moment) -> Result<Ve
 ///
 /// # Errors
 ///
-/// [`SnapshotError::Write`] where a write fails or takes nothing: exactly the first `written` bytes went out, and it is
-/// not tried again. [`SnapshotError::Memory`] where memory runs out, before a byte goes out.
+/// [`SnapshotError::Write`] if a write fails or takes nothing: exactly the first `written` bytes went out, and it is
+/// not tried again. [`SnapshotError::Memory`] if memory runs out, before a byte goes out.
 pub fn write_view_json<V: InJson, W: Write>(
     alloc: Global,
     held: &Held<V>,

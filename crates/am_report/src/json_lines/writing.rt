@@ -64,7 +64,7 @@ struct Differences {
     line: Vec<u8>,
 }
 
-/// The line of all differences of these sources.
+/// Returns the line of all differences of these sources.
 fn differences_of<V: InJson>(
     alloc: Global,
     replicas: &[Replica<'_, V>],
@@ -89,8 +89,8 @@ fn differences_of<V: InJson>(
 ///
 /// # Errors
 ///
-/// [`SnapshotError::Write`] where a write fails or takes nothing: exactly the first `written` bytes of the line went out,
-/// and it is not tried again. [`SnapshotError::Memory`] where memory runs out, before a byte goes out.
+/// [`SnapshotError::Write`] if a write fails or takes nothing: exactly the first `written` bytes of the line went out,
+/// and it is not tried again. [`SnapshotError::Memory`] if memory runs out, before a byte goes out.
 pub fn write_differences_json<V: InJson, W: Write>(
     alloc: Global,
     replicas: &[Replica<'_, V>],
