@@ -1,7 +1,6 @@
 -- What a replica holds once it was sent what it lacks.
-use Rattle.std.proofs.Common.{◌≡◌, ℕ, zero, suc, ◌+◌, ◌<◌, ◌≤◌, Bool, true, false, cond, List, [], ◌∷◌, ◌++◌, length, get_or, Option, Some, None, refl, sym, ap, ◌∙◌, subst, arith, ltb}
+use Rattle.std.proofs.Common.{◌≡◌, ℕ, zero, suc, ◌<◌, Bool, true, false, cond, List, [], ◌∷◌, length, get_or, Option, Some, None, refl, sym, ap, ◌∙◌, subst, arith, ltb}
 use Rattle.std.specs.Prelude.{All, Contains, filter}
-use Rattle.std.specs.List.{AllByRecursion, flat_map}
 use Rattle.std.specs.declared.cmp.Ordering.{Ordering}
 use Rattle.std.specs.declared.cmp.Ordering.TheVariants.{Less}
 use Rattle.std.specs.Ordering.{eq_by_cmp}
@@ -11,7 +10,6 @@ use Rattle.std.proofs.lemmas.List.Elements.{Contains-append_left, Contains-appen
 use Rattle.am_version_order.specs.Versions.{Version, is_below, IsLive}
 use Rattle.am_version_order.proofs.Ranks.{below_itself, below-updated, tied}
 use Rattle.am_merge.specs.Maps.{IsMap, at, replaces, is_above}
-use Rattle.am_merge.specs.Views.{IsBest}
 use Rattle.am_merge.proofs.Keys.{IsKeyOrder, AreAbove, all_filtered, at-above, at-Contains, same_key}
 use Rattle.am_merge.proofs.Puts.{at-member}
 use Rattle.am_merge.specs.Views.{HoldsBest}

@@ -1,6 +1,6 @@
 -- The mending of a live replica: what it is sent, and what an Alertmanager holds after that came. X is the type of versions, and
 -- `seen` is what the merge sees of one.
-use Rattle.std.specs.Prelude.{◌≡◌, ℕ, ◌<◌, Bool, nat_lt, nat_le, nat_eq, ◌&&◌, if◌then◌else◌, List, filter, Option, Some, None, Contains}
+use Rattle.std.specs.Prelude.{◌≡◌, ℕ, Bool, nat_lt, nat_le, nat_eq, ◌&&◌, if◌then◌else◌, List, filter, Option, Some, None, Contains}
 use Rattle.std.specs.List.{flat_map}
 use Rattle.std.specs.declared.cmp.Ordering.{Ordering}
 use denote.Ref.{Bor}

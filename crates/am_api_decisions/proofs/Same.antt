@@ -1,8 +1,6 @@
 -- What asking alerts and deciding leave as it was.
-use Rattle.std.proofs.Common.{◌≡◌, ℕ, zero, suc, Bool, true, false, inl, inr, List, [], ◌∷◌, ◌++◌, map, take, Option, None, Some, Ok, Err, Result, refl, sym, ap, subst, ◌∙◌}
+use Rattle.std.proofs.Common.{◌≡◌, ℕ, zero, suc, Bool, true, false, inl, inr, List, [], ◌∷◌, ◌++◌, map, take, Ok, Err, Result, refl, sym, ap, subst, ◌∙◌}
 use Rattle.am_http.specs.Lines.{RefusalLine}
-use Rattle.am_http.specs.declared.refusal.Refusal.{Refusal}
-use Rattle.am_api_decisions.specs.declared.message.Alert.{Alert}
 use Rattle.am_instance.specs.Deliveries.{Delivery, events_at, to_log, to_silences}
 use Rattle.am_instance.specs.Deliveries.Delivery.{OfEntry, OfSilence}
 use Rattle.am_instance.specs.InstanceStates.{AreSilencesLeftBy, InstanceState, IsLogLeftBy, kept_log, kept_silences}
@@ -16,7 +14,7 @@ use Rattle.am_instance.specs.declared.reply.Made.{Made}
 use Rattle.am_instance.specs.declared.reply.Outcome.{Outcome}
 use Rattle.am_matcher.specs.declared.labels.Label.{Label}
 use Rattle.am_api_silences.specs.declared.replies.ResponseBytes.{ResponseBytes}
-use Rattle.am_api_decisions.specs.Asking.{AreAsked, AskedAlert, Counted, HoldsSame, IsStopped, StopsAt}
+use Rattle.am_api_decisions.specs.Asking.{AreAsked, AskedAlert, Counted, HoldsSame, StopsAt}
 use Rattle.am_api_decisions.specs.Settling.{IsSettled, IsSettledBy, decide_event, has_none}
 use Rattle.am_api_decisions.specs.declared.group.Group.{Group}
 use Rattle.am_api_decisions.specs.declared.settling.Judgement.{Judgement}

@@ -1,5 +1,5 @@
 -- The bytes of the replies to these calls (RFC 9112, sections 4 to 6).
-use Rattle.std.specs.Prelude.{◌≡◌, ℕ, Bool, List, [], ◌++◌, length, codes, decimal, if◌then◌else◌}
+use Rattle.std.specs.Prelude.{ℕ, Bool, List, [], ◌++◌, length, codes, decimal, if◌then◌else◌}
 use Rattle.am_api_status.specs.declared.page.TheConstants.{FIELDS}
 use Rattle.am_api_status.specs.declared.replies.Format.{Format}
 use Rattle.am_api_status.specs.declared.replies.Format.TheVariants.{Plain, Html, Json, Exposition}

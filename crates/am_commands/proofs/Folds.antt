@@ -1,11 +1,11 @@
 -- Sources that are folded, one more.
-use Rattle.std.proofs.Common.{◌≡◌, List, [], ◌∷◌, ◌++◌, Option, None, refl, sym, ap, ◌∙◌, subst}
+use Rattle.std.proofs.Common.{◌≡◌, List, [], ◌∷◌, ◌++◌, Option, None, refl, sym, ap, ◌∙◌}
 use Rattle.std.specs.Prelude.{fold}
 use Rattle.std.specs.declared.cmp.Ordering.{Ordering}
 use Rattle.am_version_order.specs.Versions.{Version}
 use Rattle.am_merge.specs.Maps.{IsMap, IsJoin, at, greater_of}
 use Rattle.am_report.specs.Sources.{Source}
-use Rattle.am_commands.specs.Folding.{IsFoldOf, greatest_at}
+use Rattle.am_commands.specs.Folding.{IsFoldOf}
 
 fold_more : {A B : Type 0} (f : B → A → B) (b : B) (xs : List A) (x : A) → fold f b (xs ++ x ∷ []) ≡ f (fold f b xs) x
 fold_more f b [] x = refl

@@ -1,13 +1,13 @@
 -- Whether sources differ, at the end of a walk on which nothing is told.
-use Rattle.std.proofs.Common.{◌≡◌, ℕ, List, [], map, subst}
+use Rattle.std.proofs.Common.{ℕ, List, [], map}
 use Rattle.std.specs.Prelude.{Bool}
 use Rattle.std.specs.declared.cmp.Ordering.{Ordering}
 use Rattle.am_version_order.specs.Versions.{Version}
 use Rattle.am_merge.proofs.Keys.{IsKeyOrder}
-use Rattle.am_report.specs.Sources.{MergeCursor, Source, rest_of, side_of}
+use Rattle.am_report.specs.Sources.{MergeCursor, rest_of}
 use Rattle.am_report.specs.Differences.{AreDifferences, Difference}
 use Rattle.am_report.specs.declared.compared.Compared.{Compared}
-use Rattle.am_report.proofs.Differing.{AreTold, told_all, begins_there}
+use Rattle.am_report.proofs.Differing.{AreTold, told_all}
 use Rattle.am_commands.specs.Figures.{IsFound}
 
 -- nothing is told of a difference

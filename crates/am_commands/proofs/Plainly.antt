@@ -1,5 +1,5 @@
 -- What a reader of rows answers without unknown fields, by what it answers with them.
-use Rattle.std.proofs.Common.{◌≡◌, ℕ, ◌<◌, ◌^◌, List, length, Option, Some, None, Result, Ok, Err, ◌⊎◌, inl, inr, ap, sym, subst, ◌∙◌}
+use Rattle.std.proofs.Common.{◌≡◌, ℕ, ◌<◌, ◌^◌, List, length, Option, Some, None, Result, Ok, Err, inl, inr, ap, sym, subst, ◌∙◌}
 use Rattle.am_wire.specs.declared.error.WireError.{WireError}
 use Rattle.am_wire.specs.declared.reader.RowFault.{RowFault}
 use Rattle.am_wire.specs.declared.reader.RowFault.TheVariants.{Read, Wire, TooLarge, Ended, Memory}
@@ -7,7 +7,7 @@ use Rattle.am_wire.specs.declared.reader.RowPosition.{RowPosition}
 use Rattle.am_wire.specs.declared.reader.RowPosition.TheVariants.{Before, Over, Refused}
 use Rattle.am_wire.specs.declared.unknown.Unknown.{Unknown}
 use Rattle.am_wire.specs.declared.unknown.Unknown.TheVariants.{Drop, Keep}
-use Rattle.am_wire.specs.Reader.{Answers, ReadsAs}
+use Rattle.am_wire.specs.Reader.{Answers}
 use Rattle.am_wire.specs.Unknown.{plainly}
 
 module _ {A : Type 0} (plain : A → A) (reads : Unknown → ℕ → List ℕ → Result A WireError)

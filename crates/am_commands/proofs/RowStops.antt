@@ -1,6 +1,6 @@
 -- The fault of a row, however it is read.
 use Rattle.std.proofs.Common.{◌≡◌, ℕ, List, Option, Some, None, refl, sym, subst}
-use Rattle.std.specs.Prelude.{IfSome, IfErr, Result, Ok, Err}
+use Rattle.std.specs.Prelude.{IfSome, Result}
 use Rattle.am_version_order.specs.Versions.{Version}
 use Rattle.am_wire.specs.declared.error.WireError.{WireError}
 use Rattle.am_wire.specs.declared.reader.RowFault.{RowFault}

@@ -18,7 +18,7 @@ use Rattle.am_silence.specs.declared.error.SilenceError.TheVariants as silence_e
 use Rattle.am_silence.proofs.Refusing.{unread_tells_no_memory}
 use Rattle.am_matcher.specs.declared.dialect.Dialect.{Dialect}
 use Rattle.am_matcher.specs.Matching.{has_regexp, matches_value}
-use Rattle.am_matcher.specs.Dialects.{AreMeant, IsVerdictIn, takes_names}
+use Rattle.am_matcher.specs.Dialects.{AreMeant, IsVerdictIn}
 use Rattle.am_matcher.proofs.Meant.{meant_once, plain_are_meant}
 use Rattle.am_gossip.specs.declared.refusals.StepError.{StepError}
 use Rattle.am_gossip.specs.declared.refusals.StepError.TheVariants.{Memory}
@@ -30,7 +30,7 @@ use Rattle.am_instance.specs.declared.reply.Outcome.{Outcome}
 use Rattle.am_instance.specs.Deliveries.Delivery.{OfSilence}
 use Rattle.am_instance.specs.InstanceStates.{InstanceState, silence_at}
 use Rattle.am_instance.specs.Replies.{RefusedOr, IsDone, IsEnded, posted_id, posted_over, silence_in_view}
-use Rattle.am_instance.specs.Steps.{IsWork, IsJudged, IsPlanned, IsPutHere, IsTurnedAway, plain_verdict, post_refusal, refused_anyway}
+use Rattle.am_instance.specs.Steps.{IsWork, IsPlanned, IsPutHere, IsTurnedAway, plain_verdict, post_refusal, refused_anyway}
 use Rattle.am_instance.proofs.Works.{made_work, quiet_work, stopped_work, made_silences}
 
 -- a plan that was carried out, as that of the versions and the reply that it names

@@ -3,8 +3,8 @@ use Rattle.std.proofs.Common.{◌≡◌, ℕ, ◌+◌, ◌<◌, ◌≤◌, Bool,
 use Rattle.std.specs.Prelude.{if◌then◌else◌}
 use Rattle.std.specs.Option.{option_or}
 use Rattle.std.proofs.lemmas.Option.{same_Some}
-use Rattle.regex_hir.specs.Re.{Re, Rest, Trace, accept, attempt}
-use Rattle.regex_hir.specs.Find.{Match, first_between}
+use Rattle.regex_hir.specs.Re.{Re, Rest, Trace, accept}
+use Rattle.regex_hir.specs.Find.{first_between}
 use Rattle.regex_hir.specs.Matches.{Matches}
 use Rattle.regex_hir.specs.Text.{is_boundary}
 use Rattle.regex_hir.proofs.AttemptLemmas.{attempt_sound}

@@ -1,5 +1,5 @@
 -- A reply that is being made is finished with some reply, and that its step was made doesn't hang on which.
-use Rattle.std.proofs.Common.{◌≡◌, ℕ, List, refl}
+use Rattle.std.proofs.Common.{List, refl}
 use Rattle.am_api_silences.specs.ReplyBuilder.{IsMadeOf}
 use Rattle.am_api_silences.specs.Replies.{memory_bytes}
 use Rattle.am_api_silences.specs.declared.reply_builder.ReplyBuilder.{ReplyBuilder}

@@ -1,5 +1,5 @@
 -- What is written of a request is read again.
-use Rattle.std.proofs.Common.{◌≡◌, ℕ, ◌+◌, ◌*◌, ◌/◌, ◌%◌, ◌<◌, ◌≤◌, Bool, true, false, ltb, List, [], ◌∷◌, ◌++◌, length, take, drop, codes, Result, Ok, refl, sym, ap, ◌∙◌, arith, length-append}
+use Rattle.std.proofs.Common.{◌≡◌, ℕ, ◌+◌, ◌<◌, Bool, true, false, ltb, List, [], ◌∷◌, ◌++◌, length, codes, Result, Ok, refl, ap, ◌∙◌, arith, length-append}
 use Rattle.std.specs.Int.{w16, w32, to_be_bytes}
 use Rattle.std.specs.Slice.Scan.{big_endian}
 use Rattle.std.proofs.Math.Seq.{take-append_seam, drop-append_seam}
@@ -10,7 +10,7 @@ use Rattle.am_memberlist.specs.declared.error.AnswerError.{AnswerError}
 use Rattle.am_memberlist.specs.Answers.{◌>>=◌}
 use Rattle.am_memberlist.specs.Messages.{behind_nodes, message_in, states, states_in}
 use Rattle.am_memberlist.specs.Msgpack.{PairAt, ValueAt, as_raw, cut_at, map_at, number, pair_at, pairs_at, raw, scalar_at, word}
-use Rattle.am_memberlist.specs.Requests.{header, number_text, request_encoding}
+use Rattle.am_memberlist.specs.Requests.{number_text, request_encoding}
 
 -- so many bytes as the first part has
 cut_front : (front rest : List ℕ) → cut_at (length front) (front ++ rest) ≡ Ok (front, rest)

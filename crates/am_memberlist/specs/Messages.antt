@@ -7,7 +7,7 @@ use Rattle.am_memberlist.specs.declared.error.AnswerError.TheVariants.{Nothing, 
 use Rattle.am_memberlist.specs.declared.answer.Said.{Said}
 use Rattle.am_memberlist.specs.declared.answer.Said.TheVariants as said
 use Rattle.am_memberlist.specs.Answers.{◌>>=◌, unpacking_fault}
-use Rattle.am_memberlist.specs.Msgpack.{PairAt, map_at, value_in, number_of, raw_of}
+use Rattle.am_memberlist.specs.Msgpack.{map_at, value_in, number_of, raw_of}
 
 -- the content of a replica's answer
 pub data SaidAt : Type 0 where

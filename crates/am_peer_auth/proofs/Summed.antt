@@ -3,7 +3,7 @@ use Rattle.std.proofs.Common.{◌≡◌, ℕ, zero, suc, ◌+◌, ◌≤◌, Lis
 use Rattle.std.proofs.lemmas.List.{drop-append-le, length-drop, take-append-le}
 use Rattle.am_peer_auth.specs.declared.summing.Summing.{Summing}
 use Rattle.am_peer_auth.specs.Macs.{Holds}
-use Rattle.am_peer_auth.specs.Summings.{Covers, CoversIn, encoding_so_far}
+use Rattle.am_peer_auth.specs.Summings.{CoversIn, encoding_so_far}
 
 grown : (bytes piece : List ℕ) → 36 ≤ length bytes → encoding_so_far (bytes ++ piece) ≡ encoding_so_far bytes ++ piece
 grown bytes piece long =

@@ -1,5 +1,5 @@
 -- Sums of a frame's text that are made as the text comes.
-use Rattle.std.specs.Prelude.{◌≡◌, ℕ, ◌≤◌, List, [], ◌++◌, length, take, drop}
+use Rattle.std.specs.Prelude.{◌≡◌, ℕ, ◌≤◌, List, ◌++◌, length, take, drop}
 use Rattle.am_peer_auth.specs.declared.summing.Summing.{Summing}
 use Rattle.am_peer_auth.specs.Macs.{Holds}
 

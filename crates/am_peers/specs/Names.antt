@@ -1,5 +1,5 @@
 -- Names of Alertmanagers among the names of members.
-use Rattle.std.specs.Prelude.{ℕ, List, [], ◌∷◌, length, drop, nat_eq, if◌then◌else◌}
+use Rattle.std.specs.Prelude.{ℕ, List, [], ◌∷◌, drop, nat_eq, if◌then◌else◌}
 use Rattle.std.specs.List.{starts_with}
 
 -- U+10FFFF in UTF-8, the greatest character

@@ -6,7 +6,7 @@ use Rattle.am_member.specs.Lives.{Deed as LifeDeed, IsLife, IsOwnEvent, IsPaging
 use Rattle.am_member.specs.Lives.Deed.{Served, Own}
 use Rattle.am_reactor.specs.declared.service.Service.{Ghosts as Service}
 use Rattle.am_reactor.specs.Deeds.{Deed}
-use Rattle.am_reactor.specs.History.{Happening, Happens, Line, fed_in, no_lines, out_in}
+use Rattle.am_reactor.specs.History.{Happening, Happens, Line, fed_in, out_in}
 use Rattle.am_reactor.specs.History.Happening.{Came, Called}
 use Rattle.am_reactor.specs.Streams.{Arrival}
 

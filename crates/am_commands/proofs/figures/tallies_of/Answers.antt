@@ -1,4 +1,4 @@
-use Rattle.std.proofs.Common.{◌≡◌, List, map, ap, ◌∙◌, subst}
+use Rattle.std.proofs.Common.{List, map, ap, ◌∙◌, subst}
 use Rattle.am_report.specs.Sources.{Source, rest_of}
 use Rattle.am_report.proofs.Differing.{begins_there}
 use Rattle.am_commands.specs.Figures.{IsFound}

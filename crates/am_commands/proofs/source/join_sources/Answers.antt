@@ -1,4 +1,4 @@
-use Rattle.std.proofs.Common.{◌∷◌, [], ◌++◌, List, arith, get_or, refl}
+use Rattle.std.proofs.Common.{◌∷◌, [], ◌++◌, arith, get_or, refl}
 use Rattle.am_report.specs.Sources.{Source}
 use Rattle.am_commands.specs.Reading.{IsRead}
 use Rattle.am_commands.proofs.ReadSources.{none_read, read_more, stops_there, all_read}

@@ -1,4 +1,4 @@
-use Rattle.std.proofs.Common.{◌≡◌, ℕ, Bool, true, false, List, Any}
+use Rattle.std.proofs.Common.{◌≡◌, ℕ, Bool, true, List, Any}
 use Rattle.am_matcher.specs.Matching.{has_regexp}
 use Rattle.am_matcher.specs.Dialects.{IsRefusedMatcher}
 use Rattle.am_matcher.specs.Uses.{PatternsPass, TextsPass}

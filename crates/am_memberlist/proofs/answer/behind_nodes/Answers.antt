@@ -1,4 +1,4 @@
-use Rattle.std.proofs.Common.{◌≡◌, sym, ◌∙◌}
+use Rattle.std.proofs.Common.{sym, ◌∙◌}
 use Rattle.std.proofs.lemmas.Result.{err_from_is_err_and}
 use Rattle.am_memberlist.proofs.Maps.{node_fault, node_more, nodes_over}
 use Rattle.am_memberlist.proofs.answer.behind_nodes.Goals as goal

@@ -1,4 +1,4 @@
-use Rattle.std.proofs.Common.{◌≡◌, ◌+◌, ◌*◌, ◌<◌, ◌^◌, arith}
+use Rattle.std.proofs.Common.{◌+◌, ◌*◌, ◌<◌, ◌^◌, arith}
 use Rattle.am_memberlist.proofs.Numbers.{below_more, fits, one_more}
 use Rattle.am_memberlist.proofs.number.big_endian.Goals as goal
 

@@ -1,4 +1,4 @@
-use Rattle.std.proofs.Common.{◌≡◌, ◌++◌, ℕ, List, IfSome, subst, sym}
+use Rattle.std.proofs.Common.{ℕ, List, IfSome, subst, sym}
 use Rattle.am_peer_auth.specs.Summings.{CoversIn}
 use Rattle.am_peer_auth.proofs.Summed.{covers_on}
 use Rattle.am_peer_auth.proofs.opening.Waiting.followed_by.Goals as goal
