@@ -1,5 +1,8 @@
 //! The transfer of everything held to a peer.
 
+ghost use Rattle.std.specs.Prelude.{◌≡◌};
+ghost use Rattle.am_server.specs.Transfers.{behind_part, left_in, no_transfer, part_frame, wants_link, with_all_left, with_none_left, with_wanted};
+
 use am_gossip::{Frame, FullState};
 use am_instance::Handout;
 use std::mem;
@@ -34,7 +37,9 @@ pub struct StateTransfer {
 
 impl StateTransfer {
     /// Returns a transfer with nothing to hand out.
-    pub fn none() -> StateTransfer {
+    pub fn none() -> StateTransfer
+        ensures { result ≡ no_transfer }
+    {
         StateTransfer {
             stage: TransferStage::Nothing,
             asks: false,
@@ -42,7 +47,9 @@ impl StateTransfer {
     }
 
     /// Has everything that is held handed out.
-    pub fn want(&mut self, kind: TransferKind) {
+    pub fn want(&mut self, kind: TransferKind)
+        ensures { self.new ≡ with_wanted kind self.old }
+    {
         self.asks |= matches!(kind, TransferKind::Exchange);
         if matches!(self.stage, TransferStage::Nothing) {
             self.stage = TransferStage::Waiting;
@@ -50,17 +57,24 @@ impl StateTransfer {
     }
 
     /// Returns whether a link is to be asked for.
-    pub fn waits(&self) -> bool {
+    pub fn waits(&self) -> bool
+        ensures { result ≡ wants_link self.now }
+    {
         matches!(self.stage, TransferStage::Waiting)
     }
 
     /// Notes that a link to the peer is asked for: everything is left.
-    pub fn open(&mut self) {
+    pub fn open(&mut self)
+        ensures { self.new ≡ with_all_left self.old }
+    {
         self.stage = TransferStage::Open(Handout::new());
     }
 
     /// Takes out what is left, which the caller hands out.
-    pub fn take_left(&mut self) -> Option<Handout> {
+    pub fn take_left(&mut self) -> Option<Handout>
+        ensures left { result ≡ left_in self.old }
+        ensures taken { self.new ≡ with_none_left self.old }
+    {
         match mem::replace(&mut self.stage, TransferStage::Nothing) {
             TransferStage::Open(left) => Some(left),
             TransferStage::Nothing | TransferStage::Waiting => None,
@@ -68,7 +82,11 @@ impl StateTransfer {
     }
 
     /// Returns the frame of a part, after which `left` remains.
-    pub fn frame_of(&mut self, part: FullState, left: Option<Handout>) -> Frame {
+    pub fn frame_of(&mut self, part: FullState, left: Option<Handout>) -> Frame
+        // PROMISE: Of all that a peer is handed, only the last part asks it for as much, and only if that is wanted.
+        ensures frame { result ≡ part_frame self.old part left }
+        ensures goes_on { self.new ≡ behind_part self.old left }
+    {
         if let Some(left) = left {
             self.stage = TransferStage::Open(left);
             return Frame::Pull(part);
