@@ -50,7 +50,7 @@ pub record Commits (old new : LogRows) : Type 0 where
   pub waiting : new.waiting ≡ []
 
 -- The log went from one state to another by this relation, if one is kept.
-abbrev pub IfKept : (LogRows → LogRows → Type 0) → Option LogRows → Option LogRows → Type 0
+abbrev pub IfKept : {A : Type 0} → (A → A → Type 0) → Option A → Option A → Type 0
 IfKept relation None new = new ≡ None
 IfKept relation (Some old) None = ⊥
 IfKept relation (Some old) (Some new) = relation old new

@@ -19,3 +19,4 @@ pub mod Appending
 pub mod Logs
 pub mod Recovering
 pub mod Outlasting
+pub mod Parting

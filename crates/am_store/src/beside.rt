@@ -1,15 +1,15 @@
 //! The files that stand beside a state's file.
 
-ghost use Rattle.std.specs.Prelude.{◌≡◌, ◌++◌, string_bytes, IfOk, IfErr};
+ghost use Rattle.std.specs.Prelude.{◌≡◌, ◌++◌, [], ◌∷◌, Bool, false, string_bytes, IfOk, IfErr, OnErr, OnOk};
+ghost use Rattle.am_store.specs.Calls.{Remove};
+ghost use Rattle.am_store.specs.Parting.{RemovalStop, removing, removing_until};
+ghost use Rattle.am_store.specs.Rewrites.{old_log, own_log};
 
+use crate::disk::Disk;
 use crate::file_fault::FileFault;
-use crate::saving::directory_of;
-use crate::system::sync_directory;
 use am_snapshot::SnapshotError;
 use std::alloc::Global;
-use std::fs;
 use std::io::ErrorKind;
-use std::rt::Files;
 
 /// The ending of the log of what has come since the file was written, or since it began to be written anew.
 pub const LOG: &str = ".log";
@@ -38,30 +38,44 @@ pub fn beside(alloc: Global, path: &str, ending: &str) -> Result<String, FileFau
     }
 }
 
-/// Removes the file beside `path` with this ending, and returns whether there was one.
+/// Removes the file at a path, and returns whether there was one.
 ///
 /// # Errors
 ///
 /// The error that the system reports.
-pub fn remove<R: Files + AllocGlobal>(rt: &R, path: &str, ending: &str) -> Result<bool, FileFault> {
-    let name = beside(rt.alloc(), path, ending)?;
-    match fs::remove_file(rt, name.as_str()) {
+fn remove<D: Disk>(disk: &mut D, path: &str) -> Result<bool, FileFault>
+    ensures removed { IfOk result (λ stood. D.calls disk.new ≡ D.calls disk.old ++ (Remove path.now, stood) ∷ []) }
+    ensures kept { OnErr result (D.calls disk.new ≡ D.calls disk.old ++ (Remove path.now, false) ∷ []) }
+{
+    match disk.remove(path) {
         Ok(()) => Ok(true),
         Err(error) if error.kind() == ErrorKind::NotFound => Ok(false),
         Err(error) => Err(FileFault::from(error)),
     }
 }
 
-/// Removes both logs beside a file. The older one goes first, and for good: if it alone came back, what the other one had ended
-/// would be there again.
+/// Removes both logs beside a file, which have these paths. The older one goes first, and for good: if it alone came back, what
+/// the other one had ended would be there again.
 ///
 /// # Errors
 ///
 /// The error that the system reports.
-pub fn remove_logs<R: Files + AllocGlobal>(rt: &R, path: &str) -> Result<(), FileFault> {
-    if remove(rt, path, OLD_LOG)? {
-        sync_directory(rt, directory_of(path))?;
+pub fn remove_logs<D: Disk>(
+    disk: &mut D,
+    path: &str,
+    old: &str,
+    own: &str,
+    directory: &str,
+) -> Result<(), FileFault>
+    requires old { old.now ≡ old_log path.now }
+    requires own { own.now ≡ own_log path.now }
+    ensures removed { OnOk result ((old_stood : Bool) × (own_stood : Bool)
+        × (D.calls disk.new ≡ D.calls disk.old ++ removing old_stood own_stood path.now directory.now)) }
+    ensures stopped { OnErr result ((stop : RemovalStop) × (D.calls disk.new ≡ D.calls disk.old ++ removing_until stop path.now directory.now)) }
+{
+    if remove(disk, old)? {
+        disk.sync_directory(directory)?;
     }
-    remove(rt, path, LOG)?;
+    remove(disk, own)?;
     Ok(())
 }

@@ -47,5 +47,5 @@ pub use reading::{FoundLogs, LogEnd, join_batches};
 pub use recovering::{Recovered, load_state, recover};
 pub use saving::{directory_of, save_file};
 pub use state::{OpenedState, StateFile, open_state};
-pub use system::{SystemDisk, SystemFile, make_like, sync_directory};
+pub use system::{SystemDisk, SystemFile};
 pub use whole_file::WholeFile;

@@ -1,19 +1,24 @@
 //! The log of a state: what was taken since its file was written, on the disk before it is answered.
 
-ghost use Rattle.std.specs.Prelude.{◌≡◌, [], false, is_ok, OnOk, OnErr};
+ghost use Rattle.std.specs.Prelude.{◌≡◌, ◌++◌, [], true, false, is_ok, OnOk, OnErr};
 ghost use Rattle.am_store.specs.Appending.{Appends, Commits, rows_in, trusted};
+ghost use Rattle.am_store.specs.Parting.{BeginningStop, BeginsAnew, FailsToBegin, FailsToPart, Parts, beginning, beginning_until, calls_in};
+ghost use Rattle.am_store.specs.Rewrites.{own_log};
 
 use crate::beside::{LOG, OLD_LOG, beside, remove_logs};
+use crate::disk::Disk;
+use crate::disk_calls::Record;
 use crate::file_fault::FileFault;
 use crate::journal::Journal;
 use crate::log_error::LogError;
 use crate::log_file::{Found, LogFile, open_file};
 use crate::reading::{LogEnd, NO_LOG, fault_of};
 use crate::saving::directory_of;
-use crate::system::{make_like, sync_directory};
+use crate::system::SystemDisk;
 use am_snapshot::SnapshotError;
 use std::alloc::Global;
-use std::fs::{self, File, OpenOptions};
+use std::fs::{File, OpenOptions};
+use std::mem;
 use std::rt::Files;
 
 /// The most bytes in a batch, unless one row alone has more: what comes beyond is a batch of its own.
@@ -29,6 +34,8 @@ pub struct StateLog {
     journal: Option<Journal<LogFile<Found>>>,
     /// The rows that wait for the next commit.
     batch: Vec<u8>,
+    /// The calls on names so far.
+    calls: Record,
 }
 
 /// Returns the log in a file whose whole blocks end at byte `end`.
@@ -42,29 +49,38 @@ fn log_in(file: File, end: u64) -> Result<Journal<LogFile<Found>>, FileFault> {
     }
 }
 
-/// Makes a new log beside a file that has none. The log has the permissions of the file, and is in its directory from now on.
-fn new_log<R: Files<File = File> + AllocGlobal>(
-    rt: &R,
-    file: &str,
-) -> Result<Journal<LogFile<Found>>, FileFault> {
-    let name = beside(rt.alloc(), file, LOG)?;
-    let journal = log_in(make_like(rt, name.as_str(), file)?, 0)?;
-    sync_directory(rt, directory_of(name.as_str()))?;
+/// Makes a new log with this path beside a file that has none. The log has the permissions of the file, and is in its directory
+/// from now on.
+fn new_log<R: Files<File = File>>(
+    disk: &mut SystemDisk<'_, R>,
+    path: &str,
+    own: &str,
+    directory: &str,
+) -> Result<Journal<LogFile<Found>>, FileFault>
+    requires { own.now ≡ own_log path.now }
+    ensures begun { OnOk result (disk.new.log.events ≡ disk.old.log.events ++ beginning path.now directory.now) }
+    ensures stopped { OnErr result ((stop : BeginningStop) × (disk.new.log.events ≡ disk.old.log.events ++ beginning_until stop path.now directory.now)) }
+{
+    let file = disk.make(own)?;
+    disk.permit(&file, path)?;
+    let journal = log_in(file.into_file(), 0)?;
+    disk.sync_directory(directory)?;
     Ok(journal)
 }
 
-/// Opens the log beside a file, which was read up to its end. The log is in its directory from now on: the process that made it
+/// Opens the log with this path, which was read up to its end. The log is in its directory from now on: the process that made it
 /// may have ended before it handed that to the disk.
-fn old_log<R: Files<File = File> + AllocGlobal>(
+fn old_log<R: Files<File = File>>(
     rt: &R,
-    file: &str,
+    disk: &mut SystemDisk<'_, R>,
+    own: &str,
+    directory: &str,
     read: LogEnd,
 ) -> Result<Journal<LogFile<Found>>, FileFault> {
-    let name = beside(rt.alloc(), file, LOG)?;
     let mut how = OpenOptions::new();
     how.read(true).write(true);
-    let journal = log_in(how.open(rt, name.as_str())?, read.end)?;
-    sync_directory(rt, directory_of(name.as_str()))?;
+    let journal = log_in(how.open(rt, own)?, read.end)?;
+    disk.sync_directory(directory)?;
     Ok(journal)
 }
 
@@ -79,13 +95,17 @@ impl StateLog {
         path: &str,
         read: Option<LogEnd>,
     ) -> Result<StateLog, FileFault> {
+        let own = beside(rt.alloc(), path, LOG)?;
+        let directory = directory_of(path);
+        let mut disk = SystemDisk::after(rt, Record::new());
         let journal = match read {
-            Some(read) => old_log(rt, path, read)?,
-            None => new_log(rt, path)?,
+            Some(read) => old_log(rt, &mut disk, &own, directory, read)?,
+            None => new_log(&mut disk, path, &own, directory)?,
         };
         Ok(StateLog {
             journal: Some(journal),
             batch: Vec::new(rt.alloc()),
+            calls: disk.into_calls(),
         })
     }
 
@@ -158,17 +178,22 @@ impl StateLog {
         rt: &R,
         path: &str,
     ) -> Result<(), FileFault>
-        ensures { (rows_in self.new).waiting ≡ (rows_in self.old).waiting }
+        ensures waiting { (rows_in self.new).waiting ≡ (rows_in self.old).waiting }
+        ensures parted { OnOk result (Parts path.now self.old self.new) }
+        ensures stopped { OnErr result (FailsToPart path.now self.old self.new) }
     {
-        let name = beside(rt.alloc(), path, LOG)?;
+        let directory = directory_of(path);
+        let own = beside(rt.alloc(), path, LOG)?;
         let old = beside(rt.alloc(), path, OLD_LOG)?;
         if !self.is_trusted() {
             return Err(NO_LOG);
         }
-        fs::rename(rt, name.as_str(), old.as_str())?;
+        let mut disk = SystemDisk::after(rt, mem::replace(&mut self.calls, Record::new()));
+        let renamed = disk.rename(&own, &old);
+        self.calls = disk.into_calls();
+        renamed?;
         self.journal = None;
-        self.journal = Some(new_log(rt, path)?);
-        Ok(())
+        self.begin(rt, path, &own, directory)
     }
 
     /// Begins the log anew, now that everything is in the file of the state, including the rows that wait.
@@ -183,11 +208,40 @@ impl StateLog {
     ) -> Result<(), FileFault>
         ensures waiting { (rows_in self.new).waiting ≡ [] }
         ensures anew { trusted self.new ≡ is_ok result }
+        ensures begun { OnOk result (BeginsAnew path.now self.old self.new) }
+        ensures stopped { OnErr result (FailsToBegin path.now self.old self.new) }
     {
         self.journal = None;
         self.batch.clear();
-        remove_logs(rt, path)?;
-        self.journal = Some(new_log(rt, path)?);
+        let directory = directory_of(path);
+        let own = beside(rt.alloc(), path, LOG)?;
+        let old = beside(rt.alloc(), path, OLD_LOG)?;
+        let mut disk = SystemDisk::after(rt, mem::replace(&mut self.calls, Record::new()));
+        let removed = remove_logs(&mut disk, path, &old, &own, directory);
+        self.calls = disk.into_calls();
+        removed?;
+        self.begin(rt, path, &own, directory)
+    }
+
+    /// Begins a new log with this path, where there is none.
+    fn begin<R: Files<File = File>>(
+        &mut self,
+        rt: &R,
+        path: &str,
+        own: &str,
+        directory: &str,
+    ) -> Result<(), FileFault>
+        requires { own.now ≡ own_log path.now }
+        ensures waiting { (rows_in self.new).waiting ≡ (rows_in self.old).waiting }
+        ensures begun { OnOk result (calls_in self.new ≡ calls_in self.old ++ beginning path.now directory.now) }
+        ensures trust { OnOk result (trusted self.new ≡ true) }
+        ensures stopped { OnErr result ((stop : BeginningStop) × (calls_in self.new ≡ calls_in self.old ++ beginning_until stop path.now directory.now)) }
+        ensures no_trust { OnErr result (trusted self.new ≡ trusted self.old) }
+    {
+        let mut disk = SystemDisk::after(rt, mem::replace(&mut self.calls, Record::new()));
+        let begun = new_log(&mut disk, path, own, directory);
+        self.calls = disk.into_calls();
+        self.journal = Some(begun?);
         Ok(())
     }
 }

@@ -4,10 +4,12 @@ ghost use Rattle.std.specs.Prelude.{◌≡◌, ◌⊎◌, is_some, IfErr, IfOk, 
 ghost use Rattle.am_snapshot.specs.Encodings.{row_encoding};
 ghost use Rattle.am_snapshot.specs.Saving.{FitsRow};
 ghost use Rattle.am_store.specs.Appending.{Appends, Commits, IfKept, IsBegunAnew, IsNotTrusted, log_of};
+ghost use Rattle.am_store.specs.Parting.{BeginsAnew, FailsToBegin, FailsToPart, MayPart, kept_log};
 ghost use Rattle.am_store.specs.Rewrites.{path_of};
 ghost use Rattle.am_store.specs.Saves.{IsSaved, IsStopped, IsTried, saves_of};
 
-use crate::beside::{NEW, OLD_LOG, beside, remove, remove_logs};
+use crate::beside::{LOG, NEW, OLD_LOG, beside, remove_logs};
+use crate::disk::Disk;
 use crate::disk_calls::Record;
 use crate::file_fault::FileFault;
 use crate::lock::lock_beside;
@@ -18,7 +20,7 @@ use crate::reading::FoundLogs;
 use crate::recovering::{Recovered, load_state};
 use crate::saving::{directory_of, save_file};
 use crate::spent::SpentFiles;
-use crate::system::{SystemDisk, sync_directory};
+use crate::system::SystemDisk;
 use am_merge::Held;
 use am_snapshot::{SnapshotError, row_length_within};
 use am_version_order::Version;
@@ -118,6 +120,17 @@ fn size_of<R: Files>(rt: &R, path: &str) -> Result<u64, FileFault> {
     }
 }
 
+/// Removes the logs beside the file at a path, of which none is kept, for good.
+fn end_other_logs<R: Files + AllocGlobal>(rt: &R, path: &str) -> Result<(), FileFault> {
+    let own = beside(rt.alloc(), path, LOG)?;
+    let old = beside(rt.alloc(), path, OLD_LOG)?;
+    let directory = directory_of(path);
+    let mut disk = SystemDisk::after(rt, Record::new());
+    remove_logs(&mut disk, path, &old, &own, directory)?;
+    disk.sync_directory(directory)?;
+    Ok(())
+}
+
 impl StateFile {
     /// Returns the path of the file, after following all links.
     pub fn path(&self) -> &str
@@ -158,6 +171,9 @@ impl StateFile {
         ensures untrusted { IfErr result (λ fault.
             IsStopped (FitsRow V.seen most held.now) (path_of self.old) (row_encoding V.seen held.now) (saves_of self.old) (saves_of self.new) fault
             ⊎ IsNotTrusted self.new) }
+        // PROMISE: After a save, its logs are removed, the older one first and for good, and a new one is made, if one is kept.
+        ensures begun { OnOk result (IfKept (BeginsAnew (path_of self.old)) (kept_log self.old) (kept_log self.new)) }
+        ensures stopped { OnErr result (IfKept (FailsToBegin (path_of self.old)) (kept_log self.old) (kept_log self.new)) }
     {
         // (want of room may be the reason for this save)
         self.spent.close();
@@ -176,6 +192,7 @@ impl StateFile {
         most: u32,
     ) -> Result<u64, FileFault>
         ensures path { path_of self.new ≡ path_of self.old }
+        ensures log { kept_log self.new ≡ kept_log self.old }
         ensures saved { OnOk result (IsSaved (path_of self.old) (row_encoding V.seen held.now) (saves_of self.old) (saves_of self.new)) }
         ensures stopped { IfErr result (IsStopped (FitsRow V.seen most held.now) (path_of self.old) (row_encoding V.seen held.now) (saves_of self.old) (saves_of self.new)) }
     {
@@ -191,14 +208,13 @@ impl StateFile {
         ensures saves { saves_of self.new ≡ saves_of self.old }
         ensures anew { OnOk result (IsBegunAnew (log_of self.new)) }
         ensures untrusted { OnErr result (IsNotTrusted self.new) }
+        ensures begun { OnOk result (IfKept (BeginsAnew (path_of self.old)) (kept_log self.old) (kept_log self.new)) }
+        ensures stopped { OnErr result (IfKept (FailsToBegin (path_of self.old)) (kept_log self.old) (kept_log self.new)) }
     {
         let path = self.path.as_str();
         match &mut self.log {
             Some(log) => log.begin_anew(rt, path),
-            None if self.owes_save => {
-                remove_logs(rt, path)?;
-                sync_directory(rt, directory_of(path))
-            }
+            None if self.owes_save => end_other_logs(rt, path),
             None => Ok(()),
         }
     }
@@ -215,7 +231,14 @@ impl StateFile {
         rt: &R,
         held: &Held<V>,
         most: u32,
-    ) -> Result<u64, FileFault> {
+    ) -> Result<u64, FileFault>
+        ensures path { path_of self.new ≡ path_of self.old }
+        ensures saves { saves_of self.new ≡ saves_of self.old }
+        ensures waiting { IfKept (λ old new. new.waiting ≡ old.waiting) (log_of self.old) (log_of self.new) }
+        // PROMISE: Before a file is written anew, its log becomes the old one, and a new one is made and is on the disk, or nothing is called.
+        ensures parted { OnOk result (IfKept (MayPart (path_of self.old)) (kept_log self.old) (kept_log self.new)) }
+        ensures stopped { OnErr result (IfKept (FailsToPart (path_of self.old)) (kept_log self.old) (kept_log self.new)) }
+    {
         let Some(bytes) = row_length_within(held, most) else {
             return Err(FileFault::Snapshot(SnapshotError::TooLarge));
         };
@@ -231,7 +254,9 @@ impl StateFile {
 
     /// Removes the new file, as far as it was written.
     pub fn drop_new<R: Files + AllocGlobal>(&self, rt: &R) {
-        let _ = remove(rt, self.path.as_str(), NEW);
+        if let Ok(name) = beside(rt.alloc(), self.path.as_str(), NEW) {
+            let _ = fs::remove_file(rt, &name);
+        }
     }
 
     /// Returns whether what is added to the log will be on the disk, if one is kept.

@@ -7,7 +7,6 @@ ghost use Rattle.am_store.specs.Calls.{Event, call_of, written_in};
 
 use crate::disk::Disk;
 use crate::disk_calls::Record;
-use crate::file_fault::FileFault;
 use std::fs::{self, File, OpenFile};
 use std::io::{self, Write};
 use std::rt::Files;
@@ -26,7 +25,7 @@ const RENAMED: u64 = 5;
 
 const DIRECTORY_SYNCED: u64 = 6;
 
-/// The file system of this machine, and the calls of one save.
+/// The file system of this machine, and the calls so far.
 #[derive(Drop)]
 pub struct SystemDisk<'r, R: Files> {
     system: &'r R,
@@ -53,6 +52,13 @@ impl<'r, R: Files> SystemDisk<'r, R> {
         ensures { result.events ≡ self.entry.log.events }
     {
         self.log
+    }
+}
+
+impl<F: Drop> SystemFile<F> {
+    /// Returns the file alone.
+    pub(crate) fn into_file(self) -> F {
+        self.file
     }
 }
 
@@ -144,26 +150,4 @@ impl<R: Files> Disk for SystemDisk<'_, R> {
 fn sync<R: Files>(system: &R, path: &str) -> io::Result<()> {
     let opened = fs::open(system, path)?;
     opened.sync_all()
-}
-
-/// Creates a file at a path where there is nothing, with the permissions of another file, if there is one.
-///
-/// # Errors
-///
-/// The system's error, as a [`FileFault`].
-pub fn make_like<R: Files>(rt: &R, path: &str, other: &str) -> Result<R::File, FileFault> {
-    let file = File::create_new(rt, path)?;
-    if let Ok(found) = fs::metadata(rt, other) {
-        file.set_permissions(found.permissions())?;
-    }
-    Ok(file)
-}
-
-/// Syncs a directory to the disk: which files it has, and by which names.
-///
-/// # Errors
-///
-/// The system's error, as a [`FileFault`].
-pub fn sync_directory<R: Files>(rt: &R, directory: &str) -> Result<(), FileFault> {
-    Ok(sync(rt, directory)?)
 }
