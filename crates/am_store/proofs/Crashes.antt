@@ -44,10 +44,10 @@ apart path e = omega (arith, ap length e, length-append path (codes ".new"))
 pub old_behind : (path : List ℕ) → path ≢ old_log path
 old_behind path e = omega (arith, ap length e, length-append path (codes ".log.old"))
 
-old_apart : (path : List ℕ) → old_log path ≢ path
+pub old_apart : (path : List ℕ) → old_log path ≢ path
 old_apart path e = old_behind path (sym e)
 
-own_apart : (path : List ℕ) → own_log path ≢ path
+pub own_apart : (path : List ℕ) → own_log path ≢ path
 own_apart path e = omega (arith, ap length e, length-append path (codes ".log"))
 
 old_aside : (path : List ℕ) → old_log path ≢ beside path
@@ -59,7 +59,7 @@ two_letters e = omega (arith, e)
 own_aside : (path : List ℕ) → own_log path ≢ beside path
 own_aside path e = absurd (two_letters (ap (λ (l : List ℕ). get_or l 1 0) (append_cancel_left path (codes ".log") (codes ".new") e)))
 
-logs_apart : (path : List ℕ) → own_log path ≢ old_log path
+pub logs_apart : (path : List ℕ) → own_log path ≢ old_log path
 logs_apart path e = omega (arith, ap length e, length-append path (codes ".log"), length-append path (codes ".log.old"))
 
 synced_as : (disk : Disk) (left : Remains) (bytes : List ℕ) → MayLeave disk left → disk.synced disk.created ≡ Some bytes → left.bytes disk.created ≡ bytes

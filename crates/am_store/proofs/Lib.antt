@@ -12,6 +12,7 @@ mod RewriteRows
 mod ReadRows
 mod Outlasting
 mod RewriteOutlasting
+mod Parting
 mod PartingStops
 mod Rewrites
 mod UnsyncedSaves

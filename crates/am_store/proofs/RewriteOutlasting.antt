@@ -16,14 +16,14 @@ use Rattle.am_snapshot.specs.Encodings.{row_encoding}
 use Rattle.am_snapshot.proofs.ReadAgain.{IsReadBack}
 use Rattle.am_store.specs.Blocks.{recovered}
 use Rattle.am_store.specs.Calls.{Event, Remove, Make, Sync, Rename, SyncDirectory}
-use Rattle.am_store.specs.Crashes.{Disk, Remains, MayLeave, MayLeaveDuring, bytes_at}
+use Rattle.am_store.specs.Crashes.{Disk, Remains, Keeps, MayLeave, MayLeaveDuring, bytes_at}
 use Rattle.am_store.specs.Saves.{IsDirectoryOf, IsTried, Name, Row, Unnamed, Unreplaced, Unsettled, beside, replacing, saving}
 use Rattle.am_store.specs.declared.file_fault.FileFault.{FileFault}
 use Rattle.am_store.specs.declared.stages.CompactionStage.{CompactionStage}
 use Rattle.am_store.specs.declared.stages.CompactionStage.TheVariants as stages
 use Rattle.am_store.specs.Rewrites.{AreOfRewriting, First, End, HasCome, Has, HasWhole, IsCause, IsRewritten, IsUnderWay, IsWritten, Place, RewritingStop, StopsRewriting, LogUnnamed, LogKept, LogUnsettled, Unsaved, calls_before, calls_of, making, new_bytes, old_log, own_log, place_from, place_of, rewriting, rewriting_until, stage_of}
 use Rattle.am_store.specs.Logs.{AreInBatches}
-use Rattle.am_store.specs.Outlasting.{HasAtLeast, IsKept, IsKnown, IsState, Outlasts, OutlastsDuring, StartsWith, content_at}
+use Rattle.am_store.specs.Outlasting.{FileHas, HasAtLeast, IsKept, IsKnown, IsState, Outlasts, OutlastsDuring, StartsWith, content_at}
 use Rattle.am_store.proofs.Crashes.{Fine, is_saved, is_stopped}
 use Rattle.am_store.proofs.BlockLemmas.{recovered_none}
 use Rattle.am_store.proofs.Outlasting.{IsOf, Reaches, none_held, of_row, pieces_of, same_start}
@@ -143,6 +143,15 @@ row_read_again : {K X : Type 0} (seen : X → Version K) (reads : ℕ → List �
 row_read_again seen reads path left map starts row versions found text small back =
     read_same seen reads versions starts.in_row back (omega (arith, small, ap length text))
     (subst (λ (bytes : List ℕ). AreMessages reads bytes starts.in_row) (ap (λ (o : Option (List ℕ)). unwrap_or o []) found ∙ text) starts.all_of_row)
+
+-- a file that is kept with the row of a state has what the state has
+pub file_has : {K X : Type 0} (seen : X → Version K) (cmp : K → K → Ordering) (is_value : X → Type 0) (plain : X → X) (unknown : Unknown)
+    (reads : ℕ → List ℕ → Result X WireError) (back : (v : X) → is_value v × StaysWhole plain unknown v → IsReadBack seen reads v)
+    (path : List ℕ) (state : List X) (disk : Disk) (v : X) → length (row_encoding seen state) < 2 ^ 64 → IsState seen cmp is_value plain unknown state
+    → Keeps disk path (Some (row_encoding seen state)) → HasAtLeast seen v state → FileHas seen reads path v disk
+file_has seen cmp is_value plain unknown reads back path state disk v small is keeps has left may versions all =
+    subst (HasAtLeast seen v) (sym (read_same seen reads state versions (λ k d lt. back (get_or state k d) (is.values k d lt, is.whole k d lt)) small
+    (subst (λ (o : Option (List ℕ)). AreMessages reads (unwrap_or o []) versions) (keeps left may) all))) has
 
 -- ---- what a start has after a save
 module _ {K X : Type 0} (seen : X → Version K) (cmp : K → K → Ordering) (is_value : X → Type 0) (plain : X → X) (unknown : Unknown)

@@ -11,7 +11,8 @@ ghost use Rattle.am_store.specs.Blocks.{IsBeforeOrAfter};
 ghost use Rattle.am_store.specs.Calls.{Event};
 ghost use Rattle.am_store.specs.Saves.{IsDirectoryOf, IsSaved, IsStopped, IsTried, saving};
 ghost use Rattle.am_store.specs.Crashes.{Disk, Remains, Keeps, MayLeave, MayLeaveDuring, Runs, Stays, bytes_at};
-ghost use Rattle.am_store.specs.Outlasting.{HasAtLeast, InBatches, IsKept, IsKnown, IsState, Outlasts, OutlastsDuring, Stands, StartsWith, content_at};
+ghost use Rattle.am_store.specs.Outlasting.{FileHas, HasAtLeast, InBatches, IsKept, IsKnown, IsState, Outlasts, OutlastsDuring, Stands, StartsWith, content_at};
+ghost use Rattle.am_store.specs.Parting.{IsAnew, IsParted, StopsAnew, StopsParting};
 ghost use Rattle.am_store.specs.Rewrites.{AreOfRewriting, End, IsRewritten, IsWritten, StopsRewriting, old_log, own_log};
 ghost use Rattle.am_store.specs.UnsyncedSaves.{one_file, without_the_file, without_the_directory};
 
@@ -102,11 +103,11 @@ pub fn pieces_of_one_map_are_its_row<V: Version>()
         IsWritten V.seen V.Key.cmp maps row End → row ≡ row_encoding V.seen map }
 {}
 
-/// States that no crash loses a version while a file is written anew or saved, whenever it comes. To have a version is to have
-/// it, or a greater one of its key. What stands in the file or a log after any crash outlasts a crash; and what outlasts one
-/// before a file is written anew outlasts one while it is, and after it, if each state has it from which the file is written. A
-/// log that is written meanwhile isn't synced, as far as these disks know, and may hold anything: what it acknowledged is in
-/// it.
+/// States that no crash loses a version while a log is parted or begun anew, or a file is written anew or saved, whenever it
+/// comes. To have a version is to have it, or a greater one of its key. What stands in the file or a log after any crash outlasts
+/// a crash; and what outlasts one before a log is parted, or a file is written anew, outlasts one while it is, and after it, if
+/// each state has it from which the file is written. What the file has outlasts a crash while its logs are removed. A log that
+/// is written meanwhile isn't synced, as far as these disks know, and may hold anything: what it acknowledged is in it.
 pub fn no_crash_loses_a_version<V: Record>()
     ensures stands { (unknown : Unknown) (path : List ℕ) (v : V) (left : Remains) →
         Stands V.seen (V.reads unknown) path v left → IsKept V.seen (V.reads unknown) path v left }
@@ -133,6 +134,17 @@ pub fn no_crash_loses_a_version<V: Record>()
         IsTried (FitsRow V.seen most state) path (row_encoding V.seen state) before (before ++ calls) fault →
         Outlasts V.seen (V.reads unknown) path v disk → HasAtLeast V.seen v state →
         OutlastsDuring V.seen (V.reads unknown) path v calls disk }
+    // PROMISE: Nor does a crash while the log becomes the old one, if none stands, and a new one is made: what outlasts a crash before outlasts one then.
+    ensures parted { (unknown : Unknown) (path : List ℕ) (before calls : List Event) (disk : Disk) (v : V) →
+        Keeps disk (old_log path) None → IsParted path before (before ++ calls) ⊎ StopsParting path before (before ++ calls) →
+        Outlasts V.seen (V.reads unknown) path v disk → OutlastsDuring V.seen (V.reads unknown) path v calls disk }
+    ensures written { (unknown : Unknown) (path : List ℕ) (state : List V) (disk : Disk) (v : V) →
+        length (row_encoding V.seen state) < 2 ^ 64 → IsState V.seen V.Key.cmp V.Version.is_value V.plain unknown state →
+        Keeps disk path (Some (row_encoding V.seen state)) → HasAtLeast V.seen v state → FileHas V.seen (V.reads unknown) path v disk }
+    // PROMISE: Nor does a crash while the logs are removed after a save, and a new one is made: what the file has, or a greater one of its key, is there.
+    ensures begun_anew { (unknown : Unknown) (path : List ℕ) (before calls : List Event) (disk : Disk) (v : V) →
+        IsAnew path before (before ++ calls) ⊎ StopsAnew path before (before ++ calls) →
+        FileHas V.seen (V.reads unknown) path v disk → OutlastsDuring V.seen (V.reads unknown) path v calls disk }
     ensures after { (unknown : Unknown) (path : List ℕ) (calls : List Event) (disk new : Disk) (v : V) →
         Runs calls disk new → OutlastsDuring V.seen (V.reads unknown) path v calls disk → Outlasts V.seen (V.reads unknown) path v new }
 {}
