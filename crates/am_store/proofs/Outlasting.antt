@@ -1,6 +1,6 @@
 -- What a start has after a crash.
 use Rattle.std.specs.Prelude.{⊤, Contains, filter}
-use Rattle.std.proofs.Common.{◌≡◌, ◌⊎◌, inl, inr, ⊎_elim, ℕ, ◌<◌, ◌≤◌, ◌^◌, Bool, true, false, cond, List, [], ◌∷◌, ◌++◌, length, Option, Some, None, unwrap_or, Result, refl, sym, ◌∙◌, ap, subst, arith, append-nil, append_assoc}
+use Rattle.std.proofs.Common.{◌≡◌, ◌⊎◌, inl, inr, ⊎_elim, ℕ, Bool, true, false, cond, List, [], ◌∷◌, ◌++◌, Option, Some, None, unwrap_or, Result, refl, sym, ◌∙◌, ap, subst, arith, append-nil}
 use Rattle.std.specs.List.{All, AllByRecursion}
 use Rattle.std.proofs.lemmas.Bool.{lt-ltb}
 use Rattle.std.proofs.lemmas.Cmp.{tied_itself}
@@ -12,7 +12,6 @@ use Rattle.std.specs.Ordering.{is_ge, ordering_reverse}
 use Rattle.am_version_order.specs.Versions.{Version, is_below, is_live, IsLive}
 use Rattle.am_version_order.proofs.Ranks.{below_itself, below_trans}
 use Rattle.am_wire.specs.declared.error.WireError.{WireError}
-use Rattle.am_wire.specs.Inputs.{AreMessages}
 use Rattle.am_wire.specs.Writing.{delimited}
 use Rattle.am_wire.proofs.Exact.{lists_are}
 use Rattle.am_merge.specs.Maps.{IsJoin, IsMap, at, greater_of, swept}
@@ -21,13 +20,13 @@ use Rattle.am_merge.proofs.Keys.{IsKeyOrder, at-Contains}
 use Rattle.am_merge.proofs.Puts.{at-member}
 use Rattle.am_merge.proofs.Sweeps.{IsMap-filter}
 use Rattle.am_snapshot.specs.Encodings.{row_encoding}
-use Rattle.am_snapshot.specs.Pieces.{IsPiece, GoesOn}
+use Rattle.am_snapshot.specs.Pieces.{GoesOn}
 use Rattle.am_store.specs.Blocks.{recovered, with_batch, IsBeforeOrAfter}
-use Rattle.am_store.specs.Crashes.{Disk, Remains, MayLeave, bytes_at}
+use Rattle.am_store.specs.Crashes.{Remains, bytes_at}
 use Rattle.am_store.specs.Logs.{AreInBatches}
 use Rattle.am_store.specs.Recovering.{IsRecovered}
 use Rattle.am_store.specs.Rewrites.{Place, First, At, End, place_behind, left_at, stretch, old_log, own_log, IsWritten}
-use Rattle.am_store.specs.Outlasting.{HasAtLeast, InRow, InBatches, Stands, StartsWith, IsKept, content_at}
+use Rattle.am_store.specs.Outlasting.{HasAtLeast, InBatches, Stands, StartsWith, IsKept, content_at}
 use Rattle.am_store.proofs.Joining.{unbeaten_past}
 
 -- ---- members of lists

@@ -1,5 +1,5 @@
 -- A row that is read without a fault is read as the versions that it was made of.
-use Rattle.std.proofs.Common.{◌≡◌, ◌⊎◌, inl, inr, ⊎_elim, ℕ, ◌+◌, ◌-◌, ◌^◌, ◌<◌, ◌≤◌, ltb, true, List, [], ◌∷◌, ◌++◌, length, map, Result, Ok, Err, refl, sym, ap, ◌∙◌, arith, length-append, append_assoc}
+use Rattle.std.proofs.Common.{◌≡◌, ◌⊎◌, ⊎_elim, ℕ, ◌+◌, ◌-◌, ◌^◌, ◌<◌, ◌≤◌, List, [], ◌∷◌, ◌++◌, length, map, Result, Ok, Err, refl, sym, ap, ◌∙◌, arith, length-append, append_assoc}
 use Rattle.std.specs.List.{All}
 use Rattle.std.proofs.lemmas.Bool.{cases_lt, lt-ltb}
 use Rattle.std.proofs.lemmas.List.Elements.{All-cons, All-nil, All-head, All-tail}
@@ -10,7 +10,7 @@ use Rattle.am_wire.specs.declared.error.WireError.TheVariants.{TooLarge}
 use Rattle.am_wire.specs.Fields.{row_at}
 use Rattle.am_wire.specs.Grammar.{IsRow}
 use Rattle.am_wire.specs.Limits.{most}
-use Rattle.am_wire.specs.Varint.{shortest, varint_at}
+use Rattle.am_wire.specs.Varint.{shortest}
 use Rattle.am_wire.specs.Writing.{delimited}
 use Rattle.am_wire.specs.RoundTrip.Pieces.{pieces-first}
 use Rattle.am_wire.specs.RoundTrip.Varints.{varint_again, shortest_spells, shortest_filled}

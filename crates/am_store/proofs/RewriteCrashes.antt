@@ -1,9 +1,9 @@
 -- What a crash leaves of a rewriting.
 use Rattle.std.specs.Prelude.{⊤}
-use Rattle.std.proofs.Common.{◌≡◌, ◌≢◌, ◌⊎◌, inl, inr, ⊎_elim, ℕ, Bool, true, false, List, [], ◌∷◌, ◌++◌, length, codes, Option, Some, None, refl, sym, ◌∙◌, ap, subst, arith, length-append}
+use Rattle.std.proofs.Common.{◌≡◌, ◌⊎◌, inl, inr, ⊎_elim, ℕ, Bool, true, false, List, [], ◌∷◌, ◌++◌, Option, Some, None, refl, sym, subst}
 use Rattle.am_store.specs.Calls.{Call, Event, Remove, Make, Permit, Write, Sync, Rename, SyncDirectory}
 use Rattle.am_store.specs.Saves.{IsDirectoryOf, Permissions, Row, Safety, Name, Unnamed, Unmade, Unreplaced, Unsettled, beside, saving}
-use Rattle.am_store.specs.Crashes.{Disk, Remains, MayLeave, Keeps, Does, MayDo, Changes, Runs, MayLeaveDuring, Stays, bytes_at}
+use Rattle.am_store.specs.Crashes.{Disk, Remains, MayLeave, Keeps, MayDo, Runs, MayLeaveDuring, bytes_at}
 use Rattle.am_store.specs.Rewrites.{HasWhole, Place, End, RewritingStop, Unsaved, LogUnnamed, LogKept, LogUnsettled, old_log, own_log, rewriting, rewriting_until}
 use Rattle.am_store.proofs.Crashes.{Fine, Safe, is_done, is_saved, is_stopped, log_ends, log_may_end, log_removed, removing, right_after, settled}
 

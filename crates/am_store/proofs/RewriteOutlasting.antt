@@ -1,6 +1,6 @@
 -- What a start has after a crash while a file is written anew.
 use Rattle.std.specs.Prelude.{⊤, Contains}
-use Rattle.std.proofs.Common.{◌≡◌, ◌⊎◌, inl, inr, ⊎_elim, ℕ, ◌<◌, ◌≤◌, ◌^◌, Bool, true, false, List, [], ◌∷◌, ◌++◌, length, get_or, Option, Some, None, unwrap_or, Result, refl, sym, ◌∙◌, ap, subst, arith, append-nil}
+use Rattle.std.proofs.Common.{◌≡◌, ◌⊎◌, inl, inr, ⊎_elim, ℕ, ◌<◌, ◌≤◌, ◌^◌, Bool, true, false, List, [], ◌∷◌, ◌++◌, length, get_or, Option, Some, None, unwrap_or, Result, refl, sym, ◌∙◌, ap, subst, arith}
 use Rattle.std.specs.List.{All}
 use Rattle.std.proofs.lemmas.List.{append_cancel_left}
 use Rattle.std.proofs.lemmas.List.Elements.{All-contains, All-contains_itself, Contains-append_cases}
@@ -21,9 +21,9 @@ use Rattle.am_store.specs.Saves.{IsDirectoryOf, IsTried, Name, Row, Unnamed, Unr
 use Rattle.am_store.specs.declared.file_fault.FileFault.{FileFault}
 use Rattle.am_store.specs.declared.stages.CompactionStage.{CompactionStage}
 use Rattle.am_store.specs.declared.stages.CompactionStage.TheVariants as stages
-use Rattle.am_store.specs.Rewrites.{AreOfRewriting, First, End, HasCome, Has, HasWhole, IsCause, IsRewritten, IsUnderWay, IsWritten, Place, RewritingStop, StopsRewriting, LogUnnamed, LogKept, LogUnsettled, Unsaved, calls_before, calls_of, making, new_bytes, old_log, own_log, place_from, place_of, rewriting, rewriting_until, stage_of}
+use Rattle.am_store.specs.Rewrites.{AreOfRewriting, First, End, Has, HasWhole, IsCause, IsWritten, Place, RewritingStop, LogUnnamed, LogKept, LogUnsettled, Unsaved, calls_before, making, new_bytes, old_log, own_log, place_from, place_of, rewriting, rewriting_until, stage_of}
 use Rattle.am_store.specs.Logs.{AreInBatches}
-use Rattle.am_store.specs.Outlasting.{FileHas, HasAtLeast, IsKept, IsKnown, IsState, Outlasts, OutlastsDuring, StartsWith, content_at}
+use Rattle.am_store.specs.Outlasting.{FileHas, HasAtLeast, IsKept, IsKnown, IsState, Outlasts, StartsWith, content_at}
 use Rattle.am_store.proofs.Crashes.{Fine, is_saved, is_stopped}
 use Rattle.am_store.proofs.BlockLemmas.{recovered_none}
 use Rattle.am_store.proofs.Outlasting.{IsOf, Reaches, none_held, of_row, pieces_of, same_start}

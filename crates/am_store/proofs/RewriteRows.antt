@@ -1,5 +1,5 @@
 -- The row of a map that doesn't change while it is written in pieces.
-use Rattle.std.proofs.Common.{◌≡◌, ℕ, List, [], ◌∷◌, ◌++◌, Option, Some, None, refl, sym, ◌∙◌, ap, subst, append-nil, append_assoc}
+use Rattle.std.proofs.Common.{◌≡◌, ℕ, List, [], ◌∷◌, ◌++◌, Option, refl, sym, ◌∙◌, ap, subst, append-nil, append_assoc}
 use Rattle.std.specs.Prelude.{All}
 use Rattle.std.specs.List.{AllByRecursion}
 use Rattle.std.proofs.lemmas.Grind.{flat_map-append}
@@ -12,7 +12,7 @@ use Rattle.am_merge.proofs.Fronts.{from_version}
 use Rattle.am_wire.specs.Writing.{delimited}
 use Rattle.am_snapshot.specs.Encodings.{row_encoding}
 use Rattle.am_snapshot.specs.Pieces.{IsPiece, GoesOn}
-use Rattle.am_store.specs.Rewrites.{Place, First, At, End, place_behind, left_at, stretch, IsWritten}
+use Rattle.am_store.specs.Rewrites.{Place, End, place_behind, left_at, stretch, IsWritten}
 
 module _ {K X : Type 0} (seen : X → Version K) (cmp : K → K → Ordering) (keys : IsKeyOrder cmp) (map : List X) (order : IsMap seen cmp map) where
   -- the row is that of the versions before a place

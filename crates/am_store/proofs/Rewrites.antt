@@ -1,5 +1,5 @@
 -- How a rewriting goes on, stage by stage.
-use Rattle.std.proofs.Common.{◌≡◌, ◌⊎◌, inl, inr, ℕ, ◌+◌, ◌<◌, ◌≤◌, Bool, true, false, List, [], ◌∷◌, ◌++◌, length, codes, Option, Some, None, Ok, Err, string_bytes, refl, sym, ◌∙◌, ap, subst, arith, append_assoc, length-append}
+use Rattle.std.proofs.Common.{◌≡◌, ◌⊎◌, inl, inr, ℕ, ◌+◌, ◌<◌, ◌≤◌, Bool, true, false, List, [], ◌∷◌, ◌++◌, length, Option, Some, None, Ok, Err, string_bytes, refl, sym, ◌∙◌, ap, subst, arith, length-append}
 use Rattle.std.specs.declared.cmp.Ordering.{Ordering}
 use Rattle.std.specs.declared.fs.File.{File}
 use Rattle.std.specs.Io.KnownBytes.{Appends}
@@ -15,8 +15,8 @@ use Rattle.am_store.specs.declared.file_fault.FileFault.{FileFault}
 use Rattle.am_store.specs.declared.file_fault.FileFault.TheVariants.{Snapshot}
 use Rattle.am_store.specs.Calls.{Event}
 use Rattle.am_store.specs.Calls as call
-use Rattle.am_store.specs.Saves.{IsDirectoryOf, IsOfSystem, Permissions, Row, Safety, Name, Unnamed, Unmade, Unreplaced, Unsettled, beside, replacing, saving}
-use Rattle.am_store.specs.Rewrites.{Place, First, At, End, place_from, place_behind, left_at, stretch, old_log, IsWritten, Follows, HasCome, IsRewritten, Advances, is_left_at, Unsaved, LogUnnamed, LogKept, LogUnsettled, making}
+use Rattle.am_store.specs.Saves.{IsDirectoryOf, IsOfSystem, Permissions, Row, Safety, Name, Unnamed, Unmade, Unreplaced, Unsettled, beside}
+use Rattle.am_store.specs.Rewrites.{First, End, place_from, place_behind, left_at, stretch, old_log, IsWritten, Follows, HasCome, IsRewritten, Advances, is_left_at, Unsaved, LogUnnamed, LogKept, LogUnsettled, making}
 use Rattle.am_store.proofs.Crashes.{one_directory}
 
 not_first : {K : Type 0} (next : Option K) → First ≡ place_behind next → ⊥

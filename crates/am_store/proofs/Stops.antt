@@ -1,5 +1,5 @@
 -- The calls of a save, joined, and the faults of its row.
-use Rattle.std.proofs.Common.{◌≡◌, ℕ, Bool, true, false, List, [], ◌∷◌, ◌++◌, length, Option, Some, None, Result, Ok, Err, is_err, OnOk, refl, ap, sym, ◌∙◌, take, drop, lit<}
+use Rattle.std.proofs.Common.{◌≡◌, ℕ, Bool, true, false, List, [], ◌∷◌, ◌++◌, Option, Some, None, Result, Ok, Err, is_err, OnOk, refl, ap, sym, ◌∙◌, take, drop, lit<}
 use Rattle.std.specs.Prelude.{◌==◌}
 use Rattle.std.specs.Str.{NoCharPasses}
 use Rattle.std.specs.Str.Pattern.{HasCharAt}

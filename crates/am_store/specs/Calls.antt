@@ -1,5 +1,5 @@
 -- The calls that a save makes of a file system. Paths and what is written are bytes.
-use Rattle.std.specs.Prelude.{ℕ, zero, suc, ◌==◌, Bool, List, [], ◌∷◌, ◌++◌, Option, Some, slice_index}
+use Rattle.std.specs.Prelude.{ℕ, zero, suc, ◌==◌, Bool, List, [], Option, Some, slice_index}
 use Rattle.std.specs.List.{flat_map}
 
 pub data Call : Type 0 where

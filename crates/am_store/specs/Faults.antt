@@ -1,5 +1,4 @@
 -- The errors of the system, as faults of a file.
-use Rattle.std.specs.Prelude.{◌≡◌}
 use Rattle.std.specs.declared.io.ErrorKind.{ErrorKind}
 use Rattle.std.specs.declared.io.ErrorKind.TheVariants.{OutOfMemory}
 use Rattle.am_snapshot.specs.declared.error.SnapshotError.TheVariants.{Memory}

@@ -1,5 +1,5 @@
 use Rattle.std.specs.Prelude.{⊤}
-use Rattle.std.proofs.Common.{◌≡◌, ◌⊎◌, inl, inr, ⊎_elim, List, ℕ, Option, Some, refl, subst}
+use Rattle.std.proofs.Common.{◌≡◌, ◌⊎◌, inl, inr, ⊎_elim, List, subst}
 use Rattle.am_store.specs.Calls.{Event}
 use Rattle.am_store.specs.Crashes.{Runs, MayLeaveDuring}
 use Rattle.am_store.proofs.RewriteCrashes.{is_rewriting_done, is_rewritten, leaves_whole}

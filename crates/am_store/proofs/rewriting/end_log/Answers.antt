@@ -1,5 +1,4 @@
-use Rattle.std.proofs.Common.{refl, sym, ◌∙◌, ap, rules, is_ok}
-use Rattle.std.proofs.lemmas.Result.{err_from_is_err_and}
+use Rattle.std.proofs.Common.{rules, is_ok}
 use Rattle.std.specs.IoError.{error_kind}
 use Rattle.am_store.proofs.Rewrites.{ended_log, kept_log}
 use Rattle.am_store.proofs.rewriting.end_log.Goals as goal

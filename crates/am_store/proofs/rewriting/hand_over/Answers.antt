@@ -1,6 +1,4 @@
-use Rattle.std.proofs.Common.{refl, sym, ◌∙◌, ap, rules, is_ok}
-use Rattle.std.proofs.lemmas.Result.{err_from_is_err_and}
-use Rattle.std.specs.IoError.{error_kind}
+use Rattle.std.proofs.Common.{rules}
 use Rattle.am_store.proofs.Rewrites.{handed, unhanded}
 use Rattle.am_store.proofs.rewriting.hand_over.Goals as goal
 

@@ -1,4 +1,4 @@
-use Rattle.std.proofs.Common.{refl, sym, ◌∙◌, ap, rules, is_ok}
+use Rattle.std.proofs.Common.{refl, rules, is_ok}
 use Rattle.std.proofs.lemmas.Result.{err_from_is_err_and}
 use Rattle.std.specs.IoError.{error_kind}
 use Rattle.am_store.proofs.Rewrites.{made, unmade, unnamed, unpermitted}

@@ -1,5 +1,4 @@
-use Rattle.std.proofs.Common.{inl, inr, refl, sym, ◌∙◌, ap, subst, rules, is_ok, arith, string_bytes}
-use Rattle.std.proofs.lemmas.Result.{err_from_is_err_and}
+use Rattle.std.proofs.Common.{rules, is_ok}
 use Rattle.std.specs.IoError.{error_kind}
 use Rattle.am_store.proofs.rewriting.remove_new.Goals as goal
 

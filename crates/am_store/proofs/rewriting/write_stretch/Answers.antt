@@ -1,6 +1,4 @@
-use Rattle.std.proofs.Common.{inl, inr, refl, sym, ◌∙◌, ap, subst, rules, is_ok, arith, string_bytes}
-use Rattle.std.proofs.lemmas.Result.{err_from_is_err_and}
-use Rattle.std.specs.IoError.{error_kind}
+use Rattle.std.proofs.Common.{inl, inr, ap, subst, rules, is_ok, string_bytes}
 use Rattle.am_snapshot.specs.Pieces.{IsPiece}
 use Rattle.am_store.specs.Rewrites.{stretch}
 use Rattle.am_store.proofs.Rewrites.{unwritten, wrote, wrote_all}

@@ -1,4 +1,4 @@
-use Rattle.std.proofs.Common.{[], ◌==◌, length, inl, inr, refl, rules, ap, if◌then◌else◌, codes}
+use Rattle.std.proofs.Common.{[], inl, inr, refl, rules}
 use Rattle.am_store.proofs.Stops.{is_cut, is_uncut}
 use Rattle.am_store.proofs.saving.directory_of.Goals as goal
 

@@ -1,4 +1,4 @@
-use Rattle.std.proofs.Common.{List, ℕ, [], Option, Some, Err, refl, ap, subst, rules}
+use Rattle.std.proofs.Common.{List, ℕ, Option, Err, refl, ap, subst, rules}
 use Rattle.std.proofs.lemmas.Result.{err_from_is_err_and}
 use mathlib.Core.List.{append_assoc}
 use Rattle.std.specs.IoError.{error_kind}
