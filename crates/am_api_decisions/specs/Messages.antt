@@ -13,7 +13,7 @@ use Rattle.am_api_decisions.specs.declared.message.Alert.{Alert}
 use Rattle.am_api_decisions.specs.declared.message.Message.{Message}
 use Rattle.am_api_decisions.specs.Found.{number_in}
 use Rattle.am_api_decisions.specs.Orders.{AreInOrder}
-use Rattle.am_api_decisions.specs.Steps.{each}
+use Rattle.am_api_decisions.specs.Steps.{◌>>=◌, each}
 
 -- ---- labels
 

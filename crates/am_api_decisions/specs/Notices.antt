@@ -11,6 +11,7 @@ use Rattle.am_api_decisions.specs.declared.key.MessageKey.TheVariants as keys
 use Rattle.am_api_decisions.specs.declared.notice.Notice.{Notice}
 use Rattle.am_api_decisions.specs.Found.{number_in}
 use Rattle.am_api_decisions.specs.Hashes.{hashes_in}
+use Rattle.am_api_decisions.specs.Steps.{◌>>=◌}
 
 -- the number, if it has 32 bits
 abbrev pub index_of : ℕ → Option ℕ
