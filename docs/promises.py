@@ -49,6 +49,7 @@ ANCHORS = {
     "save": ("am_store::a_crash_leaves_the_old_file_or_the_new_one", "saved"),
     "anew": ("am_store::a_crash_leaves_the_old_file_or_the_one_written_anew", "rewritten"),
     "outlasts": ("am_store::no_crash_loses_a_version", "outlasts"),
+    "parted": ("am_store::no_crash_loses_a_version", "parted"),
     "life": ("am_daemon::live", "lived"),
     "kept": ("am_daemon::Server::release", "kept"),
     "commits": ("am_reactor::Service::release", "committed"),
