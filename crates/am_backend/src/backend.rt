@@ -81,7 +81,8 @@ pub trait Backend {
     /// Adds to the figures what happened, beside what is sent.
     fn count(&mut self, counted: Counted<'_>)
         ensures store { store_of self.new ≡ store_of self.old }
-        ensures outbound { outbound self.new ≡ outbound self.old };
+        ensures outbound { outbound self.new ≡ outbound self.old }
+        ensures lock { sealed_by self.new ≡ sealed_by self.old };
 
     /// Returns the figures.
     fn counted(&self) -> &Metrics;
@@ -93,19 +94,22 @@ pub trait Backend {
     /// Notes what comes.
     fn take(&mut self, incoming: Incoming)
         ensures store { store_of self.new ≡ store_of self.old }
-        ensures outbound { outbound self.new ≡ outbound self.old };
+        ensures outbound { outbound self.new ≡ outbound self.old }
+        ensures lock { sealed_by self.new ≡ sealed_by self.old };
 
     /// Returns whether there is room for `post` bytes of a post, and for the ends of all silences. If there doesn't seem to be,
     /// the silences are counted anew, once a second.
     fn has_room_for_post(&mut self, instance: &Instance, post: u64) -> bool
         ensures store { store_of self.new ≡ store_of self.old }
-        ensures outbound { outbound self.new ≡ outbound self.old };
+        ensures outbound { outbound self.new ≡ outbound self.old }
+        ensures lock { sealed_by self.new ≡ sealed_by self.old };
 
     /// Returns whether the log has room for `notice` bytes of a notice. If it doesn't seem to, it is counted anew, once a
     /// second.
     fn has_room_for_notice(&mut self, instance: &Instance, notice: u64) -> bool
         ensures store { store_of self.new ≡ store_of self.old }
-        ensures outbound { outbound self.new ≡ outbound self.old };
+        ensures outbound { outbound self.new ≡ outbound self.old }
+        ensures lock { sealed_by self.new ≡ sealed_by self.old };
 
     /// Returns the moment of a Tick after the last event, unless that is too far ahead of the time that has passed, and the
     /// clock isn't trusted.
@@ -115,37 +119,49 @@ pub trait Backend {
     /// Drops what has expired at a moment, and saves both states.
     fn tick(&mut self, instance: &mut Instance, moment: Moment)
         ensures step { (answer : Result Outcome StepError) × IsStep instance.old events.Tick moment answer instance.new }
-        ensures queue { (outbound self.new).frames ≡ (outbound self.old).frames };
+        ensures disk { disk_of (store_of self.new).commit_state ≡ disk_of (store_of self.old).commit_state }
+        ensures queue { (outbound self.new).frames ≡ (outbound self.old).frames }
+        ensures lock { sealed_by self.new ≡ sealed_by self.old };
 
     /// Saves both states, if something may have changed since the last save: when a save is due, and at the start, if a log
     /// stands that is to go. Without logs that is before anything comes: what ended a version that such a log has would be in
     /// no log, and could have gone before the log does.
     fn save_owed(&mut self, instance: &Instance)
-        ensures { (outbound self.new).frames ≡ (outbound self.old).frames };
+        ensures disk { disk_of (store_of self.new).commit_state ≡ disk_of (store_of self.old).commit_state }
+        ensures queue { (outbound self.new).frames ≡ (outbound self.old).frames }
+        ensures lock { sealed_by self.new ≡ sealed_by self.old };
 
     /// Makes sure of what was done so far: it is in the logs or, if they lack something, in the files.
     fn keep(&mut self, instance: &Instance)
         // PROMISE: With logs, a commit has kept everything only if both logs have all their rows on the disk and lacked nothing, or both states were saved, each whole and in its own file.
         ensures kept { IsKept instance.now (store_of self.old) (store_of self.new) }
-        ensures queue { (outbound self.new).frames ≡ (outbound self.old).frames };
+        ensures queue { (outbound self.new).frames ≡ (outbound self.old).frames }
+        ensures lock { sealed_by self.new ≡ sealed_by self.old };
 
     /// Does the next stage of the file that is being written anew, if the logs lack nothing, and returns the time until the
     /// next one.
     fn compact(&mut self, instance: &Instance, now: Instant) -> Option<Duration>
-        ensures { (outbound self.new).frames ≡ (outbound self.old).frames };
+        ensures queue { (outbound self.new).frames ≡ (outbound self.old).frames }
+        ensures lock { sealed_by self.new ≡ sealed_by self.old };
 
     /// Tells that the clock is behind the moment of the last event, and that it no longer is; and that it went far ahead,
     /// unless it is trusted.
     fn look_at_clock(&mut self, instance: &Instance, now: Instant)
-        ensures { (outbound self.new).frames ≡ (outbound self.old).frames };
+        ensures store { store_of self.new ≡ store_of self.old }
+        ensures outbound { outbound self.new ≡ outbound self.old }
+        ensures lock { sealed_by self.new ≡ sealed_by self.old };
 
     /// Returns whether there is room for a line.
     fn has_room_for_line(&mut self) -> bool
-        ensures { (outbound self.new).frames ≡ (outbound self.old).frames };
+        ensures store { store_of self.new ≡ store_of self.old }
+        ensures outbound { outbound self.new ≡ outbound self.old }
+        ensures lock { sealed_by self.new ≡ sealed_by self.old };
 
     /// Prints how many bytes were cut off from the logs, if any were.
     fn tell_torn(&mut self, config: &Config)
-        ensures { (outbound self.new).frames ≡ (outbound self.old).frames };
+        ensures store { store_of self.new ≡ store_of self.old }
+        ensures outbound { outbound self.new ≡ outbound self.old }
+        ensures lock { sealed_by self.new ≡ sealed_by self.old };
 
     /// Prints a fault that is about a peer, if its place is known.
     fn tell_of(&mut self, config: &Config, peer: Option<Place>, fault: Fault)
@@ -155,7 +171,9 @@ pub trait Backend {
 
     /// Prints how many lines were left out of each kind for which that is due.
     fn settle_due_lines(&mut self, config: &Config, now: Instant)
-        ensures { (outbound self.new).frames ≡ (outbound self.old).frames };
+        ensures store { store_of self.new ≡ store_of self.old }
+        ensures outbound { outbound self.new ≡ outbound self.old }
+        ensures lock { sealed_by self.new ≡ sealed_by self.old };
 
     /// Returns the time until that is due for a kind.
     fn lines_left(&self, now: Instant) -> Option<Duration>;
@@ -171,7 +189,8 @@ pub trait Backend {
         // PROMISE: With logs, each version that a step sends to the place of the disk is added to the log of its state, or the logs are known to lack it; and the next commit is due.
         ensures followed { IsFollowed outbox (store_of self.old) (store_of self.new) }
         // PROMISE: What a step sends to peers waits behind what waited before, in order, or memory ran out, and just those frames are counted as not sent.
-        ensures queued { IsQueued (disk_of (store_of self.old).commit_state) outbox (outbound self.old) (outbound self.new) };
+        ensures queued { IsQueued (disk_of (store_of self.old).commit_state) outbox (outbound self.old) (outbound self.new) }
+        ensures lock { sealed_by self.new ≡ sealed_by self.old };
 
     /// Returns whether no frame waits.
     fn sends_nothing(&self) -> bool
@@ -222,7 +241,8 @@ pub trait Backend {
     /// Saves both states, now that nobody is served any more, be it because the listener failed. Returns the fault with which
     /// the member ends: that of the listener, or else the reason why a state isn't saved, which is told.
     fn end(&mut self, instance: &Instance, failed: Option<Fault>) -> Option<Fault>
-        ensures { (outbound self.new).frames ≡ (outbound self.old).frames };
+        ensures queue { (outbound self.new).frames ≡ (outbound self.old).frames }
+        ensures lock { sealed_by self.new ≡ sealed_by self.old };
 }
 
 impl<R: AllocGlobal + Clock + Eprint + Files<File = File>> Backend for SystemBackend<'_, R> {

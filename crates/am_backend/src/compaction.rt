@@ -106,7 +106,9 @@ impl Compacting {
 impl<R> SystemBackend<'_, R> {
     /// Has both files written anew.
     pub(crate) fn want_both(&mut self)
-        ensures { self.new.queue ≡ self.old.queue }
+        ensures store { store_of self.new ≡ store_of self.old }
+        ensures queue { self.new.queue ≡ self.old.queue }
+        ensures lock { self.new.lock ≡ self.old.lock }
     {
         self.compacting.silences.is_wanted = true;
         self.compacting.log.is_wanted = true;
@@ -117,6 +119,7 @@ impl<R> SystemBackend<'_, R> {
     pub(crate) fn want_outgrown(&mut self)
         ensures store { store_of self.new ≡ store_of self.old }
         ensures queue { self.new.queue ≡ self.old.queue }
+        ensures lock { self.new.lock ≡ self.old.lock }
     {
         self.compacting.silences.is_wanted |= self.silences.is_outgrown();
         self.compacting.log.is_wanted |= self.log.is_outgrown();
@@ -128,6 +131,7 @@ impl<R: Files + AllocGlobal> SystemBackend<'_, R> {
     pub(crate) fn give_up_compaction(&mut self)
         ensures store { store_of self.new ≡ store_of self.old }
         ensures queue { self.new.queue ≡ self.old.queue }
+        ensures lock { self.new.lock ≡ self.old.lock }
     {
         match self.compacting.work {
             CompactionWork::Nothing => {}
@@ -141,7 +145,8 @@ impl<R: Files + AllocGlobal> SystemBackend<'_, R> {
 impl<R: Clock + Eprint> SystemBackend<'_, R> {
     /// Tells why the silences aren't written anew. If the log of their rows isn't trusted any more, that lacks what comes.
     fn fail_silences(&mut self, config: &Config, fault: FileFault, now: Instant)
-        ensures { self.new.queue ≡ self.old.queue }
+        ensures queue { self.new.queue ≡ self.old.queue }
+        ensures lock { self.new.lock ≡ self.old.lock }
     {
         self.compacting.silences.fails(now);
         self.count_save_failed(SavedState::Silences);
@@ -153,7 +158,8 @@ impl<R: Clock + Eprint> SystemBackend<'_, R> {
 
     /// Tells why the notification log isn't written anew. If the log of its rows isn't trusted any more, that lacks what comes.
     fn fail_log(&mut self, config: &Config, fault: FileFault, now: Instant)
-        ensures { self.new.queue ≡ self.old.queue }
+        ensures queue { self.new.queue ≡ self.old.queue }
+        ensures lock { self.new.lock ≡ self.old.lock }
     {
         self.compacting.log.fails(now);
         self.count_save_failed(SavedState::Log);
@@ -165,7 +171,8 @@ impl<R: Clock + Eprint> SystemBackend<'_, R> {
 
     /// Tells why a file isn't written anew, and notes that both are to be saved.
     fn tell_uncompacted(&mut self, config: &Config, fault: Fault)
-        ensures { self.new.queue ≡ self.old.queue }
+        ensures queue { self.new.queue ≡ self.old.queue }
+        ensures lock { self.new.lock ≡ self.old.lock }
     {
         self.is_changed = true;
         self.tell(config, fault);
@@ -175,7 +182,8 @@ impl<R: Clock + Eprint> SystemBackend<'_, R> {
 impl<R: AllocGlobal + Clock + Eprint + Files<File = File>> SystemBackend<'_, R> {
     /// Does the next stage of the file that is being written anew.
     pub(crate) fn compact_on(&mut self, instance: &Instance, now: Instant)
-        ensures { self.new.queue ≡ self.old.queue }
+        ensures queue { self.new.queue ≡ self.old.queue }
+        ensures lock { self.new.lock ≡ self.old.lock }
     {
         match mem::replace(&mut self.compacting.work, CompactionWork::Nothing) {
             CompactionWork::Nothing => self.begin_compaction(instance, now),
@@ -186,7 +194,8 @@ impl<R: AllocGlobal + Clock + Eprint + Files<File = File>> SystemBackend<'_, R> 
 
     /// Begins to write a file anew that is wanted: the silences first.
     fn begin_compaction(&mut self, instance: &Instance, now: Instant)
-        ensures { self.new.queue ≡ self.old.queue }
+        ensures queue { self.new.queue ≡ self.old.queue }
+        ensures lock { self.new.lock ≡ self.old.lock }
     {
         if self.compacting.silences.begins(now) {
             self.begin_silences(instance, now);
@@ -196,7 +205,8 @@ impl<R: AllocGlobal + Clock + Eprint + Files<File = File>> SystemBackend<'_, R> 
     }
 
     fn begin_silences(&mut self, instance: &Instance, now: Instant)
-        ensures { self.new.queue ≡ self.old.queue }
+        ensures queue { self.new.queue ≡ self.old.queue }
+        ensures lock { self.new.lock ≡ self.old.lock }
     {
         self.count_save_begun(SavedState::Silences);
         let most = self.options.most_bytes;
@@ -211,7 +221,8 @@ impl<R: AllocGlobal + Clock + Eprint + Files<File = File>> SystemBackend<'_, R> 
     }
 
     fn begin_log(&mut self, instance: &Instance, now: Instant)
-        ensures { self.new.queue ≡ self.old.queue }
+        ensures queue { self.new.queue ≡ self.old.queue }
+        ensures lock { self.new.lock ≡ self.old.lock }
     {
         self.count_save_begun(SavedState::Log);
         let most = self.options.most_bytes;
@@ -226,7 +237,8 @@ impl<R: AllocGlobal + Clock + Eprint + Files<File = File>> SystemBackend<'_, R> 
     }
 
     fn compact_silences(&mut self, instance: &Instance, mut left: Compaction<Text>, now: Instant)
-        ensures { self.new.queue ≡ self.old.queue }
+        ensures queue { self.new.queue ≡ self.old.queue }
+        ensures lock { self.new.lock ≡ self.old.lock }
     {
         let most = self.options.most_bytes;
         let held = instance.silences();
@@ -238,7 +250,8 @@ impl<R: AllocGlobal + Clock + Eprint + Files<File = File>> SystemBackend<'_, R> 
     }
 
     fn compact_log(&mut self, instance: &Instance, mut left: Compaction<LogKey>, now: Instant)
-        ensures { self.new.queue ≡ self.old.queue }
+        ensures queue { self.new.queue ≡ self.old.queue }
+        ensures lock { self.new.lock ≡ self.old.lock }
     {
         let most = self.options.most_bytes;
         let held = instance.log();

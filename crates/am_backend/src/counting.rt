@@ -134,6 +134,7 @@ impl<R: Clock> SystemBackend<'_, R> {
     pub(crate) fn count_save_begun(&mut self, state: SavedState)
         ensures store { store_of self.new ≡ store_of self.old }
         ensures queue { self.new.queue ≡ self.old.queue }
+        ensures lock { self.new.lock ≡ self.old.lock }
     {
         let now = Instant::now(self.rt).ok();
         self.figures.begin_save(state, now);
@@ -143,6 +144,7 @@ impl<R: Clock> SystemBackend<'_, R> {
     pub(crate) fn count_save_done(&mut self, state: SavedState)
         ensures store { store_of self.new ≡ store_of self.old }
         ensures queue { self.new.queue ≡ self.old.queue }
+        ensures lock { self.new.lock ≡ self.old.lock }
     {
         let now = Instant::now(self.rt).ok();
         let since_1970 = since_1970(self.rt);
@@ -153,6 +155,7 @@ impl<R: Clock> SystemBackend<'_, R> {
     pub(crate) fn count_save_failed(&mut self, state: SavedState)
         ensures store { store_of self.new ≡ store_of self.old }
         ensures queue { self.new.queue ≡ self.old.queue }
+        ensures lock { self.new.lock ≡ self.old.lock }
     {
         self.figures.fail_save(state);
     }

@@ -30,6 +30,7 @@ impl<R: Clock + Eprint> SystemBackend<'_, R> {
         ensures store { store_of self.new ≡ lost_if (is_some fault) (store_of self.old) }
         ensures outbound { outbound_of self.new ≡ outbound_of self.old }
         ensures queue { self.new.queue ≡ self.old.queue }
+        ensures lock { self.new.lock ≡ self.old.lock }
     {
         if let Some(fault) = fault {
             self.commit_state.lose();
@@ -49,6 +50,7 @@ impl<R: AllocGlobal + Clock + Eprint> SystemBackend<'_, R> {
         ensures outbound { outbound_of self.new ≡ outbound_of self.old }
         ensures logged { IfSome (disk_of self.old.commit_state) (λ disk. IsLogged (frames_for disk frames.items) (store_of self.old) (store_of self.new)) }
         ensures goes_on { GoesOn self.old.commit_state self.new.commit_state }
+        ensures lock { self.new.lock ≡ self.old.lock }
     {
         let Some(disk) = self.commit_state.disk() else {
             return frames;
@@ -65,6 +67,7 @@ impl<R: AllocGlobal + Clock + Eprint> SystemBackend<'_, R> {
     fn log_queued(&mut self, config: &Config, disk: Place, queued: &(Place, Frame))
         ensures logged { IsLogged (frames_for disk (queued.now ∷ [])) (store_of self.old) (store_of self.new) }
         ensures outbound { outbound_of self.new ≡ outbound_of self.old }
+        ensures lock { self.new.lock ≡ self.old.lock }
     {
         if queued.0 == disk {
             self.log_frame(config, &queued.1);
@@ -75,6 +78,7 @@ impl<R: AllocGlobal + Clock + Eprint> SystemBackend<'_, R> {
     fn log_frame(&mut self, config: &Config, frame: &Frame)
         ensures logged { IsLogged (frame.now ∷ []) (store_of self.old) (store_of self.new) }
         ensures outbound { outbound_of self.new ≡ outbound_of self.old }
+        ensures lock { self.new.lock ≡ self.old.lock }
     {
         if let Frame::Delta(part) = frame {
             self.commit_state.add();
@@ -88,6 +92,7 @@ impl<R: AllocGlobal + Clock + Eprint> SystemBackend<'_, R> {
             (store_of self.old) (store_of self.new) }
         ensures goes_on { GoesOn self.old.commit_state self.new.commit_state }
         ensures outbound { outbound_of self.new ≡ outbound_of self.old }
+        ensures lock { self.new.lock ≡ self.old.lock }
     {
         let alloc = self.rt.alloc();
         let rows = part.bytes.as_slice();
@@ -101,6 +106,7 @@ impl<R: AllocGlobal + Clock + Eprint> SystemBackend<'_, R> {
     pub(crate) fn commit_silences(&mut self, config: &Config)
         ensures committed { HasCommitted self.old.commit_state self.new.commit_state (log_of self.old.silences) (log_of self.old.log) (log_of self.new.silences) (log_of self.new.log) }
         ensures queue { self.new.queue ≡ self.old.queue }
+        ensures lock { self.new.lock ≡ self.old.lock }
     {
         let committed = self.silences.commit(self.rt.alloc());
         self.tell_behind(config, committed.err().map(Fault::Silences));
@@ -110,6 +116,7 @@ impl<R: AllocGlobal + Clock + Eprint> SystemBackend<'_, R> {
     pub(crate) fn commit_log(&mut self, config: &Config)
         ensures committed { HasCommitted self.old.commit_state self.new.commit_state (log_of self.old.log) (log_of self.old.silences) (log_of self.new.log) (log_of self.new.silences) }
         ensures queue { self.new.queue ≡ self.old.queue }
+        ensures lock { self.new.lock ≡ self.old.lock }
     {
         let committed = self.log.commit(self.rt.alloc());
         self.tell_behind(config, committed.err().map(Fault::Log));

@@ -5,6 +5,7 @@ ghost use Rattle.am_nflog.specs.Mesh.{mesh_version as entry_version};
 ghost use Rattle.am_silence.specs.Mesh.{mesh_version};
 ghost use Rattle.am_snapshot.specs.Encodings.{row_encoding};
 ghost use Rattle.am_store.specs.Appending.{IsBegunAnew, log_of};
+ghost use Rattle.am_backend.specs.CommitStates.{disk_of};
 ghost use Rattle.am_backend.specs.Stores.{HasSaved, HoldsRow, MaySave, saved_file, store_of};
 
 use crate::system_backend::SystemBackend;
@@ -19,7 +20,9 @@ impl<R: AllocGlobal + Clock + Eprint + Files<File = File>> SystemBackend<'_, R> 
     /// Saves the silences, and then the log, while everybody waits. Returns the first fault; each is told.
     pub(crate) fn save(&mut self, instance: &Instance) -> Option<Fault>
         ensures saved { HasSaved instance.now result (store_of self.old) (store_of self.new) }
+        ensures disk { disk_of self.new.commit_state ≡ disk_of self.old.commit_state }
         ensures queue { self.new.queue ≡ self.old.queue }
+        ensures lock { self.new.lock ≡ self.old.lock }
     {
         self.give_up_compaction();
         let silences = self.save_silences(instance);
@@ -45,6 +48,7 @@ impl<R: AllocGlobal + Clock + Eprint + Files<File = File>> SystemBackend<'_, R> 
         ensures log { log_of self.new.log ≡ log_of self.old.log }
         ensures log_file { saved_file self.new.log ≡ saved_file self.old.log }
         ensures queue { self.new.queue ≡ self.old.queue }
+        ensures lock { self.new.lock ≡ self.old.lock }
     {
         let most = self.options.most_bytes;
         self.count_save_begun(SavedState::Silences);
@@ -70,6 +74,7 @@ impl<R: AllocGlobal + Clock + Eprint + Files<File = File>> SystemBackend<'_, R> 
         ensures silences { log_of self.new.silences ≡ log_of self.old.silences }
         ensures silences_file { saved_file self.new.silences ≡ saved_file self.old.silences }
         ensures queue { self.new.queue ≡ self.old.queue }
+        ensures lock { self.new.lock ≡ self.old.lock }
     {
         let most = self.options.most_bytes;
         self.count_save_begun(SavedState::Log);
@@ -89,7 +94,9 @@ impl<R: AllocGlobal + Clock + Eprint + Files<File = File>> SystemBackend<'_, R> 
 
     /// Saves both states: at once or, if logs are kept, after the duties and while the member serves.
     pub(crate) fn save_in_turn(&mut self, instance: &Instance)
-        ensures { self.new.queue ≡ self.old.queue }
+        ensures disk { disk_of self.new.commit_state ≡ disk_of self.old.commit_state }
+        ensures queue { self.new.queue ≡ self.old.queue }
+        ensures lock { self.new.lock ≡ self.old.lock }
     {
         if self.commit_state.is_on() {
             self.want_both();
@@ -102,6 +109,7 @@ impl<R: AllocGlobal + Clock + Eprint + Files<File = File>> SystemBackend<'_, R> 
     pub(crate) fn save_behind(&mut self, instance: &Instance)
         ensures saved { MaySave instance.now (store_of self.old) (store_of self.new) }
         ensures queue { self.new.queue ≡ self.old.queue }
+        ensures lock { self.new.lock ≡ self.old.lock }
     {
         if !self.commit_state.is_behind() {
             return;

@@ -57,6 +57,7 @@ impl<R: AllocGlobal + Clock + Eprint> SystemBackend<'_, R> {
         ensures goes_on { GoesOn self.old.commit_state self.new.commit_state }
         ensures queued { let peers = for_peers (disk_of self.old.commit_state) frames.items in
             (outbound_of self.new ≡ with_queued peers (outbound_of self.old)) ⊎ (outbound_of self.new ≡ left_out (length peers) (outbound_of self.old)) }
+        ensures lock { self.new.lock ≡ self.old.lock }
     {
         let mut frames = self.log_frames(config, frames);
         if self.queue.append(&mut frames).is_err() {

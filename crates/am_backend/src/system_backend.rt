@@ -103,6 +103,7 @@ impl<R: Clock + Eprint> SystemBackend<'_, R> {
         ensures store { store_of self.new ≡ store_of self.old }
         ensures outbound { outbound_of self.new ≡ outbound_of self.old }
         ensures queue { self.new.queue ≡ self.old.queue }
+        ensures lock { self.new.lock ≡ self.old.lock }
     {
         let told = Diagnostic { fault, peer: None };
         self.lines.tell(self.rt, config.members(), told);
@@ -110,7 +111,8 @@ impl<R: Clock + Eprint> SystemBackend<'_, R> {
 
     /// Prints how many lines were left out of each kind.
     pub(crate) fn settle_lines(&mut self, config: &Config)
-        ensures { self.new.queue ≡ self.old.queue }
+        ensures queue { self.new.queue ≡ self.old.queue }
+        ensures lock { self.new.lock ≡ self.old.lock }
     {
         self.lines.settle_all(self.rt, config.members());
     }
@@ -119,6 +121,7 @@ impl<R: Clock + Eprint> SystemBackend<'_, R> {
     fn tell_unsent(&mut self, config: &Config, unsent: Unsent)
         ensures store { store_of self.new ≡ store_of self.old }
         ensures outbound { outbound_of self.new ≡ outbound_of self.old }
+        ensures lock { self.new.lock ≡ self.old.lock }
     {
         if unsent.memory > 0 {
             self.tell(config, Fault::UnsentMemory(unsent.memory));
@@ -132,7 +135,9 @@ impl<R: Clock + Eprint> SystemBackend<'_, R> {
 impl<R: Clock + Eprint> SystemBackend<'_, R> {
     /// Checks whether what the clock says, as the time since 1970, went far ahead, unless the clock is trusted.
     pub(crate) fn look_far(&mut self, instance: &Instance, since_1970: Duration)
-        ensures { self.new.queue ≡ self.old.queue }
+        ensures store { store_of self.new ≡ store_of self.old }
+        ensures outbound { outbound_of self.new ≡ outbound_of self.old }
+        ensures lock { self.new.lock ≡ self.old.lock }
     {
         if self.options.trusts_clock {
             return;
@@ -150,6 +155,7 @@ impl<R: AllocGlobal + Clock + Eprint> SystemBackend<'_, R> {
     pub(crate) fn follow_step(&mut self, config: &Config, outbox: FrameSender)
         ensures followed { IsFollowed outbox (store_of self.old) (store_of self.new) }
         ensures queued { IsQueued (disk_of self.old.commit_state) outbox (outbound_of self.old) (outbound_of self.new) }
+        ensures lock { self.new.lock ≡ self.old.lock }
     {
         let FrameSender { frames, unsent } = outbox;
         if unsent.memory > 0 || unsent.limit > 0 {
@@ -162,8 +168,10 @@ impl<R: AllocGlobal + Clock + Eprint> SystemBackend<'_, R> {
 
     /// Makes a step of its own at a moment, and returns whether the step was made.
     pub(crate) fn step(&mut self, instance: &mut Instance, event: Event, now: Moment) -> bool
-        ensures { (answer : Result Outcome StepError) × IsStep instance.old event now answer instance.new
+        ensures made { (answer : Result Outcome StepError) × IsStep instance.old event now answer instance.new
             × IsSentOn (disk_of self.old.commit_state) answer (outbound_of self.old) (outbound_of self.new) }
+        ensures disk { disk_of self.new.commit_state ≡ disk_of self.old.commit_state }
+        ensures lock { self.new.lock ≡ self.old.lock }
     {
         match instance.step(event, now) {
             Ok(outcome) => {

@@ -123,6 +123,10 @@ IsOffered peer bytes old new = (mid : ForPeers) × GivesNone old mid × (GivesFr
 abbrev pub IsAtRest : ForPeers → ForPeers → Type 0
 IsAtRest old new = GivesNone old new × (new.queue.frames ≡ [])
 
+-- A link to a peer is lost: what was put by for the peer is dropped, and the link is closed. An Alertmanager has neither.
+abbrev pub IsLost : ℕ → ForPeers → ForPeers → Type 0
+IsLost peer old new = new ≡ (if is_beside old peer then old else with_put_by peer nothing_put_by old)
+
 -- the place of a frame in its connection behind this many others, if what the connection answered with is a challenge
 abbrev pub place_in : List ℕ → ℕ → Option Sequence
 place_in answer number = if nat_le 32 (length answer) then Some (record { challenge = take 32 answer; number = number }) else None

@@ -1,16 +1,22 @@
 -- What becomes of what steps send.
-use Rattle.std.specs.Prelude.{◌≡◌, ◌⊎◌, ℕ, List, Option}
+use Rattle.std.specs.Prelude.{◌≡◌, ◌⊎◌, ℕ, List, Option, None, Some, Result}
 use Rattle.am_api_decisions.specs.Asking.{HoldsSame}
 use Rattle.am_api_decisions.specs.Noticing.{IsNoticed}
 use Rattle.am_api_decisions.specs.declared.notice.Notice.{Notice}
 use Rattle.am_api_silences.specs.Answers.{WhenMade}
 use Rattle.am_api_silences.specs.declared.answering.PendingAnswer.{PendingAnswer}
 use Rattle.am_backend.specs.CommitStates.{disk_of}
-use Rattle.am_backend.specs.Outbound.{IsQueued}
+use Rattle.am_backend.specs.Outbound.{IsQueued, IsSentOn}
 use Rattle.am_backend.specs.Stores.{IsFollowed, Store}
+use Rattle.am_daemon.specs.Offers.{ForPeers, IsAtRest, OnlyCounts}
+use Rattle.am_gossip.specs.declared.frame.Frame.{Frame}
+use Rattle.am_gossip.specs.declared.refusals.StepError.{StepError}
 use Rattle.am_http.specs.Sessions.{Spoken}
 use Rattle.am_instance.specs.InstanceStates.{InstanceState}
+use Rattle.am_instance.specs.OneStep.{IsStep}
 use Rattle.am_instance.specs.Sendings.{Sent}
+use Rattle.am_instance.specs.declared.event.Event.TheVariants as events
+use Rattle.am_instance.specs.declared.reply.Outcome.{Outcome}
 use Rattle.am_member.specs.Exchanging.{IsSessionAnswer}
 use Rattle.am_member.specs.declared.session_answer.SessionAnswer.{SessionAnswer}
 
@@ -55,3 +61,32 @@ pub record IsQuiet (old : InstanceState) (was : Outlets) (new : InstanceState) (
 -- What is held changed only by steps of what a connection said, or of a notice, and just what they send is passed on.
 pub record PassesOn (old : InstanceState) (was : Outlets) (new : InstanceState) (is : Outlets) : Type 0 where
   pub by : IsQuiet old was new is ⊎ (SaidIsPassedOn old was new is ⊎ NoticeIsPassedOn old was new is)
+
+-- ---- what a member does by itself
+
+-- A Tick was made, or nothing was.
+abbrev pub MayTick : InstanceState → InstanceState → Type 0
+MayTick old new = (new ≡ old) ⊎ ((now : ℕ) × (answer : Result Outcome StepError) × IsStep old events.Tick now answer new)
+
+-- The step of the frame that came from the Alertmanager at a place was made, and just what it sends waits behind what waited before. If
+-- none came, nothing was done.
+abbrev pub FrameIsSentOn : Option (ℕ × Frame) → Option ℕ → InstanceState → ForPeers → InstanceState → ForPeers → Type 0
+FrameIsSentOn None disk old was new is = (new ≡ old) × (is ≡ was)
+FrameIsSentOn (Some came) disk old was new is = (now : ℕ) × (answer : Result Outcome StepError) × IsStep old (events.Frame came.0 came.1) now answer new
+    × IsSentOn disk answer was.queue is.queue × (is ≡ record was { queue = is.queue })
+
+-- What was due was done: perhaps a Tick, which sends nothing to peers, and then the step of an Alertmanager's frame, if one came. Beside
+-- that, only frames that aren't sent are counted.
+pub record IsWoken (disk : Option ℕ) (old : InstanceState) (was : ForPeers) (new : InstanceState) (is : ForPeers) : Type 0 where
+  pub ticked : InstanceState
+  pub before : ForPeers
+  pub after : ForPeers
+  pub came : Option (ℕ × Frame)
+  pub tick : MayTick old ticked
+  pub waits : OnlyCounts was before
+  pub sent : FrameIsSentOn came disk ticked before new after
+  pub stays : OnlyCounts after is
+
+-- A call that is for no connection and no peer: what waits for peers stays, no frame waits any more, or what was due was done.
+abbrev pub ActsForPeers : Option ℕ → InstanceState → ForPeers → InstanceState → ForPeers → Type 0
+ActsForPeers disk old was new is = ((new ≡ old) × OnlyCounts was is) ⊎ (((new ≡ old) × IsAtRest was is) ⊎ IsWoken disk old was new is)

@@ -1,14 +1,14 @@
 //! A running member: its instance, and the server that acts on it.
 
 ghost use Rattle.std.specs.Prelude.{◌≡◌, ⊤};
-ghost use Rattle.am_backend.specs.CommitStates.{uncommitted as uncommitted_in};
+ghost use Rattle.am_backend.specs.CommitStates.{disk_of, uncommitted as uncommitted_in};
 ghost use Rattle.am_server.specs.Answered.{ByItself};
 ghost use Rattle.am_server.specs.Talks.{pending_in, talk_of};
 ghost use Rattle.am_http.specs.Sessions.{name_of, over as ended_under};
 ghost use Rattle.am_server.specs.Talking.{Does, fresh_talk};
 ghost use Rattle.am_daemon.specs.Members.{IsSameMember};
-ghost use Rattle.am_daemon.specs.Offers.{IsGiven, IsOffered, for_peers};
-ghost use Rattle.am_daemon.specs.Sending.{PassesOn, outlets};
+ghost use Rattle.am_daemon.specs.Offers.{IsGiven, IsLost, IsOffered, for_peers};
+ghost use Rattle.am_daemon.specs.Sending.{ActsForPeers, PassesOn, outlets};
 
 use crate::member::server::Server;
 use am_backend::Backend;
@@ -45,21 +45,27 @@ impl<U: Backend> Service for Member<'_, U> {
 
     ghost uncommitted = { λ member. uncommitted_in (U.store_of member.server.state.backend).commit_state };
 
-    ghost loses = { λ member _ _ member'. IsSameMember member member' };
+    ghost loses = { λ member peer _ member'. IsSameMember member member'
+        × IsLost peer (for_peers U.outbound U.sealed_by member.server.state) (for_peers U.outbound U.sealed_by member'.server.state) };
 
     ghost gives = { λ member peer answer bytes member'. IsSameMember member member'
         × IsGiven member.instance.config peer answer bytes (for_peers U.outbound U.sealed_by member.server.state) (for_peers U.outbound U.sealed_by member'.server.state) };
 
-    ghost answers = { λ member _ _ member'. IsSameMember member member' };
+    ghost answers = { λ member _ _ member'. IsSameMember member member'
+        × (for_peers U.outbound U.sealed_by member'.server.state ≡ for_peers U.outbound U.sealed_by member.server.state) };
 
-    ghost asks = { λ member _ _ member'. IsSameMember member member' };
+    ghost asks = { λ member _ _ member'. IsSameMember member member'
+        × (for_peers U.outbound U.sealed_by member'.server.state ≡ for_peers U.outbound U.sealed_by member.server.state) };
 
     ghost offers = { λ member peer bytes member'. IsSameMember member member'
         × IsOffered peer bytes (for_peers U.outbound U.sealed_by member.server.state) (for_peers U.outbound U.sealed_by member'.server.state) };
 
-    ghost begins = { λ member connection member'. IsSameMember member member' × (talk_of connection ≡ fresh_talk) };
+    ghost begins = { λ member connection member'. IsSameMember member member' × (talk_of connection ≡ fresh_talk)
+        × (for_peers U.outbound U.sealed_by member'.server.state ≡ for_peers U.outbound U.sealed_by member.server.state) };
 
-    ghost acts = { λ member member'. (member'.lock ≡ member.lock) × ByItself member.instance member'.instance };
+    ghost acts = { λ member member'. ((member'.lock ≡ member.lock) × ByItself member.instance member'.instance)
+        × ActsForPeers (disk_of (U.store_of member.server.state.backend).commit_state) member.instance (for_peers U.outbound U.sealed_by member.server.state)
+        member'.instance (for_peers U.outbound U.sealed_by member'.server.state) };
 
     ghost does = { λ member connection deed member' connection'. ((member'.lock ≡ member.lock)
         × PassesOn member.instance (outlets U.store_of U.outbound member.server.state.backend) member'.instance (outlets U.store_of U.outbound member'.server.state.backend))
@@ -194,8 +200,8 @@ impl<'a, U: Backend> MemberService for Member<'a, U> {
     ghost begins_fresh = { λ member connection member' begins. record { same = begins.0.1; accord = fresh_in_accord (talk_of connection) begins.1 } };
 
     ghost acts_alone = { λ member member' call.
-        let alone = acts_alone member.instance member'.instance (call_alone (λ m. m.instance) ⟦<Member<'a, U> as Service>⟧ (λ _ _ acts. acts.1) (λ _ _ _ _ same. same.1)
-        (λ _ _ _ _ same. same.1) (λ _ _ _ _ _ given. given.0.1) (λ _ _ _ _ offered. offered.0.1) (λ _ _ _ _ same. same.1) member member' call) in
+        let alone = acts_alone member.instance member'.instance (call_alone (λ m. m.instance) ⟦<Member<'a, U> as Service>⟧ (λ _ _ acts. acts.0.1) (λ _ _ _ _ lost. lost.0.1)
+        (λ _ _ _ _ answered. answered.0.1) (λ _ _ _ _ _ given. given.0.1) (λ _ _ _ _ offered. offered.0.1) (λ _ _ _ _ asked. asked.0.1) member member' call) in
         record { deeds = alone.0; own = alone.1; life = alone.2 } };
 
     ghost does_for_one = { λ member connection deed member' connection' does number standings passed turns accord.

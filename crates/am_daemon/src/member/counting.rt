@@ -70,7 +70,8 @@ pub fn count_said<U: Backend>(
 
 /// Counts a connection that failed.
 pub fn count_broken<U: Backend>(backend: &mut U, account: &mut RequestRecord, why: Failure)
-    ensures { outlets U.store_of U.outbound backend.new ≡ outlets U.store_of U.outbound backend.old }
+    ensures stays { outlets U.store_of U.outbound backend.new ≡ outlets U.store_of U.outbound backend.old }
+    ensures lock { U.sealed_by backend.new ≡ U.sealed_by backend.old }
 {
     backend.count(Counted::Failed(failing_of(why)));
     if account.close() {
@@ -82,6 +83,7 @@ pub fn count_broken<U: Backend>(backend: &mut U, account: &mut RequestRecord, wh
 pub fn count_where_done<U: Backend>(backend: &mut U, connection: &mut ConnectionState)
     ensures talk { talk_of connection.new ≡ talk_of connection.old }
     ensures stays { outlets U.store_of U.outbound backend.new ≡ outlets U.store_of U.outbound backend.old }
+    ensures lock { U.sealed_by backend.new ≡ U.sealed_by backend.old }
 {
     if connection.is_done() && connection.account.close() {
         count_end(backend, &connection.account, connection.status());
@@ -90,7 +92,8 @@ pub fn count_where_done<U: Backend>(backend: &mut U, connection: &mut Connection
 
 /// Counts the end of a connection now, and what it was answered.
 fn count_end<U: Backend>(backend: &mut U, account: &RequestRecord, status: &[u8])
-    ensures { outlets U.store_of U.outbound backend.new ≡ outlets U.store_of U.outbound backend.old }
+    ensures stays { outlets U.store_of U.outbound backend.new ≡ outlets U.store_of U.outbound backend.old }
+    ensures lock { U.sealed_by backend.new ≡ U.sealed_by backend.old }
 {
     backend.count(Counted::Ended);
     let Some((request, time)) = account.answered(backend.now()) else {

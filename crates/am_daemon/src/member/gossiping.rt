@@ -1,17 +1,17 @@
 //! The exchanges with the Alertmanagers beside a member: it takes what they answer, a stretch in each turn of the loop, and
 //! sends them what they lack.
 
-ghost use Rattle.std.specs.Prelude.{◌≡◌, ℕ, false, Some, IfSome, MatchOption, Result, option_map};
+ghost use Rattle.std.specs.Prelude.{◌≡◌, ℕ, false, IfSome, MatchOption, Option, Result, option_map};
 ghost use Rattle.am_alertmanager.specs.Comings.{frame_in};
 ghost use Rattle.am_backend.specs.CommitStates.{disk_of, uncommitted};
 ghost use Rattle.am_backend.specs.Outbound.{IsSentOn};
+ghost use Rattle.am_gossip.specs.declared.frame.Frame.{Frame as FrameOf};
 ghost use Rattle.am_gossip.specs.declared.refusals.StepError.{StepError};
 ghost use Rattle.am_instance.specs.OneStep.{IsStep};
 ghost use Rattle.am_instance.specs.declared.event.Event.TheVariants as events;
 ghost use Rattle.am_instance.specs.declared.reply.Outcome.{Outcome};
-ghost use Rattle.am_server.specs.Answered.{ByItself, IsStepOfFrame};
 ghost use Rattle.am_daemon.specs.Offers.{GivesFrames, IsAtRest, IsOffered, Passes, for_peers};
-ghost use Rattle.am_daemon.specs.Sending.{outlets};
+ghost use Rattle.am_daemon.specs.Sending.{FrameIsSentOn, outlets};
 
 use super::links::address_of;
 use super::server::Server;
@@ -37,10 +37,10 @@ fn take_from<U: Backend>(
     place: usize,
     frame: Frame,
 )
-    ensures step { IsStepOfFrame (Some (place, frame)) instance.old instance.new }
     // PROMISE: What the step of an Alertmanager's frame sends to peers waits behind what waited before, in order.
     ensures sent { (now : ℕ) × (answer : Result Outcome StepError) × IsStep instance.old (events.Frame place frame) now answer instance.new
         × IsSentOn (disk_of (U.store_of backend.old).commit_state) answer (U.outbound backend.old) (U.outbound backend.new) }
+    ensures lock { U.sealed_by backend.new ≡ U.sealed_by backend.old }
 {
     let sender = place as Place;
     let now = backend.next_moment(instance.last());
@@ -69,9 +69,10 @@ fn take_from<U: Backend>(
 }
 
 impl<U: Backend> ServerState<'_, U> {
-    /// Takes what came from a replica: the step of its frame is made, if one came, and no other.
+    /// Takes what came from a replica: the step of its frame is made, if one came, and no other, and sent on.
     fn take_came(&mut self, instance: &mut Instance, came: Came)
-        ensures { IsStepOfFrame (frame_in came) instance.old instance.new }
+        ensures { FrameIsSentOn (frame_in came) (disk_of (U.store_of self.old.backend).commit_state) instance.old (for_peers U.outbound U.sealed_by self.old)
+            instance.new (for_peers U.outbound U.sealed_by self.new) }
     {
         match came {
             Came::Nothing | Came::Stretch => {}
@@ -91,14 +92,19 @@ impl<U: Backend> ServerState<'_, U> {
     }
 
     /// Counts an exchange with the replica at a place, which told everything, and lacked this many versions.
-    fn note_exchange(&mut self, place: usize, lacked: u64) {
+    fn note_exchange(&mut self, place: usize, lacked: u64)
+        ensures stays { outlets U.store_of U.outbound self.new.backend ≡ outlets U.store_of U.outbound self.old.backend }
+        ensures peers { for_peers U.outbound U.sealed_by self.new ≡ for_peers U.outbound U.sealed_by self.old }
+    {
         let since_1970 = self.backend.since_1970();
         self.backend.count(Counted::Heard(place, since_1970));
         self.backend.count(Counted::Lacked(place, lacked));
     }
 
     /// Counts a silence that isn't sent to a replica, and reports it if that wasn't done before.
-    fn report(&mut self, config: &Config, report: &Report) {
+    fn report(&mut self, config: &Config, report: &Report)
+        ensures { for_peers U.outbound U.sealed_by self.new ≡ for_peers U.outbound U.sealed_by self.old }
+    {
         let id = ShortId::of(report.id.as_str().as_bytes());
         let (cause, fault) = match report.hazard {
             Hazard::Pattern => (WithheldBy::Pattern, Fault::WithheldPattern(id)),
@@ -113,7 +119,8 @@ impl<U: Backend> ServerState<'_, U> {
 
     /// Takes the last frame of the replica at a place, which ends a first pull.
     fn take_last(&mut self, instance: &mut Instance, place: usize, frame: Option<Frame>)
-        ensures { IsStepOfFrame (option_map (λ came. (place, came)) frame) instance.old instance.new }
+        ensures { FrameIsSentOn (option_map (λ came. (place, came)) frame) (disk_of (U.store_of self.old.backend).commit_state) instance.old (for_peers U.outbound U.sealed_by self.old)
+            instance.new (for_peers U.outbound U.sealed_by self.new) }
     {
         self.end_first_pull();
         if let Some(frame) = frame {
@@ -126,7 +133,8 @@ impl<U: Backend> Server<'_, U> {
     /// Asks the replicas if that is due, and looks at a stretch of what they answered. Returns the time until there is more to
     /// be done.
     pub(super) fn gossip(&mut self, instance: &mut Instance, now: Instant) -> Option<Duration>
-        ensures { ByItself instance.old instance.new }
+        ensures { (came : Option (ℕ × FrameOf)) × FrameIsSentOn came (disk_of (U.store_of self.old.state.backend).commit_state)
+            instance.old (for_peers U.outbound U.sealed_by self.old.state) instance.new (for_peers U.outbound U.sealed_by self.new.state) }
     {
         self.replicas.want_due(now);
         let moment = self.state.backend.next_moment(instance.last());
@@ -140,7 +148,9 @@ impl<U: Backend> Server<'_, U> {
     }
 
     /// Counts the silences that aren't sent to replicas, and reports those that weren't reported before.
-    fn report_withheld(&mut self, config: &Config) {
+    fn report_withheld(&mut self, config: &Config)
+        ensures { for_peers U.outbound U.sealed_by self.new.state ≡ for_peers U.outbound U.sealed_by self.old.state }
+    {
         for _ in 0..u64::MAX {
             match self.replicas.next_report() {
                 Some(report) => self.state.report(config, &report),
@@ -150,7 +160,9 @@ impl<U: Backend> Server<'_, U> {
     }
 
     /// Reports how many of the smaller messages that replicas told lost fields.
-    fn report_dropped(&mut self, config: &Config) {
+    fn report_dropped(&mut self, config: &Config)
+        ensures { for_peers U.outbound U.sealed_by self.new.state ≡ for_peers U.outbound U.sealed_by self.old.state }
+    {
         for _ in 0..u64::MAX {
             let Some((place, count)) = self.replicas.next_dropped() else {
                 return;
@@ -223,7 +235,8 @@ impl<U: Backend> Server<'_, U> {
 
     /// Returns the next question or message for a replica. A message goes out only after what it tells is committed.
     pub fn next_question(&mut self, instance: &Instance) -> Option<PeerBytes>
-        ensures { IfSome result (λ it. uncommitted (U.store_of self.old.state.backend).commit_state ≡ false) }
+        ensures committed { IfSome result (λ it. uncommitted (U.store_of self.old.state.backend).commit_state ≡ false) }
+        ensures peers { for_peers U.outbound U.sealed_by self.new.state ≡ for_peers U.outbound U.sealed_by self.old.state }
     {
         if self.state.backend.commit_state().has_changes() {
             return None;

@@ -34,6 +34,15 @@ pub fn plan_transfer(transfers: &mut [StateTransfer], peer: usize, kind: Transfe
     }
 }
 
+/// Plans to ask each peer that has an address for all that it has, and to hand it all that is held here.
+pub fn plan_exchanges(transfers: &mut [StateTransfer], addresses: &[Option<SocketAddr>]) {
+    for peer in 0..addresses.len() {
+        if address_of(addresses, peer).is_some() {
+            plan_transfer(transfers, peer, TransferKind::Exchange);
+        }
+    }
+}
+
 /// Plans to hand a peer nothing more.
 pub fn hand_nothing(transfers: &mut [StateTransfer], peer: usize) {
     if let Some(transfer) = transfers.get_mut(peer) {

@@ -1,9 +1,10 @@
 //! The part of a member that answers those who connect to it.
 
 ghost use Rattle.std.specs.Prelude.{◌≡◌};
+ghost use Rattle.am_daemon.specs.Offers.{OnlyCounts, for_peers, nothing_put_by, with_put_by};
 ghost use Rattle.am_daemon.specs.Sending.{outlets};
 
-use super::links::{address_of, hand_nothing, plan_transfer};
+use super::links::{address_of, hand_nothing, plan_exchanges};
 use super::pending_frames::PendingFrames;
 use am_api_decisions::RecentAlerts;
 use am_backend::{Backend, DISK, sooner};
@@ -12,7 +13,7 @@ use am_instance::{Config, Instance, Place};
 use am_member::PatternsAhead;
 use am_peer_auth::CHALLENGE;
 use am_reactor::LinkFault;
-use am_server::{StateTransfer, Timers, TransferKind, Turns};
+use am_server::{StateTransfer, Timers, Turns};
 use rand::rngs::StdRng;
 use rand_core::Rng;
 use std::alloc::Global;
@@ -81,17 +82,19 @@ impl<U: Backend> ServerState<'_, U> {
     }
 
     /// Asks each peer for all that it has, and hands it all that is held here.
-    pub(super) fn pull_from_peers(&mut self) {
-        for peer in 0..self.addresses.len() {
-            if address_of(&self.addresses, peer).is_some() {
-                plan_transfer(&mut self.transfers, peer, TransferKind::Exchange);
-            }
-        }
+    pub(super) fn pull_from_peers(&mut self)
+        ensures stays { outlets U.store_of U.outbound self.new.backend ≡ outlets U.store_of U.outbound self.old.backend }
+        ensures peers { for_peers U.outbound U.sealed_by self.new ≡ for_peers U.outbound U.sealed_by self.old }
+    {
+        plan_exchanges(&mut self.transfers, &self.addresses);
     }
 
     /// Checks whether the first pull is over, whether the clock is behind, which lines are due, and whether the member is to
     /// stop.
-    pub(super) fn look_around(&mut self, instance: &Instance, now: Instant) {
+    pub(super) fn look_around(&mut self, instance: &Instance, now: Instant)
+        ensures stays { outlets U.store_of U.outbound self.new.backend ≡ outlets U.store_of U.outbound self.old.backend }
+        ensures peers { for_peers U.outbound U.sealed_by self.new ≡ for_peers U.outbound U.sealed_by self.old }
+    {
         if self.duties.is_first_pull_over(now) {
             self.backend.tell_of(instance.config(), None, Fault::NoPull);
             self.duties.end_first_pull(now);
@@ -106,7 +109,9 @@ impl<U: Backend> ServerState<'_, U> {
     }
 
     /// Ends the first pull because the member stops. What waits for it is turned away.
-    pub(super) fn give_up_first_pull(&mut self, now: Instant) {
+    pub(super) fn give_up_first_pull(&mut self, now: Instant)
+        ensures { for_peers U.outbound U.sealed_by self.new ≡ for_peers U.outbound U.sealed_by self.old }
+    {
         if self.duties.waits_for_pull() {
             self.turns_away = true;
             self.duties.end_first_pull(now);
@@ -115,7 +120,8 @@ impl<U: Backend> ServerState<'_, U> {
 
     /// Ends the first pull, since all that the peers have is here.
     pub(super) fn end_first_pull(&mut self)
-        ensures { outlets U.store_of U.outbound self.new.backend ≡ outlets U.store_of U.outbound self.old.backend }
+        ensures stays { outlets U.store_of U.outbound self.new.backend ≡ outlets U.store_of U.outbound self.old.backend }
+        ensures peers { for_peers U.outbound U.sealed_by self.new ≡ for_peers U.outbound U.sealed_by self.old }
     {
         if let Some(now) = self.backend.now() {
             self.duties.end_first_pull(now);
@@ -123,7 +129,9 @@ impl<U: Backend> ServerState<'_, U> {
     }
 
     /// Gives up the link to a peer, and returns the address at which the peer listens.
-    pub(super) fn lose_link(&mut self, peer: usize, fault: LinkFault) -> Option<SocketAddr> {
+    pub(super) fn lose_link(&mut self, peer: usize, fault: LinkFault) -> Option<SocketAddr>
+        ensures { for_peers U.outbound U.sealed_by self.new ≡ with_put_by peer nothing_put_by (for_peers U.outbound U.sealed_by self.old) }
+    {
         hand_nothing(&mut self.transfers, peer);
         let dropped = self.close_link(peer);
         self.backend.drop_frames(peer, dropped, fault);
@@ -131,7 +139,9 @@ impl<U: Backend> ServerState<'_, U> {
     }
 
     /// Rewrites files, and returns the time until there is more to be done.
-    pub(super) fn left(&mut self, instance: &Instance, now: Instant) -> Option<Duration> {
+    pub(super) fn left(&mut self, instance: &Instance, now: Instant) -> Option<Duration>
+        ensures { OnlyCounts (for_peers U.outbound U.sealed_by self.old) (for_peers U.outbound U.sealed_by self.new) }
+    {
         let work = self.backend.compact(instance, now);
         let lines = sooner(self.duties.left(now), self.backend.lines_left(now));
         sooner(work, lines)

@@ -1,15 +1,15 @@
 //! The work that a member does for the loop that serves it.
 
-ghost use Rattle.std.specs.Prelude.{◌≡◌, ◌⊎◌, false, IfNone, IfSome};
+ghost use Rattle.std.specs.Prelude.{◌≡◌, ◌⊎◌, false, true, IfNone, IfSome};
 ghost use Rattle.std.specs.Option.{option_map};
 ghost use Rattle.am_http.specs.Sessions.{SaysEnd, Spoken, name_of, over as ended_under};
 ghost use Rattle.am_server.specs.Answered.{ByItself, ForPages, IsAnswered};
 ghost use Rattle.am_server.specs.Talking.{IsLetIn, IsScreened, IsTakenUp, fresh_talk};
 ghost use Rattle.am_server.specs.Talks.{IsGivenOn, IsReleased, Lasts, talk_of};
-ghost use Rattle.am_backend.specs.CommitStates.{kept, uncommitted as uncommitted_in};
+ghost use Rattle.am_backend.specs.CommitStates.{disk_of, kept, uncommitted as uncommitted_in};
 ghost use Rattle.am_backend.specs.Stores.{IsKept};
-ghost use Rattle.am_daemon.specs.Offers.{IsAtRest, IsGiven, IsOffered, for_peers};
-ghost use Rattle.am_daemon.specs.Sending.{PassesOn, outlets};
+ghost use Rattle.am_daemon.specs.Offers.{IsAtRest, IsGiven, IsLost, IsOffered, OnlyCounts, for_peers};
+ghost use Rattle.am_daemon.specs.Sending.{IsWoken, PassesOn, outlets};
 
 use super::counting::{count_broken, count_where_done};
 use super::guarding::accepted_at;
@@ -46,7 +46,8 @@ fn fault_of(broken: Broken, is_over: bool) -> Option<Fault> {
 impl<U: Backend> Server<'_, U> {
     /// Returns the state of a connection that came by an entrance.
     pub fn begin(&mut self, entrance: Entrance) -> ConnectionState
-        ensures { talk_of result ≡ fresh_talk }
+        ensures talk { talk_of result ≡ fresh_talk }
+        ensures peers { for_peers U.outbound U.sealed_by self.new.state ≡ for_peers U.outbound U.sealed_by self.old.state }
     {
         self.state.backend.count(Counted::Begun);
         let accepts = accepted_at(self.state.backend.options(), entrance);
@@ -90,6 +91,7 @@ impl<U: Backend> Server<'_, U> {
     pub fn broken(&mut self, config: &Config, connection: &mut ConnectionState, broken: Broken)
         ensures talk { talk_of connection.new ≡ talk_of connection.old }
         ensures stays { outlets U.store_of U.outbound self.new.state.backend ≡ outlets U.store_of U.outbound self.old.state.backend }
+        ensures peers { for_peers U.outbound U.sealed_by self.new.state ≡ for_peers U.outbound U.sealed_by self.old.state }
     {
         if connection.turn().is_some() {
             self.state.turns.end();
@@ -125,6 +127,7 @@ impl<U: Backend> Server<'_, U> {
     pub fn commit(&mut self, instance: &Instance)
         ensures kept { IsKept instance.now (U.store_of self.old.state.backend) (U.store_of self.new.state.backend) }
         ensures committed { uncommitted_in (U.store_of self.new.state.backend).commit_state ≡ false }
+        ensures peers { OnlyCounts (for_peers U.outbound U.sealed_by self.old.state) (for_peers U.outbound U.sealed_by self.new.state) }
     {
         self.state.backend.keep(instance);
     }
@@ -173,6 +176,7 @@ impl<U: Backend> Server<'_, U> {
     pub fn count_done(&mut self, connection: &mut ConnectionState)
         ensures talk { talk_of connection.new ≡ talk_of connection.old }
         ensures stays { outlets U.store_of U.outbound self.new.state.backend ≡ outlets U.store_of U.outbound self.old.state.backend }
+        ensures peers { for_peers U.outbound U.sealed_by self.new.state ≡ for_peers U.outbound U.sealed_by self.old.state }
     {
         count_where_done(&mut self.state.backend, connection);
     }
@@ -181,9 +185,9 @@ impl<U: Backend> Server<'_, U> {
     pub fn outgoing(&mut self, config: &Config) -> Option<PeerBytes>
         // PROMISE: What is given for a peer is the text of just the frames that wait for it, in order, each once; or, where frames are sealed, these are put by for it, behind those before, and a link is opened; or none waits, and a link is opened for what is held.
         ensures offered { IfSome result (λ it. IsOffered it.peer it.bytes.items (for_peers U.outbound U.sealed_by self.old.state) (for_peers U.outbound U.sealed_by self.new.state)) }
-        // PROMISE: Once all is committed, nothing is given only if no frame waits any more.
-        ensures rested { IfNone result (uncommitted_in (U.store_of self.old.state.backend).commit_state ≡ false →
-            IsAtRest (for_peers U.outbound U.sealed_by self.old.state) (for_peers U.outbound U.sealed_by self.new.state)) }
+        // PROMISE: Nothing is given only if something is still to be committed, and then all that waits for peers waits on; or if no frame waits any more.
+        ensures rested { IfNone result (((uncommitted_in (U.store_of self.old.state.backend).commit_state ≡ true) × (for_peers U.outbound U.sealed_by self.new.state ≡ for_peers U.outbound U.sealed_by self.old.state))
+            ⊎ IsAtRest (for_peers U.outbound U.sealed_by self.old.state) (for_peers U.outbound U.sealed_by self.new.state)) }
         ensures committed { IfSome result (λ it. uncommitted_in (U.store_of self.old.state.backend).commit_state ≡ false) }
     {
         if self.state.backend.commit_state().has_changes() {
@@ -207,12 +211,16 @@ impl<U: Backend> Server<'_, U> {
     }
 
     /// Reports a link to a peer, or an exchange with a replica, that is lost.
-    pub fn lost(&mut self, config: &Config, peer: usize, fault: LinkFault) {
-        let address = if self.replicas.is_at(peer) {
-            self.replicas.lost(peer);
-            address_of(&self.state.asked, peer)
-        } else {
-            self.state.lose_link(peer, fault)
+    pub fn lost(&mut self, config: &Config, peer: usize, fault: LinkFault)
+        // PROMISE: When a link is lost, just the frames that were put by for its peer are dropped; all others wait on.
+        ensures { IsLost peer (for_peers U.outbound U.sealed_by self.old.state) (for_peers U.outbound U.sealed_by self.new.state) }
+    {
+        let address = match address_of(&self.state.asked, peer) {
+            Some(address) => {
+                self.replicas.lost(peer);
+                Some(address)
+            }
+            None => self.state.lose_link(peer, fault),
         };
         let fault = Fault::Lost(fault, address);
         self.state
@@ -222,7 +230,9 @@ impl<U: Backend> Server<'_, U> {
 
     /// Does what is due, and returns the time until there is more to be done.
     pub fn wake(&mut self, instance: &mut Instance, now: Instant) -> Wake
-        ensures { ByItself instance.old instance.new }
+        ensures steps { ByItself instance.old instance.new }
+        // PROMISE: What waits for peers waits on when a member is woken, and behind it waits just what the step of an Alertmanager's frame sends, in order, or memory ran out for that.
+        ensures sent { IsWoken (disk_of (U.store_of self.old.state.backend).commit_state) instance.old (for_peers U.outbound U.sealed_by self.old.state) instance.new (for_peers U.outbound U.sealed_by self.new.state) }
     {
         self.do_duties(instance, now);
         if self.state.stops {
@@ -234,7 +244,9 @@ impl<U: Backend> Server<'_, U> {
     }
 
     /// Reports a connection that couldn't be accepted.
-    pub fn accept_failed(&mut self, config: &Config, kind: ErrorKind) {
+    pub fn accept_failed(&mut self, config: &Config, kind: ErrorKind)
+        ensures peers { for_peers U.outbound U.sealed_by self.new.state ≡ for_peers U.outbound U.sealed_by self.old.state }
+    {
         self.state.backend.count(Counted::NotAccepted);
         self.state
             .backend

@@ -8,7 +8,7 @@ use Rattle.am_backend.proofs.Logged.{all_beside, at_disk, beside_disk, logged_mo
 use Rattle.am_backend.proofs.system_backend.SystemBackend.log_frames.Goals as goal
 
 pub loop-queued-init : goal.loop-queued-init
-loop-queued-init g c = record { logged = logged_none (store_of c.args.self.now); outbound = refl }
+loop-queued-init g c = record { logged = logged_none (store_of c.args.self.now); outbound = refl; lock = refl }
 
 pub loop-queued-preserved : goal.loop-queued-preserved
 loop-queued-preserved g c =
@@ -17,6 +17,7 @@ loop-queued-preserved g c =
           (store_of c.log_queued.new.self) c.loop-queued-test.true c.loop-queued.invariant.logged
           (subst (λ (queued : ℕ × Frame). IsLogged (frames_for c.in-Some.disk (queued ∷ [])) (store_of c.loop-queued.self) (store_of c.log_queued.new.self)) c.queued-item.is c.log_queued.ensures.logged);
       outbound = c.log_queued.ensures.outbound ∙ c.loop-queued.invariant.outbound;
+      lock = c.log_queued.ensures.lock ∙ c.loop-queued.invariant.lock;
     }
 
 pub returns-clause-peers : goal.returns-clause-peers

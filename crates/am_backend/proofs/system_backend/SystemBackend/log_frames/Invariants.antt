@@ -9,4 +9,5 @@ abbrev pub invariant-loop-queued : goal.invariant-loop-queued
 invariant-loop-queued g l = record {
   logged : IsLogged (frames_for l.disk (take l.queued-index l.queued-items)) (store_of l.fn.self) (store_of l.self);
   outbound : outbound_of l.self ≡ outbound_of l.fn.self;
+  lock : l.self.lock ≡ l.fn.self.lock;
 }
