@@ -148,11 +148,6 @@ impl Replicas {
         None
     }
 
-    /// Returns whether a replica is at a place.
-    pub fn is_at(&self, place: usize) -> bool {
-        matches!(self.replicas.get(place), Some(Some(_)))
-    }
-
     /// Marks each replica to be asked, if that is due.
     pub fn want_due(&mut self, now: Instant) {
         let is_early = match self.next {
