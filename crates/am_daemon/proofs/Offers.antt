@@ -1,14 +1,18 @@
 -- What a member gives for its peers.
-use Rattle.std.proofs.Common.{◌≡◌, ◌∙◌, ◌<◌, ◌≤◌, ◌==◌, ℕ, Bool, true, false, not, List, [], ◌∷◌, length, max, suc, zero, get_or, set, map, Option, None, Some, ap, arith, cond, inl, inr, refl, rules, subst, sym}
-use Rattle.std.proofs.lemmas.List.{get_or-map, get_or-set_same, map-set}
+use Rattle.std.proofs.Common.{◌≡◌, ◌∙◌, ◌<◌, ◌≤◌, ◌==◌, ℕ, Bool, true, false, not, List, [], ◌∷◌, ◌++◌, length, max, suc, zero, get_or, set, map, Option, None, Some, ap, arith, cond, inl, inr, refl, rules, subst, sym}
+use Rattle.std.proofs.lemmas.List.{get_or-map, get_or-set_same, length-set, map-set}
+use Rattle.std.proofs.lemmas.Option.{slice_get_read}
 use Rattle.std.proofs.Math.Seq.{map-set_same}
-use Rattle.std.specs.Prelude.{IfNone, IfSome, IsSomeAnd, MatchOption, slice_get, slice_set}
+use Rattle.std.specs.Prelude.{IfNone, IfSome, IsSomeAnd, MatchOption, Result, Ok, Err, if◌then◌else◌, is_err, is_ok, slice_get, slice_set}
 use Rattle.am_instance.specs.Configs.{Settings}
+use Rattle.am_instance.specs.InstanceStates.{InstanceState}
 use Rattle.am_instance.specs.Sendings.{Sent}
+use Rattle.am_server.specs.declared.state_transfer.StateTransfer.{StateTransfer}
+use Rattle.std.specs.Option.{option_map}
 use Rattle.am_peers.specs.Queues.{frames_beside}
 use Rattle.am_backend.specs.Outbound.{AreGone, IsTaken, IsEncodingFor, left_out}
 use Rattle.am_peer_auth.specs.declared.sequence.Sequence.{Sequence}
-use Rattle.am_daemon.specs.Offers.{AreHandedOn, AreKeptBack, AreLost, AreNext, ForPeers, IsGiven, IsPutBy, Passes, PutBy, gone_on, nothing_put_by, place_in, put_behind, put_by_for, put_by_of, with_put_by}
+use Rattle.am_daemon.specs.Offers.{AreHandedOn, AreKeptBack, AreLost, AreNext, ForPeers, GivesPart, IsGiven, IsNextPart, IsPutBy, Passes, PutBy, gone_on, nothing_put_by, place_in, put_behind, put_by_for, put_by_of, with_put_by}
 use Rattle.am_gossip.specs.declared.frame.Frame.{Frame}
 use Rattle.am_peer_auth.specs.declared.seal.Lock.{Lock}
 use Rattle.am_daemon.specs.declared.member.pending_frames.PendingFrames.{PendingFrames}
@@ -142,3 +146,33 @@ module _ {V : Type 0} (bytes_in : V → List ℕ) (config : Settings) (peer : �
       (subst (λ (k : Settings). IfSome result (λ bytes. IsEncodingFor mid.lock k peer from frames' (bytes_in bytes))) same_config text)))
       (subst (λ (m : ForPeers). IfNone result (queue ≡ left_out (length frames) m.queue)) taken
       (subst (λ (fs : List Frame). IfNone result (queue ≡ left_out (length fs) mid.queue)) same_frames unsent)))
+
+-- the bytes of the next part, where nothing is put by
+pub part_given : {V : Type 0} (bytes_in : V → List ℕ) (held : InstanceState) (peer : ℕ) (answer : List ℕ) (was : ForPeers) (from : Option Sequence) (lock : Option Lock) (config' : Settings)
+    (frames frames' : List Frame) (old new : Option StateTransfer) (result : Option V) →
+    lock ≡ was.lock → config' ≡ held.config → frames' ≡ frames → from ≡ place_in answer (put_by_for was peer).number →
+    ((put_by_for was peer).frames ≡ [] → (part : Frame) × (frames ≡ part ∷ []) × IsNextPart held old part new) →
+    IfSome result (λ bytes. IsEncodingFor lock config' peer from frames' (bytes_in bytes)) →
+    GivesPart held peer answer (option_map bytes_in result) was old new
+part_given bytes_in held peer answer was from lock config' frames frames' old new None same_lock same_config same_frames place next text = tt
+part_given bytes_in held peer answer was from lock config' frames frames' old new (Some bytes) same_lock same_config same_frames place next text = λ none.
+    let part = next none in
+    let by_lock = subst (λ (l : Option Lock). IsEncodingFor l config' peer from frames' (bytes_in bytes)) same_lock text in
+    let by_config = subst (λ (k : Settings). IsEncodingFor was.lock k peer from frames' (bytes_in bytes)) same_config by_lock in
+    let of_frames = subst (λ (fs : List Frame). IsEncodingFor was.lock held.config peer from fs (bytes_in bytes)) (same_frames ∙ part.1) by_config in
+    (part.0, part.2, subst (λ (f : Option Sequence). IsEncodingFor was.lock held.config peer f (part.0 ∷ []) (bytes_in bytes)) place of_frames)
+
+-- the next part goes to a peer, whose transfer is one of all
+pub part_among : (held : InstanceState) (transfers : List StateTransfer) (peer : ℕ) (old new : StateTransfer) (frame : Frame) → peer < length transfers → old ≡ get_or transfers peer old →
+    IsNextPart held (Some old) frame (Some new) → IsNextPart held (slice_get transfers peer) frame (slice_get (set transfers peer new) peer)
+part_among held transfers peer old new frame within is next =
+    let was = slice_get_read transfers (length transfers) peer old refl within is in
+    let there : peer < length (set transfers peer new) = subst (λ n. peer < n) (sym (length-set transfers peer new)) within in
+    let now = slice_get_read (set transfers peer new) (length (set transfers peer new)) peer new refl there (sym (get_or-set_same transfers peer new new within)) in
+    subst (λ (o : Option StateTransfer). IsNextPart held o frame (slice_get (set transfers peer new) peer)) (sym was)
+    (subst (λ (n : Option StateTransfer). IsNextPart held (Some old) frame n) (sym now) next)
+
+-- a frame alone, where it could be added
+pub frame_alone : {T E : Type 0} (r : Result T E) (none new : List Frame) (frame : Frame) → is_err r ≡ false → none ≡ [] → new ≡ (if is_ok r then none ++ frame ∷ [] else none) → new ≡ frame ∷ []
+frame_alone (Ok t) none new frame e empty is = is ∙ ap (λ (frames : List Frame). frames ++ frame ∷ []) empty
+frame_alone (Err e) none new frame err empty is = cc

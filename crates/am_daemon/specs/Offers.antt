@@ -1,13 +1,19 @@
 -- What a member gives for its peers: the frames that wait for each, and then parts of all that is held.
-use Rattle.std.specs.Prelude.{◌≡◌, ◌⊎◌, ℕ, ◌+◌, Bool, true, false, if◌then◌else◌, nat_le, List, [], ◌∷◌, ◌++◌, length, take, map, slice_set, slice_index_or, Option, Some, None, is_some}
+use Rattle.std.specs.Prelude.{◌≡◌, ◌⊎◌, ℕ, ◌+◌, Bool, true, false, if◌then◌else◌, nat_le, List, [], ◌∷◌, ◌++◌, length, take, map, slice_set, slice_index_or, Option, Some, None, is_some, ⊤}
 use Rattle.std.specs.List.{flat_map}
 use Rattle.std.specs.declared.net.SocketAddr.{SocketAddr}
 use Rattle.am_gossip.specs.Frames.{frame_encoding}
 use Rattle.am_gossip.specs.declared.frame.Frame.{Frame}
 use Rattle.am_instance.specs.Configs.{Settings}
+use Rattle.am_instance.specs.Handings.{IsHandedOut}
+use Rattle.am_instance.specs.InstanceStates.{InstanceState}
 use Rattle.am_instance.specs.Sendings.{Sent, capped}
+use Rattle.am_instance.specs.declared.handing.HandedPart.{HandedPart}
+use Rattle.am_instance.specs.declared.handing.Handout.{Handout}
 use Rattle.am_peer_auth.specs.declared.seal.Lock.{Lock}
 use Rattle.am_peer_auth.specs.declared.sequence.Sequence.{Sequence}
+use Rattle.am_server.specs.Transfers.{behind_part, left_in, part_frame, with_none_left}
+use Rattle.am_server.specs.declared.state_transfer.StateTransfer.{StateTransfer}
 use Rattle.am_backend.specs.Outbound.{AreGone, IsTaken, IsEncodingFor, left_out}
 use Rattle.am_daemon.specs.declared.member.pending_frames.PendingFrames.{PendingFrames}
 use Rattle.am_daemon.specs.declared.member.server_state.ServerState.{ServerState}
@@ -147,3 +153,22 @@ IsGiven config peer answer (Some bytes) old new = (frames : List Frame) × AreNe
     × IsEncodingFor old.lock config peer (place_in answer (put_by_for old peer).number) frames bytes
     × OnlyCounts (with_put_by peer (gone_on (length frames) (put_by_for old peer)) old) new
 IsGiven config peer answer None old new = (queue : Sent) × AreLost (put_by_for old peer).frames old.queue queue × (new ≡ record (with_put_by peer nothing_put_by old) { queue = queue })
+
+-- ---- all that is held, part by part
+
+-- the most bytes in a part, unless a single version has more
+abbrev pub most_of_part : ℕ
+most_of_part = 1048576
+
+-- The frame is the next part of all that is held, from where the peer's transfer is, and the transfer goes on behind it.
+abbrev pub IsNextPart : InstanceState → Option StateTransfer → Frame → Option StateTransfer → Type 0
+IsNextPart held (Some old) frame (Some new) =
+    (left : Handout) × (handed : HandedPart) × (left_in old ≡ Some left) × IsHandedOut most_of_part held.silences held.log left handed
+    × (frame ≡ part_frame (with_none_left old) handed.state handed.next) × (new ≡ behind_part (with_none_left old) handed.next)
+IsNextPart held _ frame _ = ⊥
+
+-- If nothing is put by for a peer, the bytes that its link is given are those of the next part of all that is held.
+abbrev pub GivesPart : InstanceState → ℕ → List ℕ → Option (List ℕ) → ForPeers → Option StateTransfer → Option StateTransfer → Type 0
+GivesPart held peer answer None was old new = ⊤
+GivesPart held peer answer (Some bytes) was old new = (put_by_for was peer).frames ≡ [] →
+    (part : Frame) × IsNextPart held old part new × IsEncodingFor was.lock held.config peer (place_in answer (put_by_for was peer).number) (part ∷ []) bytes

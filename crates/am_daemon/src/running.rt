@@ -1,13 +1,13 @@
 //! A running member: its instance, and the server that acts on it.
 
-ghost use Rattle.std.specs.Prelude.{◌≡◌, ⊤};
+ghost use Rattle.std.specs.Prelude.{◌≡◌, ⊤, slice_get};
 ghost use Rattle.am_backend.specs.CommitStates.{disk_of, uncommitted as uncommitted_in};
 ghost use Rattle.am_server.specs.Answered.{ByItself};
 ghost use Rattle.am_server.specs.Talks.{pending_in, talk_of};
 ghost use Rattle.am_http.specs.Sessions.{name_of, over as ended_under};
 ghost use Rattle.am_server.specs.Talking.{Does, fresh_talk};
 ghost use Rattle.am_daemon.specs.Members.{IsSameMember};
-ghost use Rattle.am_daemon.specs.Offers.{IsGiven, IsLost, IsOffered, for_peers};
+ghost use Rattle.am_daemon.specs.Offers.{GivesPart, IsGiven, IsLost, IsOffered, for_peers};
 ghost use Rattle.am_daemon.specs.Sending.{ActsForPeers, PassesOn, outlets};
 
 use crate::member::server::Server;
@@ -49,7 +49,9 @@ impl<U: Backend> Service for Member<'_, U> {
         × IsLost peer (for_peers U.outbound U.sealed_by member.server.state) (for_peers U.outbound U.sealed_by member'.server.state) };
 
     ghost gives = { λ member peer answer bytes member'. IsSameMember member member'
-        × IsGiven member.instance.config peer answer bytes (for_peers U.outbound U.sealed_by member.server.state) (for_peers U.outbound U.sealed_by member'.server.state) };
+        × (IsGiven member.instance.config peer answer bytes (for_peers U.outbound U.sealed_by member.server.state) (for_peers U.outbound U.sealed_by member'.server.state)
+        × GivesPart member.instance peer answer bytes (for_peers U.outbound U.sealed_by member.server.state)
+        (slice_get member.server.state.transfers.items peer) (slice_get member'.server.state.transfers.items peer)) };
 
     ghost answers = { λ member _ _ member'. IsSameMember member member'
         × (for_peers U.outbound U.sealed_by member'.server.state ≡ for_peers U.outbound U.sealed_by member.server.state) };

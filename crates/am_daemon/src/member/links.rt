@@ -1,10 +1,10 @@
 //! The addresses at which peers listen, and the state that a member hands to them: part by part, each made after the one before
 //! it went out.
 
-ghost use Rattle.std.specs.Prelude.{◌≡◌, ◌∷◌, IfSome, MatchOption, None, Some, [], true, slice_index_or};
+ghost use Rattle.std.specs.Prelude.{◌≡◌, ◌∷◌, IfSome, MatchOption, None, Some, [], true, slice_get, slice_index_or};
 ghost use Rattle.std.specs.Option.{option_map};
 ghost use Rattle.am_gossip.specs.declared.frame.Frame.{Frame};
-ghost use Rattle.am_daemon.specs.Offers.{AreGiven, AreKeptBack, AreLost, AreNext, IsGiven, IsPutBy, OpensLink, for_peers, nothing_put_by, put_by_for, with_put_by};
+ghost use Rattle.am_daemon.specs.Offers.{AreGiven, AreKeptBack, AreLost, AreNext, GivesPart, IsGiven, IsNextPart, IsPutBy, OpensLink, for_peers, nothing_put_by, put_by_for, with_put_by};
 
 use super::pending_frames::Dropped;
 use super::server_state::ServerState;
@@ -62,14 +62,14 @@ pub fn link_to(alloc: Global, peer: usize) -> PeerBytes
 /// Returns the next part for a peer, as a frame.
 fn part_for<U: Backend>(
     backend: &mut U,
-    transfers: &mut [StateTransfer],
+    transfer: &mut StateTransfer,
     instance: &Instance,
     peer: usize,
 ) -> Option<Frame>
+    ensures part { IfSome result (λ frame. IsNextPart instance.now (Some transfer.old) frame (Some transfer.new)) }
     ensures outbound { U.outbound backend.new ≡ U.outbound backend.old }
     ensures lock { U.sealed_by backend.new ≡ U.sealed_by backend.old }
 {
-    let transfer = transfers.get_mut(peer)?;
     let left = transfer.take_left()?;
     match instance.hand_out(left, MOST_OF_PART) {
         Ok(part) => {
@@ -162,10 +162,12 @@ impl<U: Backend> ServerState<'_, U> {
 
     /// Returns the next part of all that is held, as the one frame that goes to a peer.
     fn next_part(&mut self, instance: &Instance, peer: usize) -> Option<Vec<Frame>>
-        ensures part { IfSome result (λ frames. (part : Frame) × (frames.items ≡ part ∷ [])) }
+        ensures part { IfSome result (λ frames. (part : Frame) × (frames.items ≡ part ∷ [])
+            × IsNextPart instance.now (slice_get self.old.transfers.items peer) part (slice_get self.new.transfers.items peer)) }
         ensures same { for_peers U.outbound U.sealed_by self.new ≡ for_peers U.outbound U.sealed_by self.old }
     {
-        let part = part_for(&mut self.backend, &mut self.transfers, instance, peer)?;
+        let transfer = self.transfers.get_mut(peer)?;
+        let part = part_for(&mut self.backend, transfer, instance, peer)?;
         let mut frames = Vec::new(self.alloc);
         if frames.push(part).is_err() {
             let place = Some(peer as Place);
@@ -184,6 +186,8 @@ impl<U: Backend> ServerState<'_, U> {
         put_by: Vec<Frame>,
     ) -> Option<Vec<Frame>>
         ensures next { MatchOption result (put_by.items ≡ []) (λ frames. AreNext put_by.items frames.items) }
+        ensures part { put_by.items ≡ [] → IfSome result (λ frames. (part : Frame) × (frames.items ≡ part ∷ [])
+            × IsNextPart instance.now (slice_get self.old.transfers.items peer) part (slice_get self.new.transfers.items peer)) }
         ensures same { for_peers U.outbound U.sealed_by self.new ≡ for_peers U.outbound U.sealed_by self.old }
     {
         if put_by.is_empty() {
@@ -201,9 +205,11 @@ impl<U: Backend> ServerState<'_, U> {
         peer: usize,
         answer: &[u8],
     ) -> Option<Vec<u8>>
-        ensures { let was = for_peers U.outbound U.sealed_by self.old in let is = for_peers U.outbound U.sealed_by self.new in
+        ensures given { let was = for_peers U.outbound U.sealed_by self.old in let is = for_peers U.outbound U.sealed_by self.new in
             MatchOption result ((is ≡ record (with_put_by peer (put_by_for is peer) was) { queue = is.queue }) × AreLost (put_by_for was peer).frames was.queue is.queue)
             (λ bytes. IsGiven instance.now.config peer answer.now (Some bytes.items) was is) }
+        ensures part { GivesPart instance.now peer answer.now (option_map (λ bytes. bytes.items) result) (for_peers U.outbound U.sealed_by self.old)
+            (slice_get self.old.transfers.items peer) (slice_get self.new.transfers.items peer) }
     {
         let pending = self.pending_frames.get_mut(peer)?;
         let from = pending.place(answer);
@@ -223,7 +229,9 @@ impl<U: Backend> ServerState<'_, U> {
         peer: usize,
         answer: &[u8],
     ) -> Option<Vec<u8>>
-        ensures { IsGiven instance.now.config peer answer.now (option_map (λ bytes. bytes.items) result) (for_peers U.outbound U.sealed_by self.old) (for_peers U.outbound U.sealed_by self.new) }
+        ensures given { IsGiven instance.now.config peer answer.now (option_map (λ bytes. bytes.items) result) (for_peers U.outbound U.sealed_by self.old) (for_peers U.outbound U.sealed_by self.new) }
+        ensures part { GivesPart instance.now peer answer.now (option_map (λ bytes. bytes.items) result) (for_peers U.outbound U.sealed_by self.old)
+            (slice_get self.old.transfers.items peer) (slice_get self.new.transfers.items peer) }
     {
         match self.encoding_behind(instance, peer, answer) {
             Some(text) => Some(text),

@@ -1,6 +1,6 @@
 //! The work that a member does for the loop that serves it.
 
-ghost use Rattle.std.specs.Prelude.{◌≡◌, ◌⊎◌, false, true, IfNone, IfSome};
+ghost use Rattle.std.specs.Prelude.{◌≡◌, ◌⊎◌, false, true, IfNone, IfSome, slice_get};
 ghost use Rattle.std.specs.Option.{option_map};
 ghost use Rattle.am_http.specs.Sessions.{SaysEnd, Spoken, name_of, over as ended_under};
 ghost use Rattle.am_server.specs.Answered.{ByItself, ForPages, IsAnswered};
@@ -8,7 +8,7 @@ ghost use Rattle.am_server.specs.Talking.{IsLetIn, IsScreened, IsTakenUp, fresh_
 ghost use Rattle.am_server.specs.Talks.{IsGivenOn, IsReleased, Lasts, talk_of};
 ghost use Rattle.am_backend.specs.CommitStates.{disk_of, kept, uncommitted as uncommitted_in};
 ghost use Rattle.am_backend.specs.Stores.{IsKept};
-ghost use Rattle.am_daemon.specs.Offers.{IsAtRest, IsGiven, IsLost, IsOffered, OnlyCounts, for_peers};
+ghost use Rattle.am_daemon.specs.Offers.{GivesPart, IsAtRest, IsGiven, IsLost, IsOffered, OnlyCounts, for_peers};
 ghost use Rattle.am_daemon.specs.Sending.{IsWoken, PassesOn, outlets};
 
 use super::counting::{count_broken, count_where_done};
@@ -203,8 +203,11 @@ impl<U: Backend> Server<'_, U> {
     pub fn more(&mut self, instance: &Instance, peer: usize, answer: &[u8]) -> Option<Vec<u8>>
         requires { uncommitted_in (U.store_of self.old.state.backend).commit_state ≡ false }
         // PROMISE: What a link is given once its peer has answered is the text of just the frames that were put by for that peer, in order, each once, or else of one part of all that is held, sealed, if it is, for their places in the connection; if there is no memory for it, these frames are counted as not sent.
-        ensures { IsGiven instance.now.config peer answer.now (option_map (λ bytes. bytes.items) result)
+        ensures given { IsGiven instance.now.config peer answer.now (option_map (λ bytes. bytes.items) result)
             (for_peers U.outbound U.sealed_by self.old.state) (for_peers U.outbound U.sealed_by self.new.state) }
+        // PROMISE: If nothing is put by for a peer that has answered, its link is given the next part of all that is held, from where its transfer is, and the transfer goes on behind it.
+        ensures part { GivesPart instance.now peer answer.now (option_map (λ bytes. bytes.items) result) (for_peers U.outbound U.sealed_by self.old.state)
+            (slice_get self.old.state.transfers.items peer) (slice_get self.new.state.transfers.items peer) }
     {
         self.state.backend.count_all_out(peer);
         self.state.next_encoding(instance, peer, answer)
