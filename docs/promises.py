@@ -86,7 +86,7 @@ A silence that is posted to a member meets these clauses, in this order. `am_dae
 5. `am_reactor::run`, peered: just what is given for a peer leaves over the link to it, in order, each byte once, or is told lost.
 6. At the other end a frame is fed, passes and is heard as a request is (steps 1 to 3 above; `am_gossip::Feeder::feed`), and is one step (step 5), of the place of its sender.
 
-Which part of all that is held is next, no clause says, nor that a call for a connection leaves what is put by for peers, and that frames are dropped only where too many bytes are put by or memory ran out: one reads it in am_daemon. The loop's clauses have what is given for a peer, and what waits on, but not when nothing is given: rested is one of the server's call.
+`am_daemon::Server::more`, part: where nothing is put by, that part is the one from where the peer's transfer is, and the transfer goes on behind it. No clause says when a transfer begins, that a call for a connection leaves what is put by for peers, or that frames are dropped only where too many bytes are put by or memory ran out: one reads it in am_daemon. The loop's clauses have what is given for a peer, and what waits on, but not when nothing is given: rested is one of the server's call.
 """
 
 TAIL = """## Only tested
