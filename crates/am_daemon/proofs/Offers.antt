@@ -70,7 +70,7 @@ kept_waits None peer frames old new counted = ap (λ (held : ForPeers). held.que
 kept_waits (Some lock) peer frames old new (inl same) = ap (λ (held : ForPeers). held.queue.frames) same
 kept_waits (Some lock) peer frames old new (inr put) = ap (λ (held : ForPeers). held.queue.frames) put.1
 
-handed_waits : (place : ℕ) (frames : List Frame) (old new : ForPeers) → AreHandedOn place frames old new → new.queue.frames ≡ old.queue.frames
+pub handed_waits : (place : ℕ) (frames : List Frame) (old new : ForPeers) → AreHandedOn place frames old new → new.queue.frames ≡ old.queue.frames
 handed_waits place frames old new (inl told) = ap (λ (held : ForPeers). held.queue.frames) told.1
 handed_waits place frames old new (inr kept) = kept_waits old.lock place frames old new kept.1
 

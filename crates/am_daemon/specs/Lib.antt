@@ -1,4 +1,5 @@
 pub mod Calling
+pub mod Histories
 pub mod Members
 pub mod Offers
 pub mod Sending
