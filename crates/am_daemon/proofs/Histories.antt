@@ -1,5 +1,5 @@
 -- Where the frames come from that wait for peers, over all calls of a member.
-use Rattle.std.proofs.Common.{◌≡◌, ◌⊎◌, ℕ, Bool, true, false, List, [], ◌∷◌, ◌++◌, Contains, Option, None, Some, Result, Ok, Err, ap, arith, inl, inr, subst, sym, ⊎_elim}
+use Rattle.std.proofs.Common.{◌≡◌, ◌⊎◌, ℕ, Bool, true, false, List, [], ◌∷◌, Contains, Option, None, Some, Result, Ok, Err, ap, arith, inl, inr, subst, ⊎_elim}
 use Rattle.std.proofs.lemmas.List.Elements.{All-contains, All-contains_itself, All-filter, Contains-append_cases}
 use Rattle.std.specs.Prelude.{◌==◌, if◌then◌else◌, not}
 use Rattle.am_backend.specs.CommitStates.{disk_of}
@@ -18,7 +18,7 @@ use Rattle.am_reactor.specs.Deeds.{Deed}
 use Rattle.am_reactor.specs.declared.fault.LinkFault.{LinkFault}
 use Rattle.am_reactor.specs.declared.service.Service.{Ghosts as Service}
 use Rattle.am_daemon.specs.Histories.{AreCalls, IsAnyCall, IsSentBetween, IsSentIn}
-use Rattle.am_daemon.specs.Offers.{AreGiven, AreLost, ForPeers, GivesFrames, IsAtRest, IsGiven, IsLost, IsOffered, IsPutBy, OnlyCounts, OpensLink, Passes, PassesAll, is_beside, nothing_put_by, put_by_for, with_put_by}
+use Rattle.am_daemon.specs.Offers.{AreGiven, AreLost, ForPeers, GivesFrames, IsAtRest, IsGiven, IsLost, IsOffered, Passes, PassesAll, is_beside, nothing_put_by, put_by_for, with_put_by}
 use Rattle.am_daemon.specs.Sending.{ActsForPeers, FrameIsSentOn, IsQuiet, IsWoken, MayTick, NoticeIsPassedOn, Outlets, PassesOn, SaidIsPassedOn}
 use Rattle.am_daemon.proofs.Offers.{handed_waits}
 

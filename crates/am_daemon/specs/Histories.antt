@@ -1,5 +1,5 @@
 -- The calls of a member, one after another, and the frames that their steps send.
-use Rattle.std.specs.Prelude.{◌≡◌, ◌⊎◌, ℕ, List, [], ◌∷◌, Option, Ok}
+use Rattle.std.specs.Prelude.{◌⊎◌, ℕ, List, [], ◌∷◌, Option, Ok}
 use Rattle.std.specs.List.{Contains}
 use Rattle.am_api_decisions.specs.Noticing.{IsNoticed}
 use Rattle.am_api_decisions.specs.declared.notice.Notice.{Notice}
