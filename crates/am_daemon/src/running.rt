@@ -49,9 +49,9 @@ impl<U: Backend> Service for Member<'_, U> {
         × IsLost peer (for_peers U.outbound U.sealed_by member.server.state) (for_peers U.outbound U.sealed_by member'.server.state) };
 
     ghost gives = { λ member peer answer bytes member'. IsSameMember member member'
-        × (IsGiven member.instance.config peer answer bytes (for_peers U.outbound U.sealed_by member.server.state) (for_peers U.outbound U.sealed_by member'.server.state)
+        × IsGiven member.instance.config peer answer bytes (for_peers U.outbound U.sealed_by member.server.state) (for_peers U.outbound U.sealed_by member'.server.state)
         × GivesPart member.instance peer answer bytes (for_peers U.outbound U.sealed_by member.server.state)
-        (slice_get member.server.state.transfers.items peer) (slice_get member'.server.state.transfers.items peer)) };
+        (slice_get member.server.state.transfers.items peer) (slice_get member'.server.state.transfers.items peer) };
 
     ghost answers = { λ member _ _ member'. IsSameMember member member'
         × (for_peers U.outbound U.sealed_by member'.server.state ≡ for_peers U.outbound U.sealed_by member.server.state) };
