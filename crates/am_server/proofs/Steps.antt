@@ -1,9 +1,8 @@
 -- Steps that are no turns of a connection.
-use Rattle.std.proofs.Common.{◌≡◌, inl, inr, ℕ, Bool, true, false, List, [], ◌∷◌, ◌++◌, map, Option, None, Some, Result, Ok, Err, refl, subst}
+use Rattle.std.proofs.Common.{◌≡◌, inl, inr, ℕ, Bool, true, false, List, [], ◌∷◌, ◌++◌, map, Result, Ok, Err, refl, subst}
 use Rattle.am_http.specs.Lines.{RefusalLine}
 use Rattle.am_http.specs.declared.refusal.Refusal.{Refusal}
 use Rattle.am_api_decisions.specs.declared.notice.Notice.{Notice}
-use Rattle.am_gossip.specs.declared.frame.Frame.{Frame}
 use Rattle.am_instance.specs.declared.event.Event.{Event}
 use Rattle.am_instance.specs.declared.event.Event.TheVariants as events
 use Rattle.am_instance.specs.declared.reply.Outcome.{Outcome}
@@ -22,8 +21,8 @@ use Rattle.am_api_decisions.specs.declared.group.Group.{Group}
 use Rattle.am_api_decisions.specs.declared.settling.Judgement.{Judgement}
 use Rattle.am_api_decisions.specs.declared.settling.Judgement.TheVariants.{Whole, Partial}
 use Rattle.am_api_decisions.specs.declared.timing.Timing.{Timing}
-use Rattle.am_member.specs.Lives.{IsOwnEvent, IsPagingEvent}
-use Rattle.am_server.specs.Answered.{AreStepsOf, ByItself, ForPages, IsStepOfFrame, MakesOnly}
+use Rattle.am_member.specs.Lives.{IsPagingEvent}
+use Rattle.am_server.specs.Answered.{AreStepsOf, ForPages, MakesOnly}
 
 -- none
 pub nothing_made : (Is : Event → Type 0) (old new : InstanceState) → new ≡ old → MakesOnly Is old new
@@ -41,11 +40,6 @@ steps_on Is old mid new (h ∷ hs) others made more = (made.0, made.1, steps_on 
 -- one after the other
 pub made_on : (Is : Event → Type 0) (old mid new : InstanceState) → MakesOnly Is old mid → MakesOnly Is mid new → MakesOnly Is old new
 made_on Is old mid new first then = record { steps = first.steps ++ then.steps; made = steps_on Is old mid new first.steps then.steps first.made then.made }
-
--- the step of a frame that came, if one did
-pub frame_made : (came : Option (ℕ × Frame)) (old new : InstanceState) → IsStepOfFrame came old new → ByItself old new
-frame_made None old new same = nothing_made IsOwnEvent old new same
-frame_made (Some came) old new step = one_made IsOwnEvent old new (events.Frame came.0 came.1) step.0 step.1 tt step.2
 
 -- alerts that were asked
 asked_made : (now : ℕ) (asked : List AskedAlert) (old new : InstanceState) → AreAsked now asked old new → ForPages old new

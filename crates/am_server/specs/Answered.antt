@@ -1,12 +1,8 @@
 -- The results of what a connection said, and of steps that are no turns of one.
-use Rattle.std.specs.Prelude.{◌≡◌, ◌⊎◌, ℕ, List, [], ◌∷◌, Option, None, Some, Result, ⊤}
+use Rattle.std.specs.Prelude.{◌≡◌, ◌⊎◌, ℕ, List, [], ◌∷◌, Option, None, Some, ⊤}
 use Rattle.am_api_silences.specs.declared.reply_builder.ReplyBuilder.{ReplyBuilder}
 use Rattle.am_http.specs.Sessions.{Spoken, name_of}
 use Rattle.am_instance.specs.declared.event.Event.{Event}
-use Rattle.am_gossip.specs.declared.frame.Frame.{Frame}
-use Rattle.am_instance.specs.declared.event.Event.TheVariants as events
-use Rattle.am_instance.specs.declared.reply.Outcome.{Outcome}
-use Rattle.am_gossip.specs.declared.refusals.StepError.{StepError}
 use Rattle.am_instance.specs.InstanceStates.{InstanceState}
 use Rattle.am_instance.specs.Laws.{Happened}
 use Rattle.am_instance.specs.OneStep.{IsStep}
@@ -34,11 +30,6 @@ pub record MakesOnly (IsSuch : Event → Type 0) (old new : InstanceState) : Typ
 -- No steps were made but those that a member makes by itself.
 abbrev pub ByItself : InstanceState → InstanceState → Type 0
 ByItself = MakesOnly IsOwnEvent
-
--- The step of the frame that came from the Alertmanager at a place was made, if one came, and nothing else.
-abbrev pub IsStepOfFrame : Option (ℕ × Frame) → InstanceState → InstanceState → Type 0
-IsStepOfFrame None old new = new ≡ old
-IsStepOfFrame (Some came) old new = (now : ℕ) × (answer : Result Outcome StepError) × IsStep old (events.Frame came.0 came.1) now answer new
 
 -- No steps were made but those for a program that sends pages.
 abbrev pub ForPages : InstanceState → InstanceState → Type 0
