@@ -172,7 +172,7 @@ def a_long_frame(folder):
     check("a frame with a wrong sum is refused", a.told_of("am_tool: Seal Sum", "p"), a.whole_lines)
     check("nobody waits for its sum", any(slow < max(0.1, 4 * plain) for slow, plain in waits), waits)
     a.send_sealed("p", text)
-    check("with a right sum it is read", a.told_of("am_tool: Seal Text", "p"), a.whole_lines)
+    check("with a right sum it is read", a.told_of("am_tool: Seal NotOneFrame", "p"), a.whole_lines)
     stop(a, open_)
 
 
@@ -283,7 +283,7 @@ def other_names(folder):
         a.answer("b", of_half)
         check("a sum of which half is right", eventually(lambda: "am_tool: Seal Sum" in a.lines[before:]), a.lines)
     a.send_sealed("b", TICK + TICK)
-    check("two frames behind one sum", a.told("am_tool: Seal Text"), a.lines)
+    check("two frames behind one sum", a.told("am_tool: Seal NotOneFrame"), a.lines)
     a.answer("b", lambda challenge: [sealed(SECRET, challenge, 0, "b", "a", TICK)[:36]])
     check("a frame that is cut", a.told("am_tool: Seal Cut"), a.lines)
     a.answer("b", lambda challenge: [bytes(32) + b"\xff" * 4])

@@ -11,9 +11,9 @@ use Rattle.am_wire.specs.declared.reader.RowPosition.{RowPosition}
 use Rattle.am_alertmanager.specs.Reading.{IsReadFrom}
 
 module _ {K X : Type 0} (reads : ℕ → List ℕ → Result X WireError) (seen : X → Version K) (cmp : K → K → Ordering)
-    (start now : Option (List ℕ)) (standing : RowPosition) where
-  pub as_read : (bytes : List ℕ) (versions map : List X) → ReadsSoFar reads most start now standing bytes versions
-      → IsMap seen cmp map → ((key : K) → IsBestAt seen versions key (at seen cmp map key)) → IsReadFrom reads seen cmp start now standing map
+    (start now : Option (List ℕ)) (position : RowPosition) where
+  pub as_read : (bytes : List ℕ) (versions map : List X) → ReadsSoFar reads most start now position bytes versions
+      → IsMap seen cmp map → ((key : K) → IsBestAt seen versions key (at seen cmp map key)) → IsReadFrom reads seen cmp start now position map
   as_read bytes versions map read order best = record {
     bytes = bytes;
     versions = versions;
@@ -25,5 +25,5 @@ module _ {K X : Type 0} (reads : ℕ → List ℕ → Result X WireError) (seen 
     best = best;
   }
 
-  pub read_so_far : (map : List X) → (from : IsReadFrom reads seen cmp start now standing map) → ReadsSoFar reads most start now standing from.bytes from.versions
+  pub read_so_far : (map : List X) → (from : IsReadFrom reads seen cmp start now position map) → ReadsSoFar reads most start now position from.bytes from.versions
   read_so_far map from = record { consumed = from.consumed; read = record { reads_on = from.goes_on }; stands = from.stands; small = from.small }

@@ -1,12 +1,12 @@
 -- The row of versions that pass a test, version by version, and the tally of them.
-use Rattle.std.proofs.Common.{◌≡◌, ℕ, ◌+◌, ◌^◌, ◌<◌, Bool, true, false, List, [], ◌∷◌, ◌++◌, length, Some, None, Result, Ok, Err, OnErr, refl, sym, ap, subst, ◌∙◌, append-nil, append_assoc, length-append, arith}
+use Rattle.std.proofs.Common.{◌≡◌, ℕ, ◌+◌, ◌^◌, ◌<◌, Bool, true, false, List, [], ◌∷◌, ◌++◌, length, Result, Ok, Err, OnErr, refl, sym, ap, subst, ◌∙◌, append-nil, append_assoc, length-append, arith}
 use Rattle.std.proofs.lemmas.Grind.{flat_map-append}
 use Rattle.am_version_order.specs.Versions.{Version}
 use Rattle.am_wire.specs.Writing.{delimited}
 use Rattle.am_snapshot.specs.Encodings.{row_encoding}
 use Rattle.am_alertmanager.specs.declared.tally.Tally.{Tally}
 use Rattle.am_alertmanager.specs.declared.tally.Withheld.{Withheld}
-use Rattle.am_alertmanager.specs.VersionFilters.{IsSifted, IsTallied, Tallies, AreChosen, AreNoted}
+use Rattle.am_alertmanager.specs.VersionFilters.{IsTallied, Tallies, AreChosen, AreNoted}
 use Rattle.am_alertmanager.specs.VersionFilters.AreChosen.{nothing, chosen, left_out}
 use Rattle.am_alertmanager.specs.VersionFilters.AreNoted.{nobody, noted}
 
@@ -115,15 +115,6 @@ module _ {K X : Type 0} (passes : X → Bool → Type 0) (withholds : X → List
       tallies = tallies_left_out so_far.looked so_far.some v old mid new fails notes same so_far.tallies;
       text = so_far.text;
     }
-
-    pub sifting_stops : (all : List X) (v : X) (left : List X) (row : List ℕ) (old new : Tally K) → IsSifting all (v ∷ left) row old new
-        → IsSifted seen passes withholds all old new (record { row = row; next = Some (seen v).key })
-    sifting_stops all v left row old new so_far =
-        record { looked = so_far.looked; left = v ∷ left; parts = so_far.parts; chosen = so_far.some; tallies = so_far.tallies; row = so_far.text; next = refl }
-
-    pub sifting_ends : (all : List X) (row : List ℕ) (old new : Tally K) → IsSifting all [] row old new → IsSifted seen passes withholds all old new (record { row = row; next = None })
-    sifting_ends all row old new so_far =
-        record { looked = so_far.looked; left = []; parts = so_far.parts; chosen = so_far.some; tallies = so_far.tallies; row = so_far.text; next = refl }
 
     -- what was looked at so far is tallied
     pub tallied_so_far : (all left : List X) (row : List ℕ) (old new : Tally K) → IsSifting all left row old new → IsTallied passes withholds all old new

@@ -1,8 +1,8 @@
 -- The replicas that were heard, by rounds.
 use Rattle.std.specs.Prelude.{ℕ, Bool, true, false, Option, Some, None, nat_le, is_none, ◌&&◌, ◌||◌}
 use Rattle.am_alertmanager.specs.declared.replica.Replica.{Replica}
-use Rattle.am_alertmanager.specs.declared.replica.Way.{Way}
-use Rattle.am_alertmanager.specs.declared.replica.Way.TheVariants.{Asked, Nothing, Told}
+use Rattle.am_alertmanager.specs.declared.replica.ExchangeState.{ExchangeState}
+use Rattle.am_alertmanager.specs.declared.replica.ExchangeState.TheVariants.{Idle, Pulling, Pushing}
 use Rattle.am_alertmanager.specs.declared.rounds.Rounds.{Rounds}
 
 -- an exchange with the replica at a place that began in a round or later is over, or no replica is there
@@ -19,11 +19,11 @@ abbrev pub lost_all : Rounds → Rounds
 lost_all rounds = record rounds { over = rounds.begun }
 
 -- the replica isn't just being asked
-abbrev pub is_unasked : Way → Bool
-is_unasked Asked = false
-is_unasked Nothing = true
-is_unasked Told = true
+abbrev pub is_unasked : ExchangeState → Bool
+is_unasked Pulling = false
+is_unasked Idle = true
+is_unasked Pushing = true
 
 -- true if a replica is to be asked after it was wanted: it is, unless it is just being asked or has answered
 abbrev pub is_due_then : Replica → Bool
-is_due_then replica = replica.is_due || (is_unasked replica.way && is_none replica.answer)
+is_due_then replica = replica.is_due || (is_unasked replica.exchange && is_none replica.answer)

@@ -18,12 +18,12 @@ IsGreatest {K} {X} seen set key found = MatchOption found ((v : X) → Contains 
 -- The bytes that were read since the start are a row of versions, whatever follows; the reader is at its end, and at each key
 -- the map holds the greatest of these versions.
 pub record IsReadFrom {K X : Type 0} (reads : ℕ → List ℕ → Result X WireError) (seen : X → Version K) (cmp : K → K → Ordering)
-    (start now : Option (List ℕ)) (standing : RowPosition) (map_read : List X) : Type 0 where
+    (start now : Option (List ℕ)) (position : RowPosition) (map_read : List X) : Type 0 where
   pub bytes : List ℕ
   pub versions : List X
   pub consumed : Consumes start now bytes
   pub goes_on : (others : List ℕ) → messages_of reads (bytes ++ others) ≡ map sound versions ++ messages_from reads (length bytes) others
-  pub stands : standing ≡ Before (length bytes) most
+  pub stands : position ≡ Before (length bytes) most
   pub small : length bytes ≤ most
   pub order : IsMap seen cmp map_read
   pub best : (key : K) → IsGreatest seen versions key (at seen cmp map_read key)

@@ -58,4 +58,4 @@ entries_left whole search silences = (row_from whole search >>= there) >>= λ en
 abbrev pub rows_left : Telling → Result (List ℕ × List ℕ) AnswerError
 rows_left (tellings.Silences whole search) = silences_left whole.items search
 rows_left (tellings.Entries whole search silences) = entries_left whole.items search silences.items
-rows_left (tellings.Told told) = Ok (rows_seen told)
+rows_left (tellings.Found told) = Ok (rows_seen told)

@@ -27,7 +27,7 @@ pub use pending_versions::PendingVersions;
 pub use reading::{begin_row, read_some};
 pub use refused::{Refused, why_refused};
 pub use replicas::{Came, Replicas};
-pub use reports::Report;
+pub use reports::WithheldSilence;
 pub use sifting::sift;
 pub use tally::{Tally, Withheld};
 pub use told::{Telling, ToldRows};

@@ -17,18 +17,19 @@ const LINE_EVERY: u64 = 60;
 
 /// The exchange that is under way with a replica.
 #[derive(Clone, Copy, PartialEq, Eq)]
-enum Way {
-    Nothing,
+enum ExchangeState {
+    /// No exchange.
+    Idle,
     /// The replica is asked for all it holds.
-    Asked,
+    Pulling,
     /// The replica is told something.
-    Told,
+    Pushing,
 }
 
 /// One replica.
 #[derive(Drop)]
 pub struct Replica {
-    way: Way,
+    exchange: ExchangeState,
     /// True if the replica is to be asked for all it holds.
     is_due: bool,
     /// The replica's answer, which isn't looked at yet.
@@ -45,7 +46,7 @@ impl Replica {
     /// Returns a replica that is to be asked.
     pub fn new(alloc: Global) -> Replica {
         Replica {
-            way: Way::Nothing,
+            exchange: ExchangeState::Idle,
             is_due: true,
             answer: None,
             is_looked_at: false,
@@ -60,7 +61,7 @@ impl Replica {
     pub fn want(&mut self)
         ensures { self.new ≡ record (self.old) { is_due = is_due_then self.old } }
     {
-        self.is_due |= self.way != Way::Asked && self.answer.is_none();
+        self.is_due |= self.exchange != ExchangeState::Pulling && self.answer.is_none();
     }
 
     /// Returns whether an answer waits to be looked at.
@@ -146,44 +147,44 @@ impl Replica {
         round: u64,
     ) -> Result<Option<Vec<u8>>, AllocError>
         // PROMISE: While an exchange with an Alertmanager is under way, no other one begins.
-        ensures busy { self.old.way ≢ Way.Nothing → (result ≡ Ok None) × (self.new ≡ self.old) }
+        ensures busy { self.old.exchange ≢ ExchangeState.Idle → (result ≡ Ok None) × (self.new ≡ self.old) }
     {
-        if self.way != Way::Nothing {
+        if self.exchange != ExchangeState::Idle {
             return Ok(None);
         }
         if self.is_asked_next(round) {
             self.is_due = false;
             let request = request_encoding(alloc, &[])?;
-            self.way = Way::Asked;
+            self.exchange = ExchangeState::Pulling;
             self.rounds.begin(round);
             return Ok(Some(request));
         }
         let message = self.pending_versions.next_message(alloc, now)?;
         if message.is_some() {
-            self.way = Way::Told;
+            self.exchange = ExchangeState::Pushing;
         }
         Ok(message)
     }
 
     /// Takes the bytes that the replica answered. They are ignored if it was told something.
     pub fn answered(&mut self, answer: Vec<u8>)
-        ensures asked { self.old.way ≡ Way.Asked → self.new ≡ record (self.old) { way = Way.Nothing; answer = Some answer } }
-        ensures told { self.old.way ≢ Way.Asked → self.new ≡ record (self.old) { way = Way.Nothing } }
+        ensures asked { self.old.exchange ≡ ExchangeState.Pulling → self.new ≡ record (self.old) { exchange = ExchangeState.Idle; answer = Some answer } }
+        ensures told { self.old.exchange ≢ ExchangeState.Pulling → self.new ≡ record (self.old) { exchange = ExchangeState.Idle } }
     {
-        if self.way == Way::Asked {
+        if self.exchange == ExchangeState::Pulling {
             self.answer = Some(answer);
         }
-        self.way = Way::Nothing;
+        self.exchange = ExchangeState::Idle;
     }
 
     /// Records that what was asked of the replica, or told to it, is lost.
     pub fn lost(&mut self)
-        ensures asked { self.old.way ≡ Way.Asked → self.new ≡ record (self.old) { way = Way.Nothing; rounds = lost_all self.old.rounds } }
-        ensures told { self.old.way ≢ Way.Asked → self.new ≡ record (self.old) { way = Way.Nothing } }
+        ensures asked { self.old.exchange ≡ ExchangeState.Pulling → self.new ≡ record (self.old) { exchange = ExchangeState.Idle; rounds = lost_all self.old.rounds } }
+        ensures told { self.old.exchange ≢ ExchangeState.Pulling → self.new ≡ record (self.old) { exchange = ExchangeState.Idle } }
     {
-        if self.way == Way::Asked {
+        if self.exchange == ExchangeState::Pulling {
             self.rounds.lose();
         }
-        self.way = Way::Nothing;
+        self.exchange = ExchangeState::Idle;
     }
 }

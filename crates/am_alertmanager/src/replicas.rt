@@ -5,7 +5,7 @@ ghost use Rattle.std.specs.List.{list_all};
 ghost use Rattle.am_alertmanager.specs.Heard.{is_over_at};
 
 use crate::replica::Replica;
-use crate::reports::{Report, Reports};
+use crate::reports::{Reports, WithheldSilence};
 use crate::work::{AnswerWork, Stretch};
 use am_gossip::Frame;
 use am_memberlist::AnswerError;
@@ -123,7 +123,7 @@ impl Replicas {
     }
 
     /// Returns the next silence that isn't sent because of its hazard, and isn't reported yet, with the place of the replica.
-    pub fn next_report(&mut self) -> Option<Report> {
+    pub fn next_report(&mut self) -> Option<WithheldSilence> {
         for place in 0..self.replicas.len() {
             if let Some(replica) = replica_at(&mut self.replicas, place)
                 && let Some(withheld) = replica.pending_versions.next_withheld()

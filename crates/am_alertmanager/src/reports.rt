@@ -13,7 +13,7 @@ const MOST_TOLD: usize = 4_096;
 
 /// A silence that isn't sent to a replica.
 #[derive(Drop)]
-pub struct Report {
+pub struct WithheldSilence {
     /// The place of the replica.
     pub place: usize,
     pub id: Text,
@@ -53,7 +53,7 @@ impl Reports {
     }
 
     /// Returns the report of a silence that is withheld from the replica at a place.
-    pub fn report(&mut self, place: usize, withheld: Withheld<Text>) -> Report
+    pub fn report(&mut self, place: usize, withheld: Withheld<Text>) -> WithheldSilence
         ensures place { result.place ≡ place }
         ensures id { result.id ≡ withheld.key }
         ensures hazard { result.hazard ≡ withheld.hazard }
@@ -71,7 +71,7 @@ impl Reports {
         if is_first {
             self.keep(mark);
         }
-        Report {
+        WithheldSilence {
             place,
             id: key,
             hazard,

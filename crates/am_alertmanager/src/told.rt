@@ -24,7 +24,7 @@ pub enum Telling {
     /// The states of the replica, in which the log is searched for, and the row of the silences.
     Entries(Vec<u8>, RowSearch, Vec<u8>),
     /// Both rows are found.
-    Told(ToldRows),
+    Found(ToldRows),
 }
 
 /// Returns the states in an unpacked message.
@@ -83,7 +83,7 @@ fn entries_on(
         SearchStretch::Left(search) => Ok(Telling::Entries(states, search, silences)),
         SearchStretch::Found(row) => {
             let entries = there(row)?;
-            Ok(Telling::Told(ToldRows { silences, entries }))
+            Ok(Telling::Found(ToldRows { silences, entries }))
         }
     }
 }
@@ -118,7 +118,7 @@ impl Telling {
             Telling::Entries(states, search, silences) => {
                 entries_on(alloc, states, search, silences, most)
             }
-            Telling::Told(rows) => Ok(Telling::Told(rows)),
+            Telling::Found(rows) => Ok(Telling::Found(rows)),
         }
     }
 }

@@ -114,7 +114,7 @@ fn unpack_on(alloc: Global, answer: Answer) -> Result<Stretch, AnswerError> {
 /// Searches on for the rows of a message.
 fn search_on(alloc: Global, telling: Telling) -> Result<Stretch, AnswerError> {
     Ok(goes_on(match telling.resume(alloc, SEARCHED)? {
-        Telling::Told(rows) => AnswerWork::Silences(rows, AnswerState::new(alloc, StateKey::Sil)),
+        Telling::Found(rows) => AnswerWork::Silences(rows, AnswerState::new(alloc, StateKey::Sil)),
         telling => AnswerWork::Rows(telling),
     }))
 }

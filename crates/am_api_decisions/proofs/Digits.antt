@@ -131,9 +131,3 @@ pub within : (number place value : ℕ) → number < 16 ^ place → place < 16 �
 within number place value h lt low =
     let bound : 16 ^ place ≤ 16 ^ 15 = pow-le-pow_right {n = 16} (omega arith) {i = place} {j = 15} (omega arith) in
     omega arith
-
-pub one_within : (number place value : ℕ) → number < 16 ^ place → value < 16 → number * 16 + value < 16 ^ (place + 1)
-one_within number place value h low =
-    let wider : 16 ^ suc place ≡ 16 ^ place * 16 = pow-suc 16 place in
-    let same : place + 1 ≡ suc place = omega arith in
-    rw (same, wider) (omega arith)

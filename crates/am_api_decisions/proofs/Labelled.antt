@@ -18,10 +18,6 @@ behind_one : (done : List Label) (x : Label) (later : Option (List Label)) → l
 behind_one done x (Some xs) = ap Some (sym (append_assoc done (x ∷ []) xs))
 behind_one done x None = refl
 
-pub labels_behind_none : (later : Option (List Label)) → later ≡ labels_behind [] later
-labels_behind_none (Some xs) = refl
-labels_behind_none None = refl
-
 first_label : (e : Entry) (others : List Entry) (text : List ℕ) → as_str (view e.1) ≡ Some text
     → labels_of (members_view (e ∷ others)) ≡ option_map (λ xs. label_at e text ∷ xs) (labels_of (members_view others))
 first_label e others text h = rw h refl
@@ -31,14 +27,6 @@ pub one_label : (done : List Label) (left others : List Entry) (e : Entry) (text
 one_label done left others e text first h =
     ap (λ (es : List Entry). labels_behind done (labels_of (members_view es))) first
     ∙ ap (labels_behind done) (first_label e others text h) ∙ behind_one done (label_at e text) (labels_of (members_view others))
-
-first_no_label : (e : Entry) (others : List Entry) → as_str (view e.1) ≡ None → labels_of (members_view (e ∷ others)) ≡ None
-first_no_label e others h = rw h refl
-
-pub no_label : (done : List Label) (left others : List Entry) (e : Entry) → left ≡ e ∷ others → as_str (view e.1) ≡ None
-    → labels_behind done (labels_of (members_view left)) ≡ None
-no_label done left others e first h =
-    ap (λ (es : List Entry). labels_behind done (labels_of (members_view es))) first ∙ ap (labels_behind done) (first_no_label e others h)
 
 pub all_labels : (done : List Label) (left : List Entry) → left ≡ [] → labels_behind done (labels_of (members_view left)) ≡ Some done
 all_labels done left none = ap (λ (es : List Entry). labels_behind done (labels_of (members_view es))) none ∙ ap Some (append-nil done)

@@ -1,12 +1,11 @@
 -- Items of an array, one after the other.
-use Rattle.std.proofs.Common.{◌≡◌, ℕ, ◌+◌, ◌<◌, ◌≤◌, ◌==◌, not, List, [], ◌∷◌, ◌++◌, length, drop, get_or, Some, None, Ok, Err, Option, Result, refl, sym, ap, ◌∙◌, append-nil, append_assoc, option_map, arith}
+use Rattle.std.proofs.Common.{◌≡◌, ℕ, ◌+◌, ◌<◌, ◌≤◌, ◌==◌, not, List, [], ◌∷◌, ◌++◌, length, drop, get_or, Ok, Err, Option, Result, refl, sym, ap, ◌∙◌, append-nil, append_assoc, option_map, arith}
 use Rattle.std.proofs.lemmas.List.{drop_more, drop_all}
 use Rattle.serde_json.specs.Data.{Data}
 use Rattle.serde_json.specs.View.{view, items_view}
 use Rattle.serde_json.specs.declared.value.Value.{Value}
 use Rattle.am_api_decisions.specs.declared.key.MessageKey.{MessageKey}
 use Rattle.am_api_decisions.specs.Steps.{◌>>=◌, each}
-use Rattle.am_api_decisions.specs.Hashes.{hash_in, hashes_of}
 use Rattle.am_api_decisions.specs.Messages.{has_items}
 
 -- ---- items that are read, or have a fault
@@ -56,36 +55,3 @@ has_items_is (v ∷ vs) = grind arith
 
 abbrev pub hashes_behind : List ℕ → Option (List ℕ) → Option (List ℕ)
 hashes_behind done later = option_map (λ others. done ++ others) later
-
-hashes_behind_one : (done : List ℕ) (x : ℕ) (later : Option (List ℕ)) → hashes_behind done (option_map (λ xs. x ∷ xs) later) ≡ hashes_behind (done ++ x ∷ []) later
-hashes_behind_one done x (Some xs) = ap Some (sym (append_assoc done (x ∷ []) xs))
-hashes_behind_one done x None = refl
-
-pub hashes_behind_none : (later : Option (List ℕ)) → later ≡ hashes_behind [] later
-hashes_behind_none (Some xs) = refl
-hashes_behind_none None = refl
-
-next_value : (vs : List Value) (i : ℕ) (v : Value) → i < length vs → v ≡ get_or vs i v → drop i vs ≡ v ∷ drop (i + 1) vs
-next_value vs i v h is = drop_more vs i v h ∙ ap (λ (w : Value). w ∷ drop (i + 1) vs) (sym is)
-
-first_hash : (v : Value) (vs : List Value) (x : ℕ) → hash_in (view v) ≡ Some x → hashes_of (items_view (v ∷ vs)) ≡ option_map (λ xs. x ∷ xs) (hashes_of (items_view vs))
-first_hash v vs x e = rw e refl
-
-pub one_hash : (vs : List Value) (i : ℕ) (v : Value) (done : List ℕ) (x : ℕ) → i < length vs → v ≡ get_or vs i v → hash_in (view v) ≡ Some x
-    → hashes_behind done (hashes_of (items_view (drop i vs))) ≡ hashes_behind (done ++ x ∷ []) (hashes_of (items_view (drop (i + 1) vs)))
-one_hash vs i v done x h is e =
-    ap (λ (us : List Value). hashes_behind done (hashes_of (items_view us))) (next_value vs i v h is)
-    ∙ ap (hashes_behind done) (first_hash v (drop (i + 1) vs) x e) ∙ hashes_behind_one done x (hashes_of (items_view (drop (i + 1) vs)))
-
-first_no_hash : (v : Value) (vs : List Value) → hash_in (view v) ≡ None → hashes_of (items_view (v ∷ vs)) ≡ None
-first_no_hash v vs e = rw e refl
-
-pub no_hash : (vs : List Value) (i : ℕ) (v : Value) (done : List ℕ) → i < length vs → v ≡ get_or vs i v → hash_in (view v) ≡ None
-    → hashes_behind done (hashes_of (items_view (drop i vs))) ≡ None
-no_hash vs i v done h is e =
-    ap (λ (us : List Value). hashes_behind done (hashes_of (items_view us))) (next_value vs i v h is)
-    ∙ ap (hashes_behind done) (first_no_hash v (drop (i + 1) vs) e)
-
-pub all_hashes : (vs : List Value) (i : ℕ) (done : List ℕ) → length vs ≤ i → hashes_behind done (hashes_of (items_view (drop i vs))) ≡ Some done
-all_hashes vs i done h =
-    ap (λ (us : List Value). hashes_behind done (hashes_of (items_view us))) (drop_all i vs h) ∙ ap Some (append-nil done)

@@ -3,7 +3,6 @@ use Rattle.std.proofs.Common.{◌≡◌, ℕ, ◌≤◌, ◌⊎◌, inl, inr, Li
 use Rattle.am_api_decisions.specs.declared.message.Alert.{Alert}
 use Rattle.am_http.specs.Lines.{RefusalLine}
 use Rattle.am_instance.specs.InstanceStates.{InstanceState}
-use Rattle.am_api_silences.specs.Replies.{Says, line_bytes}
 use Rattle.am_api_silences.specs.declared.replies.ResponseBytes.{ResponseBytes}
 use Rattle.am_api_decisions.specs.Asking.{AskedAlert, Counted, IsAskedOn, IsStopped, StopsAt}
 use Rattle.am_api_decisions.specs.Deciding.{GoesOn, Underway}
@@ -25,11 +24,6 @@ decided_over timing count before after old mid new reply whole on settled =
       all = subst (λ (others : List Alert). IsAskedOn timing.now before.left before.counted old on.asked others after.counted mid) none on.on;
       settled = subst (λ (group : Group). IsSettled Whole timing group after.counted mid reply new) on.group settled;
     })
-
--- asking stopped, and why was told
-pub cut_off : (timing : Timing) (before : Underway) (old new : InstanceState) (line : RefusalLine) (reply : ResponseBytes) → IsStopped timing.now before.left old line new
-    → Says (λ bytes. bytes ≡ line_bytes line) reply → IsDecided timing before old reply new
-cut_off timing before old new line reply stopped says = inr (record { line = line; stopped = stopped; says = says })
 
 -- so many were asked, or all that were left
 pub gone_on : (now most count : ℕ) (before given after : Underway) (old new : InstanceState) (asked : List AskedAlert) (left : List Alert) → before ≡ given

@@ -4,13 +4,13 @@ use Rattle.serde_json.specs.Data.{Data}
 use Rattle.am_silence_json.specs.Posts.{IsObjectText}
 use Rattle.am_api_decisions.specs.Messages as messages
 use Rattle.am_api_decisions.specs.Notices as notices
-use Rattle.am_api_decisions.specs.declared.message.Message.{Message}
+use Rattle.am_api_decisions.specs.declared.message.WebhookMessage.{WebhookMessage}
 use Rattle.am_api_decisions.specs.declared.notice.Notice.{Notice}
 use Rattle.am_api_decisions.specs.declared.cause.DecisionCause.{DecisionCause}
 use Rattle.am_api_decisions.specs.declared.cause.DecisionCause.TheVariants.{BadJson, BadMessage, Memory, Truncated}
 
 -- The body is the text of a JSON object that is this message.
-abbrev pub IsMessageIn : List ℕ → Message → Type 0
+abbrev pub IsMessageIn : List ℕ → WebhookMessage → Type 0
 IsMessageIn body message = (d : Data) × IsObjectText body d × messages.IsMessage d message
 
 -- The body is the text of no object, or this is the first key of the object that is at fault, or else alerts were left out of the

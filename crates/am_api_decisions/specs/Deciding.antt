@@ -5,7 +5,7 @@ use Rattle.am_http.specs.Lines.{line_seen}
 use Rattle.am_http.specs.declared.refusal.Refusal.{Refusal}
 use Rattle.am_instance.specs.InstanceStates.{InstanceState}
 use Rattle.am_api_decisions.specs.Asking.{AskedAlert, Counted, IsAskedOn, IsStopped, nothing_counted}
-use Rattle.am_api_decisions.specs.declared.asked.Question.{Question}
+use Rattle.am_api_decisions.specs.declared.parsed_call.Question.{Question}
 use Rattle.am_api_decisions.specs.declared.group.Group.{Group}
 
 -- the group, the alerts that are still to be asked, and the tally of the others

@@ -12,7 +12,7 @@ pub mod Words
 pub mod Terms
 pub mod Bodies
 pub mod Lines
-pub mod Asked
+pub mod ParsedCalls
 pub mod Asking
 pub mod Deciding
 pub mod Settling

@@ -10,7 +10,7 @@ use Rattle.am_silence_json.specs.Posts.{text_in}
 use Rattle.am_api_decisions.specs.declared.key.MessageKey.{MessageKey}
 use Rattle.am_api_decisions.specs.declared.key.MessageKey.TheVariants as keys
 use Rattle.am_api_decisions.specs.declared.message.Alert.{Alert}
-use Rattle.am_api_decisions.specs.declared.message.Message.{Message}
+use Rattle.am_api_decisions.specs.declared.message.WebhookMessage.{WebhookMessage}
 use Rattle.am_api_decisions.specs.Found.{number_in}
 use Rattle.am_api_decisions.specs.Orders.{AreInOrder}
 use Rattle.am_api_decisions.specs.Steps.{◌>>=◌, each}
@@ -81,7 +81,7 @@ pub record Said : Type 0 where
   pub receiver : List ℕ
   pub alerts : List Alert
 
-abbrev pub said : Message → Said
+abbrev pub said : WebhookMessage → Said
 said m = record { group_key = m.group_key; receiver = m.receiver; alerts = m.alerts.items }
 
 -- the content of an object, or the key of its first fault
@@ -93,7 +93,7 @@ message_of d = do
   Ok (record { group_key = group_key; receiver = receiver; alerts = alerts })
 
 -- the object says this, whether or not alerts were left out
-abbrev pub Says : Data → Message → Type 0
+abbrev pub Says : Data → WebhookMessage → Type 0
 Says d m = message_of d ≡ Ok (said m)
 
 -- alerts were left out: `truncatedAlerts` is a whole number above 0
@@ -101,13 +101,13 @@ abbrev pub is_truncated : Data → Bool
 is_truncated d = nat_lt 0 (unwrap_or (number_in (codes "truncatedAlerts") d) 0)
 
 -- the object is this message, with all alerts
-pub record IsMessage (d : Data) (m : Message) : Type 0 where
+pub record IsMessage (d : Data) (m : WebhookMessage) : Type 0 where
   pub says : Says d m
   pub whole : is_truncated d ≡ false
 
 -- alerts were left out of the message, which has no other fault
 pub record IsTruncated (d : Data) : Type 0 where
-  pub message : Message
+  pub message : WebhookMessage
   pub says : Says d message
   pub truncated : is_truncated d ≡ true
 

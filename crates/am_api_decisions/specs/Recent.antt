@@ -5,7 +5,7 @@ use Rattle.std.specs.Str.{bytes_eq}
 use Rattle.serde_json.specs.Data.{Data}
 use Rattle.am_api_decisions.specs.Answers.{labels_data}
 use Rattle.am_api_decisions.specs.declared.message.Alert.{Alert}
-use Rattle.am_api_decisions.specs.declared.message.Message.{Message}
+use Rattle.am_api_decisions.specs.declared.message.WebhookMessage.{WebhookMessage}
 use Rattle.am_matcher.specs.declared.labels.Label.{Label}
 use Rattle.am_report.specs.Json.Views.{list_line}
 use Rattle.am_api_silences.specs.Replies.{good_bytes}
@@ -45,7 +45,7 @@ of_others group_key alerts = filter (is_of_another group_key) alerts
 
 -- the alerts that are kept once a message is asked about: those of its first 512, then those of other groups; 512 in all, the
 -- newest
-abbrev pub noted : List RecentAlert → Message → List RecentAlert
+abbrev pub noted : List RecentAlert → WebhookMessage → List RecentAlert
 noted alerts m = take 512 (kept_of m.group_key (take 512 m.alerts.items) ++ of_others m.group_key alerts)
 
 -- ---- the list

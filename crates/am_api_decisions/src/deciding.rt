@@ -8,9 +8,9 @@ ghost use Rattle.am_api_decisions.specs.Settling.{GivesReason, IsBrokenOff, IsDe
 
 use crate::alerts::ask;
 use crate::answer::Verdict;
-use crate::asked::Question;
 use crate::group::Group;
 use crate::message::Alert;
+use crate::parsed_call::Question;
 use crate::settling::{JudgedGroup, Judgement, settle};
 use crate::table;
 use crate::tally::Tally;

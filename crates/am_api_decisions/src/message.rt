@@ -31,7 +31,7 @@ pub struct Alert {
 
 /// A message of Alertmanager's webhook, version 4: the alerts of a group, and the receiver that they go to.
 #[derive(Drop)]
-pub struct Message {
+pub struct WebhookMessage {
     pub group_key: Text,
     pub receiver: Text,
     /// The alerts, at least one, in the message's order.
@@ -146,7 +146,7 @@ fn is_truncated(object: &Value) -> bool
 
 /// Reads the message that an object is, whether or not alerts were left out of it.
 #[tactic(auto, unfolding(crate::specs::Messages::message_of))]
-fn read_said(alloc: Global, object: &Value) -> Result<Message, MessageError>
+fn read_said(alloc: Global, object: &Value) -> Result<WebhookMessage, MessageError>
     ensures read { IfOk result (Says (view object.now)) }
     ensures in_order { IfOk result (λ m. All IsInOrder m.alerts.items) }
     ensures wrong { (key : MessageKey) → IsErrOf result (errors.BadMessage key) → IsFirstFault (view object.now) key }
@@ -162,7 +162,7 @@ fn read_said(alloc: Global, object: &Value) -> Result<Message, MessageError>
     let alerts = read_alerts(alloc, object)?;
     let group_key = Text::copied(alloc, group_key)?;
     let receiver = Text::copied(alloc, receiver)?;
-    Ok(Message {
+    Ok(WebhookMessage {
         group_key,
         receiver,
         alerts,
@@ -178,7 +178,7 @@ fn read_said(alloc: Global, object: &Value) -> Result<Message, MessageError>
 /// key that is missing or of another kind: `groupKey`, `receiver`, `alerts`, which has to be an array of objects, at least one,
 /// and then `labels` and `status` of each alert; then [`MessageError::Truncated`] if `truncatedAlerts` is a whole number above 0;
 /// [`MessageError::Memory`] if memory runs out.
-pub fn read_message(alloc: Global, body: &[u8]) -> Result<Message, MessageError>
+pub fn read_message(alloc: Global, body: &[u8]) -> Result<WebhookMessage, MessageError>
     // PROMISE: A webhook message is read as its object says, no alert left out.
     ensures message { IfOk result (λ m. (d : Data) × IsObjectText body.now d × IsMessage d m) }
     ensures in_order { IfOk result (λ m. All IsInOrder m.alerts.items) }

@@ -5,7 +5,7 @@ ghost use Rattle.am_api_decisions.specs.Bodies.{IsMessageFault, IsMessageIn, IsN
 
 use crate::cause::DecisionCause;
 use crate::error::MessageError;
-use crate::message::{Message, read_message};
+use crate::message::{WebhookMessage, read_message};
 use crate::notice::{Notice, read_notice};
 use std::alloc::Global;
 
@@ -14,7 +14,7 @@ use std::alloc::Global;
 /// # Errors
 ///
 /// [`DecisionCause::BadJson`], [`DecisionCause::BadMessage`] of the first key that is at fault, [`DecisionCause::Truncated`], or [`DecisionCause::Memory`].
-pub fn message_in(alloc: Global, body: &[u8]) -> Result<Message, DecisionCause>
+pub fn message_in(alloc: Global, body: &[u8]) -> Result<WebhookMessage, DecisionCause>
     ensures read { IfOk result (IsMessageIn body.now) }
     ensures refused { IfErr result (IsMessageFault body.now) }
 {

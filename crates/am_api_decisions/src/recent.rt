@@ -10,7 +10,7 @@ ghost use Rattle.am_api_silences.specs.Replies.{Says};
 ghost use Rattle.am_api_decisions.specs.Recent.{alert_data, alerts_bytes, is_kept, is_of_another, kept_of, label_size, noted, of_others};
 
 use crate::alerts::copied_labels;
-use crate::message::{Alert, Message};
+use crate::message::{Alert, WebhookMessage};
 use crate::replies::{good, short};
 use crate::writing::add_labels;
 use am_api_silences::ResponseBytes;
@@ -211,7 +211,7 @@ impl RecentAlerts {
     /// # Errors
     ///
     /// [`AllocError`] if memory runs out: then nothing is kept of the group.
-    pub fn note(&mut self, alloc: Global, message: &Message) -> Result<(), AllocError>
+    pub fn note(&mut self, alloc: Global, message: &WebhookMessage) -> Result<(), AllocError>
         // PROMISE: The alerts that fire in the last message of each group are kept in mind, 512 at most.
         ensures kept { OnOk result (self.new ≡ noted self.old message.now) }
         ensures forgotten { OnErr result (self.new ≡ of_others message.now.group_key self.old) }

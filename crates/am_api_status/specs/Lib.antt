@@ -1,3 +1,3 @@
 pub mod Calls
 pub mod Replies
-pub mod Standings
+pub mod Statuses

@@ -4,7 +4,7 @@ ghost use Rattle.std.specs.Prelude.{◌≡◌, ◌++◌, codes, length, IfOk, st
 ghost use Rattle.am_http.specs.Lines.{line, line_seen};
 ghost use Rattle.am_metrics.specs.Expositions.{exposition};
 ghost use Rattle.am_api_status.specs.Replies.{fields_of, head_bytes, told_bytes};
-ghost use Rattle.am_api_status.specs.declared.replies.Format.TheVariants as formats;
+ghost use Rattle.am_api_status.specs.declared.replies.BodyFormat.TheVariants as formats;
 
 use crate::page::{FIELDS, PAGE};
 use am_http::Refusal;
@@ -13,7 +13,7 @@ use std::alloc::{AllocError, Global};
 
 /// The format of a body.
 #[derive(Clone, Copy, PartialEq, Eq)]
-pub enum Format {
+pub enum BodyFormat {
     /// A text for people.
     Plain,
     /// The page for people.
@@ -23,22 +23,22 @@ pub enum Format {
     Exposition,
 }
 
-impl Format {
+impl BodyFormat {
     /// Returns the fields of the head that name the format.
     const fn fields(self) -> &'static str
         ensures { result.now ≡ fields_of self }
     {
         match self {
-            Format::Plain => "content-type: text/plain; charset=utf-8\r\n",
-            Format::Html => FIELDS,
-            Format::Json => "content-type: application/json\r\n",
-            Format::Exposition => "content-type: text/plain; version=0.0.4; charset=utf-8\r\n",
+            BodyFormat::Plain => "content-type: text/plain; charset=utf-8\r\n",
+            BodyFormat::Html => FIELDS,
+            BodyFormat::Json => "content-type: application/json\r\n",
+            BodyFormat::Exposition => "content-type: text/plain; version=0.0.4; charset=utf-8\r\n",
         }
     }
 }
 
 /// Returns the lines before a body of `count` bytes.
-fn head(alloc: Global, format: Format, count: usize) -> Result<String, AllocError>
+fn head(alloc: Global, format: BodyFormat, count: usize) -> Result<String, AllocError>
     ensures { IfOk result (λ s. string_bytes s ≡ head_bytes format count) }
 {
     let fields = format.fields();
@@ -54,7 +54,7 @@ fn head(alloc: Global, format: Format, count: usize) -> Result<String, AllocErro
 /// [`AllocError`] if memory runs out.
 pub fn tell(
     alloc: Global,
-    format: Format,
+    format: BodyFormat,
     body: &[u8],
     is_bare: bool,
 ) -> Result<Vec<u8>, AllocError>
@@ -77,7 +77,7 @@ pub fn tell(
 pub fn page_reply(alloc: Global, is_bare: bool) -> Result<Vec<u8>, AllocError>
     ensures { IfOk result (λ bytes. bytes.items ≡ told_bytes formats.Html is_bare PAGE.now) }
 {
-    tell(alloc, Format::Html, PAGE.as_bytes(), is_bare)
+    tell(alloc, BodyFormat::Html, PAGE.as_bytes(), is_bare)
 }
 
 /// Returns the reply that the member runs or, if that was asked, that it answers requests.
@@ -88,7 +88,7 @@ pub fn page_reply(alloc: Global, is_bare: bool) -> Result<Vec<u8>, AllocError>
 pub fn well_reply(alloc: Global, is_bare: bool) -> Result<Vec<u8>, AllocError>
     ensures { IfOk result (λ bytes. bytes.items ≡ told_bytes formats.Plain is_bare (codes "OK")) }
 {
-    tell(alloc, Format::Plain, b"OK", is_bare)
+    tell(alloc, BodyFormat::Plain, b"OK", is_bare)
 }
 
 /// Returns the line of the table saying that the member answers no requests now.
@@ -111,7 +111,7 @@ pub const fn not_ready(is_bare: bool) -> Refusal
 pub fn receivers_reply(alloc: Global, is_bare: bool) -> Result<Vec<u8>, AllocError>
     ensures { IfOk result (λ bytes. bytes.items ≡ told_bytes formats.Json is_bare (codes "[]")) }
 {
-    tell(alloc, Format::Json, b"[]", is_bare)
+    tell(alloc, BodyFormat::Json, b"[]", is_bare)
 }
 
 /// Returns the reply with a member's figures.
@@ -127,6 +127,6 @@ pub fn metrics_reply(
     ensures { IfOk result (λ bytes. bytes.items ≡ told_bytes formats.Exposition is_bare (exposition families.now)) }
 {
     let body = write_families(alloc, families)?;
-    let bytes = tell(alloc, Format::Exposition, &body, is_bare)?;
+    let bytes = tell(alloc, BodyFormat::Exposition, &body, is_bare)?;
     Ok(bytes)
 }

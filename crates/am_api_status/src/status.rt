@@ -8,10 +8,10 @@ ghost use Rattle.serde_json.specs.Written.{compact_text};
 ghost use Rattle.am_silence_json.specs.Tokens.{Adds, data_tokens, row_tokens};
 ghost use Rattle.am_silence_json.specs.Written.{WritesMoment};
 ghost use Rattle.am_api_status.specs.Replies.{told_bytes};
-ghost use Rattle.am_api_status.specs.Standings.{cluster_data, config_data, neighbor_data, peer_data, standing_data, status_word, versions_data};
-ghost use Rattle.am_api_status.specs.declared.replies.Format.TheVariants as formats;
+ghost use Rattle.am_api_status.specs.Statuses.{cluster_data, config_data, neighbor_data, peer_data, status_data, status_word, versions_data};
+ghost use Rattle.am_api_status.specs.declared.replies.BodyFormat.TheVariants as formats;
 
-use crate::replies::{Format, tell};
+use crate::replies::{BodyFormat, tell};
 use am_silence_json::moments::write_moment;
 use am_silence_json::tokens::{add, add_text};
 use am_version_order::Moment;
@@ -146,14 +146,14 @@ const fn status_word(is_ready: bool) -> &'static str
 }
 
 /// Adds the cluster's part of the status.
-fn add_cluster(out: &mut Writer, standing: &MemberStatus) -> Result<(), AllocError>
-    ensures { OnOk result (Adds out.old out.new (key (codes "cluster") ∷ data_tokens (cluster_data standing.now))) }
+fn add_cluster(out: &mut Writer, status: &MemberStatus) -> Result<(), AllocError>
+    ensures { OnOk result (Adds out.old out.new (key (codes "cluster") ∷ data_tokens (cluster_data status.now))) }
 {
     add(out, Token::Key("cluster"))?;
     add(out, Token::BeginObject)?;
-    add_text(out, "name", standing.name.as_str())?;
-    add_peers(out, standing.peers.as_slice())?;
-    add_text(out, "status", status_word(standing.is_ready))?;
+    add_text(out, "name", status.name.as_str())?;
+    add_peers(out, status.peers.as_slice())?;
+    add_text(out, "status", status_word(status.is_ready))?;
     add(out, Token::EndObject)?;
     Ok(())
 }
@@ -186,29 +186,25 @@ fn add_versions(out: &mut Writer, version: &str) -> Result<(), AllocError>
 }
 
 /// Adds a member's status; `start` is the text of the moment when it was started.
-fn add_standing(out: &mut Writer, standing: &MemberStatus, start: &str) -> Result<(), AllocError>
-    ensures { OnOk result (Adds out.old out.new (data_tokens (standing_data standing.now start.now))) }
+fn add_member_status(out: &mut Writer, status: &MemberStatus, start: &str) -> Result<(), AllocError>
+    ensures { OnOk result (Adds out.old out.new (data_tokens (status_data status.now start.now))) }
 {
     add(out, Token::BeginObject)?;
-    add_neighbors(out, standing.alertmanagers.as_slice())?;
-    add_cluster(out, standing)?;
-    add_config(out, standing.options.as_str())?;
+    add_neighbors(out, status.alertmanagers.as_slice())?;
+    add_cluster(out, status)?;
+    add_config(out, status.options.as_str())?;
     add_text(out, "uptime", start)?;
-    add_versions(out, standing.version)?;
+    add_versions(out, status.version)?;
     add(out, Token::EndObject)?;
     Ok(())
 }
 
 /// Returns a member's status in JSON; `start` is the text of the moment when it was started.
-fn write_standing(
-    alloc: Global,
-    standing: &MemberStatus,
-    start: &str,
-) -> Result<Vec<u8>, AllocError>
-    ensures { IfOk result (λ body. body.items ≡ compact_text (standing_data standing.now start.now)) }
+fn write_status(alloc: Global, status: &MemberStatus, start: &str) -> Result<Vec<u8>, AllocError>
+    ensures { IfOk result (λ body. body.items ≡ compact_text (status_data status.now start.now)) }
 {
     let mut writer = Writer::new(Vec::new(alloc));
-    add_standing(&mut writer, standing, start)?;
+    add_member_status(&mut writer, status, start)?;
     Ok(writer.into_inner())
 }
 
@@ -219,15 +215,15 @@ fn write_standing(
 /// [`AllocError`] if memory runs out.
 pub fn status_reply(
     alloc: Global,
-    standing: &MemberStatus,
+    status: &MemberStatus,
     is_bare: bool,
 ) -> Result<Vec<u8>, AllocError>
     // PROMISE: The status reply is the compact JSON of its value.
-    ensures { IfOk result (λ bytes. (start : List ℕ) × WritesMoment standing.now.start start
-        × (bytes.items ≡ told_bytes formats.Json is_bare (compact_text (standing_data standing.now start)))) }
+    ensures { IfOk result (λ bytes. (start : List ℕ) × WritesMoment status.now.start start
+        × (bytes.items ≡ told_bytes formats.Json is_bare (compact_text (status_data status.now start)))) }
 {
-    let start = write_moment(standing.start);
-    let body = write_standing(alloc, standing, start.as_str())?;
-    let bytes = tell(alloc, Format::Json, &body, is_bare)?;
+    let start = write_moment(status.start);
+    let body = write_status(alloc, status, start.as_str())?;
+    let bytes = tell(alloc, BodyFormat::Json, &body, is_bare)?;
     Ok(bytes)
 }

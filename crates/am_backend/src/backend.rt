@@ -218,7 +218,7 @@ pub trait Backend {
         frames: &[Frame],
     ) -> Option<Vec<u8>>
         // PROMISE: The bytes for a peer are the text of just the frames that go to it, in order, or what is sealed for its name.
-        ensures text { IfSome result (λ bytes. IsEncodingFor (sealed_by self.old) config.now peer from frames.now bytes.items) }
+        ensures encoding { IfSome result (λ bytes. IsEncodingFor (sealed_by self.old) config.now peer from frames.now bytes.items) }
         ensures queue { (outbound self.new).frames ≡ (outbound self.old).frames }
         ensures unsent { IfNone result (outbound self.new ≡ left_out (length frames.now) (outbound self.old)) }
         ensures lock { sealed_by self.new ≡ sealed_by self.old };

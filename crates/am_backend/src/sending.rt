@@ -44,7 +44,7 @@ impl<R: AllocGlobal> SystemBackend<'_, R> {
         };
         let name = config.members().get(peer as usize)?;
         match sealed_encoding(alloc, lock, name.as_str(), from?, frames) {
-            Ok(sealed) => Some(sealed.text),
+            Ok(sealed) => Some(sealed.encoding),
             Err(_) => None,
         }
     }

@@ -2,8 +2,8 @@
 
 use crate::members::print_held;
 use am_api_decisions::{
-    Asked, Deciding, Question, RecentAlerts, Timing, asked_of, begin_log, is_for_decisions,
-    log_notice,
+    Deciding, ParsedCall, Question, RecentAlerts, Timing, begin_log, is_for_decisions, log_notice,
+    parse_call,
 };
 use am_api_silences::{PendingAnswer, ReplyBuilder, ResponseBytes, refuse};
 use am_http::{Read, Refusal, Request, read_request};
@@ -73,9 +73,9 @@ fn answered(
     request: &Request,
     calling: Calling,
 ) -> PendingAnswer {
-    match asked_of(case.alloc, request) {
+    match parse_call(case.alloc, request) {
         Err(refusal) => refuse(case.alloc, &refusal),
-        Ok(Asked::Decide(question)) => {
+        Ok(ParsedCall::Decide(question)) => {
             let waits = question.waits();
             let reply = decided(case, instance, question, calling);
             if !waits {
@@ -83,13 +83,13 @@ fn answered(
             }
             quiet(case, reply)
         }
-        Ok(Asked::Notified(notice)) => log_notice(case.alloc, instance, notice, calling.now),
-        Ok(Asked::Log) => match told(case, instance, calling) {
+        Ok(ParsedCall::Notified(notice)) => log_notice(case.alloc, instance, notice, calling.now),
+        Ok(ParsedCall::Log) => match told(case, instance, calling) {
             Ok(reply) => quiet(case, reply),
             Err(refusal) => refuse(case.alloc, &refusal),
         },
         // (a case has no messages but its own)
-        Ok(Asked::Alerts) => quiet(case, RecentAlerts::new(case.alloc).told(case.alloc)),
+        Ok(ParsedCall::Alerts) => quiet(case, RecentAlerts::new(case.alloc).told(case.alloc)),
     }
 }
 

@@ -7,7 +7,7 @@ use am_cluster::{Cluster, ClusterError, SettleError};
 use am_instance::ConfigError;
 use am_part_cases::common::{Brittle, Call, Case, CaseFault, Cut, Pieces, cut};
 use am_part_cases::{given, put, say};
-use am_replay::{OutputLine, Refusal, ReplayError, append_line, run};
+use am_replay::{LineRefusal, OutputLine, ReplayError, append_line, run};
 use am_schedule::Line;
 use am_silence::SilenceError::{BadPattern, Memory, NoMatcher, TooLarge};
 use am_wire::Unknown;
@@ -136,7 +136,7 @@ pub fn replay(case: &Case, rest: &str) {
 pub fn refused(case: &Case) {
     let mut text = String::new(case.alloc);
     for error in [NoMatcher, BadPattern, TooLarge, Memory] {
-        let (name, refusal) = (Some("a"), Refusal::from(error));
+        let (name, refusal) = (Some("a"), LineRefusal::from(error));
         case.made(append_line(&mut text, &OutputLine::Refused { name, refusal }));
     }
     case.put(text);

@@ -7,7 +7,7 @@ use am_matcher::Labels;
 use am_nflog::{Hashes, Receiver};
 use am_part_cases::common::{Case, CaseFault, Printed, first};
 use am_part_cases::{given, put, say};
-use am_runs::Source;
+use am_runs::DeliverySource;
 use am_schedule::{Action, FaultKind, Line, Schedule, parse};
 use am_silence::Posted;
 use am_wire::{Bytes, Text};
@@ -143,7 +143,7 @@ fn say_asked(case: &Case, asked: &ResolvedEvent) {
         ResolvedEvent::NoMember => case.put("no member\n"),
         ResolvedEvent::Event { event, source } => {
             say_event(case, event);
-            if let Source::Written(sent) = source {
+            if let DeliverySource::Written(sent) = source {
                 say!(case; "sent at ", @sent);
             }
         }

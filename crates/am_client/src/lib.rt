@@ -32,21 +32,21 @@ use am_version_order::Interval;
 
 /// The reply to a step, and whether the member that was asked had been calm before.
 #[derive(Drop)]
-pub struct Asked {
+pub struct CalmReply {
     pub calm: bool,
     pub reply: Result<Reply, ClusterError>,
 }
 
 /// The reply to a step, and whether the run was timely with it.
 #[derive(Drop)]
-pub struct Timed {
+pub struct TimelyReply {
     pub timely: bool,
     pub reply: Result<Reply, ClusterError>,
 }
 
 /// Makes a step. If it asks a calm member for a list, a single silence, a decision, both views or the mutes of an alert, the
 /// reply is that of the bare sets of all versions that were delivered to the member.
-pub fn ask(cluster: &mut Cluster, place: Place, step: &Step, line: u64) -> Asked
+pub fn ask(cluster: &mut Cluster, place: Place, step: &Step, line: u64) -> CalmReply
     // PROMISE: A client that asks a calm member of a cluster gets the reply of everything that was delivered to it.
     ensures { IsTrue result.calm → IfOk result.reply (λ reply. (replica : Replica) (event : Event) (now : ℕ) →
         Asks cluster.old step.now place replica event now → asks_shown event ≡ true →
@@ -56,7 +56,7 @@ pub fn ask(cluster: &mut Cluster, place: Place, step: &Step, line: u64) -> Asked
     members_reply_as_the_bare_sets(cluster, place);
     let calm = cluster.calm(place).calm;
     let reply = cluster.step(step, line);
-    Asked { calm, reply }
+    CalmReply { calm, reply }
 }
 
 /// Returns whether two members are both calm. If they are, and the same was delivered to both, in any order and however often,
@@ -84,7 +84,7 @@ pub fn step_in_time(
     line: u64,
     spread: Interval,
     flight: Interval,
-) -> Timed
+) -> TimelyReply
     ensures calm { IsTrue result.timely → (place : ℕ) →
         IsCalmInBoth (length cluster.new.replicas) place cluster.new.silences cluster.new.log }
     // PROMISE: In a timely run a client finds that all running members agree on what is old.
@@ -97,12 +97,12 @@ pub fn step_in_time(
     let reply = cluster.step(step, line);
     cluster.consistency();
     let timely = cluster.timely(spread, flight);
-    Timed { timely, reply }
+    TimelyReply { timely, reply }
 }
 
 /// Makes a step. If it asks a calm member whether a group is notified, the group is notified for the first time exactly if
 /// something fires and none of the group's entries that were delivered to the member is best and live.
-pub fn decide(cluster: &mut Cluster, place: Place, step: &Step, line: u64) -> Asked
+pub fn decide(cluster: &mut Cluster, place: Place, step: &Step, line: u64) -> CalmReply
     ensures { IsTrue result.calm → IfOk result.reply (λ reply. (replica : Replica) (question : Question) (now : ℕ) →
         Asks cluster.old step.now place replica (asks question) now →
         (reply ≡ is_first) ↔ ((something_fires question ≡ true)
@@ -112,5 +112,5 @@ pub fn decide(cluster: &mut Cluster, place: Place, step: &Step, line: u64) -> As
     first_is_told_exactly(cluster);
     let calm = cluster.calm(place).calm;
     let reply = cluster.step(step, line);
-    Asked { calm, reply }
+    CalmReply { calm, reply }
 }

@@ -22,7 +22,7 @@ use Rattle.am_instance.specs.Replies.{IsNothing}
 use Rattle.am_instance.specs.InstanceStates.{InstanceState, HoldsWhole}
 use Rattle.am_instance.specs.Steps.{IsAccepted, brought, delivers}
 use Rattle.am_instance.specs.OneStep.{IsStep}
-use Rattle.am_runs.specs.declared.step.Source.{Source}
+use Rattle.am_runs.specs.declared.step.DeliverySource.{DeliverySource}
 use Rattle.am_runs.specs.Steps.{RunStep}
 use Rattle.am_cluster.specs.BothStates.{StateOf}
 use Rattle.am_cluster.specs.Contents.{IsValue}
@@ -98,7 +98,7 @@ all_or_none true frames all are = inr are
 all_or_none false frames all are = inl are
 
 -- the frames that fly are among those that were sent
-pub told_frames : (source : Source) (P : ℕ × Frame → Type 0) (answer : Result Outcome StepError) (frames : List (ℕ × Frame)) (result : Result Reply ClusterError) →
+pub told_frames : (source : DeliverySource) (P : ℕ × Frame → Type 0) (answer : Result Outcome StepError) (frames : List (ℕ × Frame)) (result : Result Reply ClusterError) →
     IfOk answer (λ outcome. All P outcome.frames.items) → IsTold source answer frames result → All P frames
 told_frames source P (Ok outcome) frames (Ok reply) all told = subst (All P) (sym told.1) (all_flown P (drops source) outcome.frames.items all)
 told_frames source P (Ok outcome) frames (Err e) all told = subst (All P) (sym told.1) (All-nil P)
@@ -111,7 +111,7 @@ told_frames source P (Err UnknownPeer) frames (Ok reply) all told = absurd told
 told_frames source P (Err (Memory taken)) frames (Ok reply) all told = absurd told
 told_frames source P (Err (FrameFault fault)) frames (Ok reply) all told = absurd told
 
-pub told_flying : (source : Source) (answer : Result Outcome StepError) (frames : List (ℕ × Frame)) (result : Result Reply ClusterError) → IsTold source answer frames result → AreInFlight answer frames
+pub told_flying : (source : DeliverySource) (answer : Result Outcome StepError) (frames : List (ℕ × Frame)) (result : Result Reply ClusterError) → IsTold source answer frames result → AreInFlight answer frames
 told_flying source (Ok outcome) frames (Ok reply) told = all_or_none (drops source) frames outcome.frames.items told.1
 told_flying source (Ok outcome) frames (Err e) told = inr told.1
 told_flying source (Err (MomentBack last)) frames (Err e) told = absurd told

@@ -16,7 +16,7 @@ use Rattle.am_instance.specs.declared.event.Event.{Event}
 use Rattle.am_instance.specs.declared.reply.Made.{Made}
 use Rattle.am_instance.specs.declared.reply.Outcome.{Outcome}
 use Rattle.am_instance.specs.declared.reply.Reply.{Reply}
-use Rattle.am_runs.specs.declared.step.Source.{Source}
+use Rattle.am_runs.specs.declared.step.DeliverySource.{DeliverySource}
 use Rattle.am_runs.specs.Steps.{RunStep, moment}
 use Rattle.am_runs.specs.Steps.RunStep.{Started}
 use Rattle.am_schedule.specs.declared.step.Action.{Action}
@@ -60,7 +60,7 @@ either_moment true now one other a b = a
 either_moment false now one other a b = b
 
 -- an event is written down with its moment
-pub event_moment : {K X : Type 0} (state : StateOf K X) (place now : ℕ) (source : Source) (e : Event) (answer : Result Outcome StepError) (frames : List (ℕ × Frame)) →
+pub event_moment : {K X : Type 0} (state : StateOf K X) (place now : ℕ) (source : DeliverySource) (e : Event) (answer : Result Outcome StepError) (frames : List (ℕ × Frame)) →
     moment (event_step state Drop place now source e answer frames) ≡ Some now
 event_moment state place now source e (Ok outcome) frames = either_moment (collects e) now _ _ refl refl
 event_moment state place now source e (Err (step_errors.Memory taken)) frames = refl
@@ -73,7 +73,7 @@ never_refused : (old new : World) (line : ℕ) (reply : Reply) (cause : ClusterE
 never_refused old new line reply cause mark refused = elim refused.answer [ inl told ↦ absurd (let error = told.error in cc) | inr unmade ↦ absurd (let error = unmade.error in cc) ]
 
 module _ (old new : World) (at line place : ℕ) (replica : Replica) (reply : Reply) where
-  happened_goes : (e : Event) (source : Source) → HasHappened old place replica e source at line (Ok reply) new → GoesOnBy old new at
+  happened_goes : (e : Event) (source : DeliverySource) → HasHappened old place replica e source at line (Ok reply) new → GoesOnBy old new at
   happened_goes e source has = record {
     goes = record {
       members = ap (λ w. length w.replicas) has.world ∙ set_length old.replicas place _;
@@ -144,7 +144,7 @@ module _ (old new : World) (is : IsWorld old) (at line : ℕ) (reply : Reply) wh
   step_goes (actions.Lose number) same stepped = absurd cc
 
 -- the reply of an event that happened is that of the instance as it stood
-reply_of : (stand after : InstanceState) (e : Event) (now : ℕ) (source : Source) (answer : Result Outcome StepError) (frames : List (ℕ × Frame)) (reply : Reply) →
+reply_of : (stand after : InstanceState) (e : Event) (now : ℕ) (source : DeliverySource) (answer : Result Outcome StepError) (frames : List (ℕ × Frame)) (reply : Reply) →
     IsStep stand e now answer after → IsTold source answer frames (Ok reply) → (made : Made) × IsReply stand e now reply made × (stand.last ≤ now)
 reply_of stand after e now source (Ok outcome) frames reply step told =
     (outcome.made, subst (λ r. IsReply stand e now r outcome.made) (sym told.0) step.reply, step.accepted.forward)

@@ -10,7 +10,7 @@ use Rattle.am_gossip.specs.Answers.{frame_fault}
 use Rattle.am_instance.specs.declared.event.Event.{Event}
 use Rattle.am_instance.specs.declared.event.Event.TheVariants as events
 use Rattle.am_instance.specs.declared.reply.Reply.{Reply}
-use Rattle.am_runs.specs.declared.step.Source.TheVariants.{Arrived}
+use Rattle.am_runs.specs.declared.step.DeliverySource.TheVariants.{Arrived}
 use Rattle.am_runs.specs.Steps.{flights_of}
 use Rattle.am_cluster.specs.BothStates.{log_state, silence_state}
 use Rattle.am_cluster.specs.Contents.{carries}

@@ -9,8 +9,8 @@ use Rattle.am_nflog.specs.Mesh.{Mesh as LogMesh}
 use Rattle.am_instance.specs.declared.event.Event.{Event}
 use Rattle.am_instance.specs.declared.event.Event.TheVariants as events
 use Rattle.am_instance.specs.declared.reply.Reply.{Reply}
-use Rattle.am_runs.specs.declared.step.Source.{Source}
-use Rattle.am_runs.specs.declared.step.Source.TheVariants.{Lent, Made}
+use Rattle.am_runs.specs.declared.step.DeliverySource.{DeliverySource}
+use Rattle.am_runs.specs.declared.step.DeliverySource.TheVariants.{Lent, Made}
 use Rattle.am_runs.specs.Steps.{RunStep, moment}
 use Rattle.am_runs.specs.Steps.RunStep.{Back, Refused, Saved, Started, Stopped}
 use Rattle.am_schedule.specs.declared.step.Action.{Action}
@@ -107,7 +107,7 @@ mark_moment X errors.UnknownPeer place now = refl
 mark_moment X errors.Memory place now = refl
 
 module _ (old new : World) (at line place : ℕ) (replica : Replica) (result : Result Reply ClusterError) where
-  pub happened_extends : (e : Event) (source : Source) → HasHappened old place replica e source at line result new → Extends old new (Some at) line
+  pub happened_extends : (e : Event) (source : DeliverySource) → HasHappened old place replica e source at line result new → Extends old new (Some at) line
   happened_extends e source h = by_one (Some at) line old new (event_step silence_state Drop place at source e h.answer h.frames) (event_step log_state Drop place at source e h.answer h.frames)
       (ap (λ w. length w.replicas) h.world ∙ set_length old.replicas place _) (ap (λ w. w.silences) h.world) (ap (λ w. w.log) h.world) (ap (λ w. w.lines) h.world)
       (event_moment silence_state place at source e h.answer h.frames) (event_moment log_state place at source e h.answer h.frames)

@@ -10,7 +10,7 @@ use Rattle.am_collect.specs.Events.{Events, after_all, last_moment}
 use Rattle.am_collect.specs.Events.MapEvent.{Collected}
 use Rattle.am_collect.specs.Keepers.{IsLeftBy}
 use Rattle.am_collect.proofs.Histories.{last_moment-append}
-use Rattle.am_runs.specs.declared.step.Source.{Source}
+use Rattle.am_runs.specs.declared.step.DeliverySource.{DeliverySource}
 use Rattle.am_runs.specs.Steps.RunStep.{Took, Ticked}
 use Rattle.am_runs.specs.Members.{Member, map_of, member_after, member_of, passes, stepped}
 use Rattle.am_runs.proofs.Pasts.{last-passes, map_of-append, member_of-push}
@@ -52,7 +52,7 @@ module _ {K X : Type 0} {state : StateOf K X} (facts : IsStateOf state) where
   stays : (past : Events X) (new : Kept X) → HasGoneThrough state (past ++ []) new → HasGoneThrough state past new
   stays past new gone = subst (λ events. HasGoneThrough state events new) (append-nil past) gone
 
-  module _ (unknown : Unknown) (m : Member X) (place now : ℕ) (source : Source) (event : Event) (frames : List (ℕ × Frame)) (new : Kept X) where
+  module _ (unknown : Unknown) (m : Member X) (place now : ℕ) (source : DeliverySource) (event : Event) (frames : List (ℕ × Frame)) (new : Kept X) where
     by_collecting : (collecting : Bool) (ds : List Delivery) →
         HasGoneThrough state (m.past ++ (if collecting then (Collected, now) ∷ [] else events_at state.event_of now ds)) new →
         HasGoneThrough state (stepped m (if collecting then Ticked place now else Took place now source (state.versions_in ds) (sent_in state unknown frames))).past new
@@ -73,7 +73,7 @@ module _ {K X : Type 0} {state : StateOf K X} (facts : IsStateOf state) where
       (goes_on m.past (step_events state.event_of old.config.unknown event now answer) (state.kept old) (state.kept new) gone (facts.left old new event now answer step))
 
 -- ---- the member of the step, and the others
-module _ {K X : Type 0} (state : StateOf K X) (unknown : Unknown) (place now : ℕ) (source : Source) (event : Event) (frames : List (ℕ × Frame)) where
+module _ {K X : Type 0} (state : StateOf K X) (unknown : Unknown) (place now : ℕ) (source : DeliverySource) (event : Event) (frames : List (ℕ × Frame)) where
   itself : (n : ℕ) → (n == n) ≡ true
   itself n = eq-eqb n n refl
 

@@ -20,7 +20,7 @@ use Rattle.am_instance.specs.Configs.{Settings}
 use Rattle.am_instance.specs.InstanceStates.{InstanceState}
 use Rattle.am_instance.specs.Steps.{collects, delivers}
 use Rattle.am_instance.specs.OneStep.{IsStep}
-use Rattle.am_runs.specs.declared.step.Source.{Source}
+use Rattle.am_runs.specs.declared.step.DeliverySource.{DeliverySource}
 use Rattle.am_runs.specs.Steps.{RunStep, flights_by, flights_of, is_at}
 use Rattle.am_runs.specs.Steps.RunStep.{Took, Ticked}
 use Rattle.am_runs.specs.Members.{Member, stepped, member_of, map_of}
@@ -67,7 +67,7 @@ got_of_all : {A : Type 0} (P : A → Type 0) (xs : List A) (n : ℕ) (x : A) →
 got_of_all P xs n x all there = All-contains P xs x all (n, slice_get_within xs n x there, get_or_from_slice_get xs n x x there)
 
 -- so far as it sends something it is a step of the member at the place
-sends_own : {K X : Type 0} (state : StateOf K X) (place now : ℕ) (source : Source) (event : Event) (answer : Result Outcome StepError) (frames : List (ℕ × Frame)) (nth : ℕ) (f : ℕ × Frame) →
+sends_own : {K X : Type 0} (state : StateOf K X) (place now : ℕ) (source : DeliverySource) (event : Event) (answer : Result Outcome StepError) (frames : List (ℕ × Frame)) (nth : ℕ) (f : ℕ × Frame) →
     AreInFlight answer frames → slice_get frames nth ≡ Some f → is_at place (event_step state Drop place now source event answer frames) ≡ true
 sends_own state place now source event (Ok outcome) frames nth f flying there = by (collects event) where
   by : (collecting : Bool) → is_at place (cond collecting (Ticked place now) (Took place now source (state.versions_in (delivers Drop event outcome.made)) (sent_in state Drop frames))) ≡ true
@@ -79,7 +79,7 @@ sends_own state place now source event (Err e) frames nth f flying there = absur
 pub record HandsOut (place now : ℕ) (frames : List (ℕ × Frame)) : Type 0 where
   pub stand : InstanceState
   pub event : Event
-  pub source : Source
+  pub source : DeliverySource
   pub answer : Result Outcome StepError
   pub after : InstanceState
   pub step : IsStep stand event now answer after
@@ -219,7 +219,7 @@ sent_world w new place now frames hands was is kept silences log same members in
 
 -- ---- a member's own event
 
-module _ {K X : Type 0} (state : StateOf K X) (place now : ℕ) (source : Source) (event : Event) (frames : List (ℕ × Frame)) where
+module _ {K X : Type 0} (state : StateOf K X) (place now : ℕ) (source : DeliverySource) (event : Event) (frames : List (ℕ × Frame)) where
   runs_kept_by : (m : Member X) (collecting : Bool) (vs : List X) → (stepped m (cond collecting (Ticked place now) (Took place now source vs (sent_in state Drop frames)))).runs ≡ m.runs
   runs_kept_by m true vs = refl
   runs_kept_by m false vs = refl
@@ -265,7 +265,7 @@ module _ {K X : Type 0} (state : StateOf K X) (place now : ℕ) (source : Source
         saved = λ key. tied.saved key ∙ ap (λ m. map_of state.seen state.cmp m key) (sym (saved_kept (member_of members place before) answer));
       })
 
-module _ (w : World) (place : ℕ) (r : Replica) (stand : InstanceState) (event : Event) (source : Source) (now line : ℕ) (answer : Result Outcome StepError) (frames : List (ℕ × Frame)) where
+module _ (w : World) (place : ℕ) (r : Replica) (stand : InstanceState) (event : Event) (source : DeliverySource) (now line : ℕ) (answer : Result Outcome StepError) (frames : List (ℕ × Frame)) where
   abbrev pub after_event : World
   after_event = written (with_replica w place (with_stand r stand)) (event_step silence_state Drop place now source event answer frames) (event_step log_state Drop place now source event answer frames) line
 

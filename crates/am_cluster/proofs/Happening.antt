@@ -7,8 +7,8 @@ use Rattle.std.proofs.lemmas.List.Elements.{All-nil}
 use Rattle.am_wire.specs.declared.unknown.Unknown.{Unknown}
 use Rattle.am_gossip.specs.declared.frame.Frame.{Frame}
 use Rattle.am_merge.specs.Maps.{at}
-use Rattle.am_runs.specs.declared.step.Source.{Source}
-use Rattle.am_runs.specs.declared.step.Source.TheVariants.{Made, Written, Arrived, Lent}
+use Rattle.am_runs.specs.declared.step.DeliverySource.{DeliverySource}
+use Rattle.am_runs.specs.declared.step.DeliverySource.TheVariants.{Made, Written, Arrived, Lent}
 use Rattle.am_runs.specs.Steps.{SentFrame, RunStep, flights_of}
 use Rattle.am_runs.specs.Steps.RunStep.{Took, Ticked}
 use Rattle.am_runs.specs.Members.{Member, map_of, member_of, passes, stepped}
@@ -47,17 +47,17 @@ module _ {K X : Type 0} {state : StateOf K X} (facts : IsStateOf state) (members
   fewer_flown vs ws None all = all
   fewer_flown vs ws (Some f) all = all_left (Contains f.versions) vs ws all
 
-  fewer_from : (source : Source) (vs ws : List X) → AreFrom state.seen state.cmp members before now source (vs ++ ws) → AreFrom state.seen state.cmp members before now source vs
+  fewer_from : (source : DeliverySource) (vs ws : List X) → AreFrom state.seen state.cmp members before now source (vs ++ ws) → AreFrom state.seen state.cmp members before now source vs
   fewer_from Made vs ws from = all_left (λ v. (state.seen v).updated ≡ now) vs ws from
   fewer_from (Written sent) vs ws from = all_left (λ v. sent ≤ (state.seen v).updated) vs ws from
   fewer_from (Arrived number) vs ws from = fewer_flown vs ws (slice_get (flights_of before) number) from
   fewer_from (Lent place) vs ws from = (from.0, all_left (λ v. map_of state.seen state.cmp (member_of members place before).past (state.seen v).key ≡ Some v) vs ws from.1)
 
   -- what a step made
-  made_from : (source : Source) (vs : List X) → source ≡ Made → All (λ v. (state.seen v).updated ≡ now) vs → AreFrom state.seen state.cmp members before now source vs
+  made_from : (source : DeliverySource) (vs : List X) → source ≡ Made → All (λ v. (state.seen v).updated ≡ now) vs → AreFrom state.seen state.cmp members before now source vs
   made_from source vs is all = subst (λ s. AreFrom state.seen state.cmp members before now s vs) (sym is) all
 
-  delivered_from : (old : InstanceState) (event : Event) (source : Source) (reply : Reply) (made : MadeHere) → HasSource state old.config.unknown members before now event source → IsReply old event now reply made →
+  delivered_from : (old : InstanceState) (event : Event) (source : DeliverySource) (reply : Reply) (made : MadeHere) → HasSource state old.config.unknown members before now event source → IsReply old event now reply made →
       AreFrom state.seen state.cmp members before now source (state.versions_in (delivers old.config.unknown event made))
   delivered_from old (events.Frame sender frame) source reply made from is =
       subst (λ (ds : List Delivery). AreFrom state.seen state.cmp members before now source (state.versions_in ds)) (sym (ap (λ ds. carries old.config.unknown frame ++ ds) (frame_makes_nothing made is.1) ∙ append-nil (carries old.config.unknown frame))) from
@@ -72,11 +72,11 @@ module _ {K X : Type 0} {state : StateOf K X} (facts : IsStateOf state) (members
   delivered_from old (events.PullFrom place) source reply made from is = made_from source _ from (facts.made now made (reply_now old (events.PullFrom place) now reply made is))
 
   -- of nothing that was brought
-  nothing_from : (source : Source) (taken : ℕ) → source ≡ Made → AreFrom state.seen state.cmp members before now source (state.versions_in (take taken []))
+  nothing_from : (source : DeliverySource) (taken : ℕ) → source ≡ Made → AreFrom state.seen state.cmp members before now source (state.versions_in (take taken []))
   nothing_from source taken is =
       made_from source _ is (subst (All (λ v. (state.seen v).updated ≡ now)) (sym (ap state.versions_in (take-nil taken) ∙ facts.none)) (All-nil (λ v. (state.seen v).updated ≡ now)))
 
-  stopped_from : (unknown : Unknown) (event : Event) (source : Source) (taken : ℕ) → HasSource state unknown members before now event source → AreFrom state.seen state.cmp members before now source (state.versions_in (take taken (brought unknown event)))
+  stopped_from : (unknown : Unknown) (event : Event) (source : DeliverySource) (taken : ℕ) → HasSource state unknown members before now event source → AreFrom state.seen state.cmp members before now source (state.versions_in (take taken (brought unknown event)))
   stopped_from unknown (events.Frame sender frame) source taken from =
       let ds = carries unknown frame in
       let parts : state.versions_in ds ≡ state.versions_in (take taken ds) ++ state.versions_in (drop taken ds) = ap state.versions_in (sym (take-append-drop taken ds)) ∙ facts.append (take taken ds) (drop taken ds) in
@@ -89,7 +89,7 @@ module _ {K X : Type 0} {state : StateOf K X} (facts : IsStateOf state) (members
   stopped_from unknown events.Tick source taken from = nothing_from source taken from
   stopped_from unknown (events.PullFrom place) source taken from = nothing_from source taken from
 
-  module _ (place : ℕ) (source : Source) (old new : InstanceState) (event : Event) (frames : List (ℕ × Frame))
+  module _ (place : ℕ) (source : DeliverySource) (old new : InstanceState) (event : Event) (frames : List (ℕ × Frame))
       (gone : HasGoneThrough state (member_of members place before).past (state.kept old)) (from : HasSource state old.config.unknown members before now event source) (whole : HoldsWhole old) where
     abbrev member : Member X
     member = member_of members place before

@@ -9,7 +9,7 @@ use Rattle.am_gossip.specs.Answers.{frame_fault}
 use Rattle.am_gossip.specs.declared.frame.Frame.{Frame}
 use Rattle.am_gossip.specs.declared.frame.Frame.TheVariants as frames
 use Rattle.am_collect.specs.Events.MapEvent.{Passed}
-use Rattle.am_runs.specs.declared.step.Source.{Source}
+use Rattle.am_runs.specs.declared.step.DeliverySource.{DeliverySource}
 use Rattle.am_runs.specs.Steps.{SentFrame, flights_by, flights_of}
 use Rattle.am_runs.specs.Steps.RunStep.{Took, Ticked}
 use Rattle.am_runs.specs.Members.{map_of, member_of}
@@ -66,7 +66,7 @@ lent_maps_are_its_lenders {K} {X} {state} facts = λ unknown members lender now 
     )
 
 -- ---- what flies
-module _ {K X : Type 0} (state : StateOf K X) (place now : ℕ) (source : Source) where
+module _ {K X : Type 0} (state : StateOf K X) (place now : ℕ) (source : DeliverySource) where
   fly : (unknown : Unknown) (vs : List X) (fs : List (ℕ × Frame)) → flights_by (Took place now source vs (sent_in state unknown fs)) ≡ flights_in state unknown now fs
   fly unknown vs [] = refl
   fly unknown vs (f ∷ fs) = ap (λ flights. record { sent = now; versions = state.versions_in (carries unknown f.1) } ∷ flights) (fly unknown vs fs)

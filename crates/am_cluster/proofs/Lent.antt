@@ -11,7 +11,7 @@ use Rattle.am_gossip.specs.declared.frame.Frame.{Frame}
 use Rattle.am_gossip.specs.declared.frame.Frame.TheVariants.{Pull}
 use Rattle.am_instance.specs.Sendings.{whole_state}
 use Rattle.am_instance.specs.InstanceStates.{InstanceState, HoldsWhole}
-use Rattle.am_runs.specs.declared.step.Source.TheVariants.{Lent}
+use Rattle.am_runs.specs.declared.step.DeliverySource.TheVariants.{Lent}
 use Rattle.am_runs.specs.Runs.{AreFrom}
 use Rattle.am_cluster.specs.Contents.{carries}
 use Rattle.am_cluster.specs.Recorded.{HasGoneThrough}

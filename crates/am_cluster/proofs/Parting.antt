@@ -24,9 +24,6 @@ pub record HasPut (old new : Sorted) (all done left : List AnyVersion) : Type 0 
   pub log : new.log ≡ old.log ++ entries_in (map delivery_of done)
   pub room : old.room ≤ new.room + length done
 
-pub put_none : (old : Sorted) (all : List AnyVersion) → HasPut old old all [] all
-put_none old all = record { parts = refl; silences = sym (append-nil old.silences); log = sym (append-nil old.log); room = omega arith }
-
 module _ (old mid : Sorted) (all done left rest : List AnyVersion) (v : AnyVersion) (so_far : HasPut old mid all done left) (is : left ≡ v ∷ rest) where
   pub room_left : length all ≤ old.room → 0 < mid.room
   room_left within =

@@ -1,5 +1,5 @@
 -- The row of versions is read as these versions.
-use Rattle.std.proofs.Common.{◌≡◌, ℕ, ◌+◌, ◌<◌, ◌≤◌, List, [], ◌∷◌, ◌++◌, length, map, take, get_or, None, Result, refl, sym, ap, subst, ◌∙◌, arith, append-nil}
+use Rattle.std.proofs.Common.{◌≡◌, ℕ, ◌+◌, ◌<◌, ◌≤◌, List, [], ◌∷◌, ◌++◌, length, map, take, get_or, None, Result, sym, ap, subst, ◌∙◌, arith, append-nil}
 use Rattle.std.specs.List.{All}
 use Rattle.std.proofs.lemmas.List.{map-append, take_more, take_all}
 use Rattle.std.proofs.lemmas.List.Elements.{All-nil, All-cons, All-append}
@@ -35,9 +35,6 @@ module _ {K X : Type 0} (seen : X → Version K) (reads : Unknown → ℕ → Li
     pub good : All (IsReadAgain seen reads) (map version lines)
 
   module _ {L : Type 0} (version : L → X) (lines : List L) where
-    pub row_none : IsRowOf version (take 0 lines) []
-    row_none = record { text = refl; good = All-nil (IsReadAgain seen reads) }
-
     pub row_more : (i : ℕ) (row next : List ℕ) (x : L) (v : X) → i < length lines → x ≡ get_or lines i x → v ≡ version x → IsReadAgain seen reads v
         → IsRowOf version (take i lines) row → next ≡ row ++ delimited (seen v).content → IsRowOf version (take (i + 1) lines) next
     row_more i row next x v within is same good so_far written =

@@ -1,5 +1,5 @@
 -- The versions of a row that were read so far.
-use Rattle.std.proofs.Common.{◌≡◌, ◌≢◌, List, [], ◌∷◌, ◌++◌, map, ap, sym, subst, ◌∙◌, append-nil, append_assoc, true, false}
+use Rattle.std.proofs.Common.{◌≡◌, ◌≢◌, List, [], ◌∷◌, ◌++◌, map, ap, sym, subst, ◌∙◌, append_assoc, true, false}
 use Rattle.std.specs.Prelude.{Some, is_none, Result, Ok, Err}
 use Rattle.std.specs.List.{All}
 use Rattle.std.proofs.lemmas.List.{map-append}
@@ -18,13 +18,6 @@ module _ {V : Type 0} (delivered : V → Delivery) where
     pub sound : is_none (first_fault left) ≡ is_none (first_fault all)
     pub values : All IsValue (map delivery_of old) → All IsValue (map delivery_of new)
 
-  pub added_none : (all left : List (Result V WireError)) (old : List AnyVersion) → left ≡ all → HasAdded all left old old
-  added_none all left old same = record {
-    added = ap (λ xs. map delivery_of old ++ map delivered (before_fault xs)) same;
-    sound = ap (λ xs. is_none (first_fault xs)) same;
-    values = λ is. is;
-  }
-
   module _ (all left : List (Result V WireError)) (old mid : List AnyVersion) (so_far : HasAdded all left old mid) where
     pub added_more : (rest : List (Result V WireError)) (v : V) (w : AnyVersion) (given : Result V WireError) (new : List AnyVersion) → GivesNext left (Some given) rest → given ≡ Ok v
         → delivery_of w ≡ delivered v → IsValue (delivery_of w) → new ≡ mid ++ w ∷ [] → HasAdded all rest old new
@@ -42,10 +35,6 @@ module _ {V : Type 0} (delivered : V → Delivery) where
           values = λ is_old. subst (All IsValue) (sym moved) (All-push IsValue (map delivery_of mid) (delivery_of w) (so_far.values is_old) value);
         }
 
-    -- nothing more was to come
-    pub added_all : left ≡ [] → map delivery_of mid ≡ map delivery_of old ++ map delivered (before_fault all)
-    added_all none = sym (ap (λ xs. map delivery_of mid ++ map delivered (before_fault xs)) none ∙ append-nil (map delivery_of mid)) ∙ so_far.added
-
     pub all_sound : left ≡ [] → true ≡ is_none (first_fault all)
     all_sound none = sym (ap (λ xs. is_none (first_fault xs)) none) ∙ so_far.sound
 
@@ -53,9 +42,6 @@ module _ {V : Type 0} (delivered : V → Delivery) where
     module _ (rest : List (Result V WireError)) (e : WireError) (given : Result V WireError) (gives : GivesNext left (Some given) rest) (is : given ≡ Err e) (other : e ≢ errors.Memory) where
       fault : left ≡ Err e ∷ []
       fault = (subst (λ g. GivesNext left (Some g) rest) is gives).2 other
-
-      pub added_before : map delivery_of mid ≡ map delivery_of old ++ map delivered (before_fault all)
-      added_before = sym (ap (λ xs. map delivery_of mid ++ map delivered (before_fault xs)) fault ∙ append-nil (map delivery_of mid)) ∙ so_far.added
 
       pub not_sound : false ≡ is_none (first_fault all)
       not_sound = sym (ap (λ xs. is_none (first_fault xs)) fault) ∙ so_far.sound

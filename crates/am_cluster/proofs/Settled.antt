@@ -37,8 +37,8 @@ use Rattle.am_cluster.specs.Contents.{IsReadable, held_in}
 use Rattle.am_cluster.proofs.RoundTrip.{All-unmap, whole_carries}
 use Rattle.am_cluster.proofs.Making.{frame_makes_nothing}
 use Rattle.am_cluster.proofs.States.{IsStateOf, of_log, of_silences, takings}
-use Rattle.am_runs.specs.declared.step.Source.{Source}
-use Rattle.am_runs.specs.declared.step.Source.TheVariants.{Lent, Made}
+use Rattle.am_runs.specs.declared.step.DeliverySource.{DeliverySource}
+use Rattle.am_runs.specs.declared.step.DeliverySource.TheVariants.{Lent, Made}
 use Rattle.am_runs.specs.Settles.{join_of}
 use Rattle.am_cluster.specs.declared.error.SettleError.{SettleError}
 use Rattle.am_cluster.specs.Events.{IsTold, with_stand}
@@ -243,7 +243,7 @@ module _ {K X : Type 0} (seen : X → Version K) (cmp : K → K → Ordering) (k
 
 -- ---- both states
 
-swept_told : (source : Source) (before after : InstanceState) (now : ℕ) (answer : Result Outcome StepError) (frames : List (ℕ × Frame)) (reply : Reply) →
+swept_told : (source : DeliverySource) (before after : InstanceState) (now : ℕ) (answer : Result Outcome StepError) (frames : List (ℕ × Frame)) (reply : Reply) →
     IsStep before events.Tick now answer after → IsTold source answer frames (Ok reply) → AreSwept now before after
 swept_told source before after now (Ok outcome) frames reply step told = step.swept refl
 swept_told source before after now (Err (MomentBack last)) frames reply step told = absurd told
@@ -281,7 +281,7 @@ log_settle = record {
 }
 
 module _ {K X : Type 0} {state : StateOf K X} {is_value : X → Type 0} (can_be : CanBeSettled state is_value) where
-  lent_joined : (source : Source) (lender now : ℕ) (before lent after : InstanceState) → CanLend lent → (answer : Result Outcome StepError) (frames : List (ℕ × Frame)) (reply : Reply) →
+  lent_joined : (source : DeliverySource) (lender now : ℕ) (before lent after : InstanceState) → CanLend lent → (answer : Result Outcome StepError) (frames : List (ℕ × Frame)) (reply : Reply) →
       IsStep before (loan lender lent) now answer after → IsTold source answer frames (Ok reply) → (key : K) →
       at state.seen state.cmp (state.kept after).held key
       ≡ greater_of state.seen (at state.seen state.cmp (state.kept before).held key) (at state.seen state.cmp (state.kept lent).held key)

@@ -8,7 +8,7 @@ use Rattle.am_instance.specs.declared.event.Event.{Event}
 use Rattle.am_instance.specs.declared.reply.Reply.{Reply}
 use Rattle.am_instance.specs.InstanceStates.{InstanceState}
 use Rattle.am_instance.specs.Steps.{IsAccepted}
-use Rattle.am_runs.specs.declared.step.Source.{Source}
+use Rattle.am_runs.specs.declared.step.DeliverySource.{DeliverySource}
 use Rattle.am_runs.specs.Steps.{RunStep, flights_of}
 use Rattle.am_cluster.specs.BothStates.{log_state, silence_state}
 use Rattle.am_cluster.specs.Recorded.{HasSource, event_step}
@@ -46,7 +46,7 @@ tell a w members silences log lines room = record { members = members; silences 
 pub can_have : (w v : World) (place : ℕ) (r : Replica) (event : Event) (now : ℕ) → w ≡ v → replica_at w place ≡ Some r → OfMember v place (λ replica. CanHave replica event now) → CanHave r event now
 can_have w v place r event now same found ready = ready r (subst (λ u. replica_at u place ≡ Some r) same found)
 
-module _ (w : World) (a : Account) (tells : Tells a w) (place now line : ℕ) (r : Replica) (event : Event) (source : Source) (is : IsWorld w) (found : replica_at w place ≡ Some r) where
+module _ (w : World) (a : Account) (tells : Tells a w) (place now line : ℕ) (r : Replica) (event : Event) (source : DeliverySource) (is : IsWorld w) (found : replica_at w place ≡ Some r) where
   abbrev entry : Entry
   entry = record { place = place; moment = now; source = source; line = line }
 

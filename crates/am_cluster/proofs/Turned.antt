@@ -17,8 +17,8 @@ use Rattle.am_instance.specs.Configs.{Settings}
 use Rattle.am_instance.specs.Steps.{collects, delivers, fault_of, knows_peer, peer_of}
 use Rattle.am_instance.specs.OneStep.{IsStep}
 use Rattle.am_cluster.proofs.States.{last_arrivals}
-use Rattle.am_runs.specs.declared.step.Source.{Source}
-use Rattle.am_runs.specs.declared.step.Source.TheVariants.{Lent, Made}
+use Rattle.am_runs.specs.declared.step.DeliverySource.{DeliverySource}
+use Rattle.am_runs.specs.declared.step.DeliverySource.TheVariants.{Lent, Made}
 use Rattle.am_cluster.specs.declared.error.ClusterError.{ClusterError}
 use Rattle.am_cluster.specs.declared.error.ClusterError.TheVariants as errors
 use Rattle.am_cluster.specs.Worlds.{Replica, World, replica_at}
@@ -36,14 +36,14 @@ use Rattle.am_cluster.proofs.Places.{got_other, got_set, set_length, some_is}
 -- ---- what an event that a member can have answers
 
 -- want of memory is all that is told of it
-memory_alone : (source : Source) (answer : Result Outcome StepError) (frames : List (ℕ × Frame)) (e : ClusterError) → IsTold source answer frames (Err e) → e ≡ errors.Memory
+memory_alone : (source : DeliverySource) (answer : Result Outcome StepError) (frames : List (ℕ × Frame)) (e : ClusterError) → IsTold source answer frames (Err e) → e ≡ errors.Memory
 memory_alone source (Ok outcome) frames e told = told.0
 memory_alone source (Err (Memory taken)) frames e told = told.0
 memory_alone source (Err (MomentBack last)) frames e told = absurd told
 memory_alone source (Err UnknownPeer) frames e told = absurd told
 memory_alone source (Err (FrameFault fault)) frames e told = absurd told
 
-module _ (old : World) (place : ℕ) (replica : Replica) (event : Event) (source : Source) (now line : ℕ) (new : World) where
+module _ (old : World) (place : ℕ) (replica : Replica) (event : Event) (source : DeliverySource) (now line : ℕ) (new : World) where
   pub happened_with : (reply : Reply) → IsEvent old place replica event source now line (Ok reply) new → HasHappened old place replica event source now line (Ok reply) new
   happened_with reply (inl unmade) = absurd (let e = unmade.error in cc)
   happened_with reply (inr happened) = happened
@@ -138,7 +138,7 @@ last_by before now false ds = last_arrivals to_silences now ds
 last_is : (before after : InstanceState) (event : Event) (now : ℕ) (outcome : Outcome) → IsStep before event now (Ok outcome) after → after.last ≡ now
 last_is before after event now outcome step = step.silences.last ∙ last_by before.last now (collects event) (delivers before.config.unknown event outcome.made)
 
-told_last : (source : Source) (before after : InstanceState) (event : Event) (now : ℕ) (answer : Result Outcome StepError) (frames : List (ℕ × Frame)) (reply : Reply) →
+told_last : (source : DeliverySource) (before after : InstanceState) (event : Event) (now : ℕ) (answer : Result Outcome StepError) (frames : List (ℕ × Frame)) (reply : Reply) →
     IsStep before event now answer after → IsTold source answer frames (Ok reply) → after.last ≡ now
 told_last source before after event now (Ok outcome) frames reply step told = last_is before after event now outcome step
 told_last source before after event now (Err (MomentBack last)) frames reply step told = absurd told
@@ -151,7 +151,7 @@ pub record StillCan (old : World) (now : ℕ) (new : World) : Type 0 where
   pub members : length new.replicas ≡ length old.replicas
   pub ready : CanSettle new now
 
-module _ (old : World) (place : ℕ) (replica : Replica) (event : Event) (source : Source) (now line : ℕ) (reply : Reply) (new : World) where
+module _ (old : World) (place : ℕ) (replica : Replica) (event : Event) (source : DeliverySource) (now line : ℕ) (reply : Reply) (new : World) where
   after_one : (q : ℕ) (r : Replica) (stand : InstanceState) → CanSettle old now → replica.runs ≡ true → stand.last ≡ now → replica_at old place ≡ Some replica →
       slice_get (set old.replicas place (with_stand replica stand)) q ≡ Some r → ((eqb place q ≡ true) × (place ≡ q)) ⊎ ((eqb place q ≡ false) × (place ≢ q)) → (r.runs ≡ true) × (r.stand.last ≤ now)
   after_one q r stand ready runs last found there (inl own) =

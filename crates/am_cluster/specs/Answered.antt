@@ -7,7 +7,7 @@ use Rattle.am_instance.specs.Replies.{IsReply}
 use Rattle.am_schedule.specs.declared.step.Action.{Action}
 use Rattle.am_schedule.specs.declared.step.Action.TheVariants as actions
 use Rattle.am_schedule.specs.declared.step.LineEvent.{LineEvent}
-use Rattle.am_runs.specs.declared.step.Source.{Source}
+use Rattle.am_runs.specs.declared.step.DeliverySource.{DeliverySource}
 use Rattle.am_cluster.specs.declared.resolved_event.ResolvedEvent.TheVariants as asked
 use Rattle.am_cluster.specs.LineEvents.{asked_by}
 use Rattle.am_cluster.specs.Replicas.{GoesOnAt}
@@ -30,7 +30,7 @@ pub record GoesOnBy (earlier later : World) (now : ℕ) : Type 0 where
 pub record Asks (world : World) (action : Action) (place : ℕ) (replica : Replica) (event : Event) (now : ℕ) : Type 0 where
   pub name : List ℕ
   pub line : LineEvent
-  pub source : Source
+  pub source : DeliverySource
   pub says : action ≡ actions.Event now name line
   pub named : place_in world name ≡ Some place
   pub found : replica_at world place ≡ Some replica

@@ -3,7 +3,7 @@ use Rattle.std.specs.Prelude.{◌≡◌, ◌⊎◌, ℕ, ◌+◌, Some, Result, 
 use Rattle.am_wire.specs.declared.unknown.Unknown.TheVariants.{Drop}
 use Rattle.am_instance.specs.declared.event.Event.TheVariants as events
 use Rattle.am_instance.specs.declared.reply.Reply.{Reply}
-use Rattle.am_runs.specs.declared.step.Source.TheVariants.{Arrived}
+use Rattle.am_runs.specs.declared.step.DeliverySource.TheVariants.{Arrived}
 use Rattle.am_cluster.specs.declared.resolved_event.ResolvedEvent.{ResolvedEvent}
 use Rattle.am_cluster.specs.declared.resolved_event.ResolvedEvent.TheVariants as asked
 use Rattle.am_cluster.specs.declared.flight.Arrival.{Arrival}

@@ -1,7 +1,7 @@
 -- A worked run of a durable member.
 use Rattle.std.specs.Prelude.{ℕ, List, [], ◌∷◌}
 use Rattle.am_version_order.specs.Versions.{Version}
-use Rattle.am_runs.specs.declared.step.Source.TheVariants.{Made, Written}
+use Rattle.am_runs.specs.declared.step.DeliverySource.TheVariants.{Made, Written}
 use Rattle.am_runs.specs.Examples.{spreading}
 use Rattle.am_runs.specs.Steps.{RunStep}
 use Rattle.am_runs.specs.Steps.RunStep.{Took, Saved, Stopped, Started}

@@ -4,7 +4,7 @@ use Rattle.am_wire.specs.declared.unknown.Unknown.{Unknown}
 use Rattle.am_silence.specs.declared.plan.Posted.{Posted}
 use Rattle.am_matcher.specs.declared.labels.Label.{Label}
 use Rattle.am_gossip.specs.declared.frame.Frame.TheVariants as frames
-use Rattle.am_runs.specs.declared.step.Source.TheVariants as sources
+use Rattle.am_runs.specs.declared.step.DeliverySource.TheVariants as sources
 use Rattle.am_instance.specs.Configs.{Settings, place_named}
 use Rattle.am_instance.specs.Deliveries.{Delivery}
 use Rattle.am_instance.specs.Steps.{fault_of, brought}

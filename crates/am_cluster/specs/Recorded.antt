@@ -8,8 +8,8 @@ use Rattle.am_gossip.specs.declared.frame.Frame.{Frame}
 use Rattle.am_merge.specs.Maps.{at}
 use Rattle.am_collect.specs.Events.{Events, last_moment}
 use Rattle.am_collect.specs.Kept.{Kept}
-use Rattle.am_runs.specs.declared.step.Source.{Source}
-use Rattle.am_runs.specs.declared.step.Source.TheVariants.{Made}
+use Rattle.am_runs.specs.declared.step.DeliverySource.{DeliverySource}
+use Rattle.am_runs.specs.declared.step.DeliverySource.TheVariants.{Made}
 use Rattle.am_runs.specs.Steps.{RunStep, SentFrame}
 use Rattle.am_runs.specs.Steps.RunStep.{Took, Ticked, Back, Refused}
 use Rattle.am_runs.specs.Members.{map_of}
@@ -42,7 +42,7 @@ module _ {K X : Type 0} (state : StateOf K X) (unknown : Unknown) where
 
   -- The recorded step of the member at a place, by its event, its answer and the frames that it left in flight. A step that memory
   -- stopped delivered only the first versions, and sent nothing.
-  abbrev pub event_step : ℕ → ℕ → Source → Event → Result Outcome StepError → List (ℕ × Frame) → RunStep X
+  abbrev pub event_step : ℕ → ℕ → DeliverySource → Event → Result Outcome StepError → List (ℕ × Frame) → RunStep X
   event_step place now source event (Ok outcome) frames =
       if collects event then Ticked place now else Took place now source (state.versions_in (delivers unknown event outcome.made)) (sent_in frames)
   event_step place now source event (Err (Memory taken)) frames = Took place now source (state.versions_in (take taken (brought unknown event))) []
@@ -50,7 +50,7 @@ module _ {K X : Type 0} (state : StateOf K X) (unknown : Unknown) where
   event_step place now source event (Err _) frames = Refused now
 
   -- a frame's versions come from where the source says, and everything else is made by the step
-  abbrev pub HasSource : ℕ → List (RunStep X) → ℕ → Event → Source → Type 0
+  abbrev pub HasSource : ℕ → List (RunStep X) → ℕ → Event → DeliverySource → Type 0
   HasSource members before now (events.Frame sender frame) source =
       AreFrom state.seen state.cmp members before now source (state.versions_in (carries unknown frame))
   HasSource members before now _ source = source ≡ Made

@@ -19,7 +19,7 @@ use Rattle.am_cluster.specs.Contents.{IsReadable}
 use Rattle.am_silence.specs.Mesh.{mesh_version}
 use Rattle.am_nflog.specs.Mesh.{mesh_version as entry_version}
 use Rattle.am_runs.specs.Settles.{join_of}
-use Rattle.am_runs.specs.declared.step.Source.TheVariants.{Made, Lent}
+use Rattle.am_runs.specs.declared.step.DeliverySource.TheVariants.{Made, Lent}
 use Rattle.am_runs.specs.Steps.RunStep.{Back, Refused}
 use Rattle.am_cluster.specs.Accounts.{Account}
 use Rattle.am_cluster.specs.declared.error.ClusterError.{ClusterError}

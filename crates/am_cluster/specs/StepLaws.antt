@@ -4,8 +4,8 @@ use Rattle.am_wire.specs.declared.unknown.Unknown.{Unknown}
 use Rattle.am_gossip.specs.declared.frame.Frame.{Frame}
 use Rattle.am_gossip.specs.declared.frame.Frame.TheVariants.{Pull}
 use Rattle.am_collect.specs.Kept.{Kept}
-use Rattle.am_runs.specs.declared.step.Source.{Source}
-use Rattle.am_runs.specs.declared.step.Source.TheVariants.{Arrived, Lent}
+use Rattle.am_runs.specs.declared.step.DeliverySource.{DeliverySource}
+use Rattle.am_runs.specs.declared.step.DeliverySource.TheVariants.{Arrived, Lent}
 use Rattle.am_runs.specs.Steps.{RunStep, flights_of}
 use Rattle.am_runs.specs.Steps.RunStep.{Started}
 use Rattle.am_runs.specs.Members.{Member, member_of, stepped}
@@ -28,7 +28,7 @@ module _ {K X : Type 0} (state : StateOf K X) where
   -- after a step, a member's map is what its past with the recorded step leaves
   abbrev pub MembersGoOn : Type 0
   MembersGoOn =
-      (m : Member X) (place now : ℕ) (source : Source) (old new : InstanceState) (event : Event) (answer : Result Outcome StepError)
+      (m : Member X) (place now : ℕ) (source : DeliverySource) (old new : InstanceState) (event : Event) (answer : Result Outcome StepError)
       (frames : List (ℕ × Frame)) →
       HasGoneThrough state m.past (state.kept old) → IsStep old event now answer new →
       HasGoneThrough state (stepped m (event_step state old.config.unknown place now source event answer frames)).past (state.kept new)
@@ -36,7 +36,7 @@ module _ {K X : Type 0} (state : StateOf K X) where
   -- a recorded step changes the member at its place
   abbrev pub OwnMemberChanges : Type 0
   OwnMemberChanges =
-      (unknown : Unknown) (members place now : ℕ) (source : Source) (before : List (RunStep X)) (event : Event) (answer : Result Outcome StepError)
+      (unknown : Unknown) (members place now : ℕ) (source : DeliverySource) (before : List (RunStep X)) (event : Event) (answer : Result Outcome StepError)
       (frames : List (ℕ × Frame)) →
       let step = event_step state unknown place now source event answer frames in
       member_of members place (before ++ step ∷ []) ≡ stepped (member_of members place before) step
@@ -44,7 +44,7 @@ module _ {K X : Type 0} (state : StateOf K X) where
   -- a recorded step changes no other member
   abbrev pub OthersStay : Type 0
   OthersStay =
-      (unknown : Unknown) (members place other now : ℕ) (source : Source) (before : List (RunStep X)) (event : Event) (answer : Result Outcome StepError)
+      (unknown : Unknown) (members place other now : ℕ) (source : DeliverySource) (before : List (RunStep X)) (event : Event) (answer : Result Outcome StepError)
       (frames : List (ℕ × Frame)) →
       place ≢ other →
       member_of members other (before ++ event_step state unknown place now source event answer frames ∷ []) ≡ member_of members other before
@@ -58,7 +58,7 @@ module _ {K X : Type 0} (state : StateOf K X) where
   -- a step of an instance that is a member of a run can have happened in it
   abbrev pub StepsArePossible : Type 0
   StepsArePossible =
-      (members place now : ℕ) (before : List (RunStep X)) (source : Source) (old new : InstanceState) (event : Event)
+      (members place now : ℕ) (before : List (RunStep X)) (source : DeliverySource) (old new : InstanceState) (event : Event)
       (answer : Result Outcome StepError) (frames : List (ℕ × Frame)) →
       let member = member_of members place before in
       (counts answer ≡ true → member.runs ≡ true) →
@@ -79,7 +79,7 @@ module _ {K X : Type 0} (state : StateOf K X) where
   -- the frames that a step left in flight are the flights that its recorded step adds
   abbrev pub FramesAreFlights : Type 0
   FramesAreFlights =
-      (place now : ℕ) (before : List (RunStep X)) (source : Source) (old new : InstanceState) (event : Event)
+      (place now : ℕ) (before : List (RunStep X)) (source : DeliverySource) (old new : InstanceState) (event : Event)
       (answer : Result Outcome StepError) (frames : List (ℕ × Frame)) →
       IsStep old event now answer new → AreInFlight answer frames →
       flights_of (before ++ event_step state old.config.unknown place now source event answer frames ∷ []) ≡ flights_of before ++ flights_in state old.config.unknown now frames

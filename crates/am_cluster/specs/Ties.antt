@@ -11,7 +11,7 @@ use Rattle.am_instance.specs.declared.reply.Outcome.{Outcome}
 use Rattle.am_instance.specs.Deliveries.{first_fault, rows_in, parts_of}
 use Rattle.am_instance.specs.InstanceStates.{InstanceState, HoldsWhole}
 use Rattle.am_instance.specs.OneStep.{IsStep}
-use Rattle.am_runs.specs.declared.step.Source.{Source}
+use Rattle.am_runs.specs.declared.step.DeliverySource.{DeliverySource}
 use Rattle.am_runs.specs.Steps.{RunStep, flights_by, flights_of, is_at}
 use Rattle.am_runs.specs.Members.{Member, member_of, map_of}
 use Rattle.am_cluster.specs.BothStates.{StateOf}
@@ -31,7 +31,7 @@ pub record IsTied {K X : Type 0} (state : StateOf K X) (member : Member X) (runn
 pub record WasHandedOut (flight : Flight) : Type 0 where
   pub stand : InstanceState
   pub event : Event
-  pub source : Source
+  pub source : DeliverySource
   pub outcome : Outcome
   pub after : InstanceState
   pub step : IsStep stand event flight.sent (Ok outcome) after

@@ -12,7 +12,7 @@ ghost use Rattle.am_cluster.specs.Worlds.{replica_at, with_room};
 
 use crate::flight::Flight;
 use crate::journal::{CalmReport, Journal};
-use crate::member::Member;
+use crate::member::ClusterMember;
 use am_instance::{Config, ConfigError, Instance, Place};
 use am_version_order::{Interval, Moment};
 use am_wire::Text;
@@ -25,7 +25,7 @@ use std::marker::Model;
 /// the number of further steps for which there is room.
 pub struct Cluster {
     pub(crate) alloc: Global,
-    pub(crate) members: Vec<Member>,
+    pub(crate) members: Vec<ClusterMember>,
     pub(crate) journal: Journal,
     pub(crate) flights: Vec<Flight>,
 }
@@ -72,14 +72,14 @@ impl Model for Cluster {
 }
 
 /// Returns a member for each place of a configuration, each of them empty.
-fn newborn_members(alloc: Global, config: &Config) -> Result<Vec<Member>, AllocError>
+fn newborn_members(alloc: Global, config: &Config) -> Result<Vec<ClusterMember>, AllocError>
     ensures { IfOk result (λ members. members.items ≡ newborns config.now) }
 {
     let count = config.members().len();
     let mut members = Vec::with_capacity(alloc, count)?;
     for place in 0..count {
         let own = config.for_member(place as u64)?;
-        members.push(Member::new(alloc, own))?;
+        members.push(ClusterMember::new(alloc, own))?;
     }
     Ok(members)
 }
@@ -115,7 +115,7 @@ impl Cluster {
     }
 
     /// Returns a cluster of these members, in which nothing has happened yet.
-    fn of(alloc: Global, members: Vec<Member>) -> Cluster
+    fn of(alloc: Global, members: Vec<ClusterMember>) -> Cluster
         requires { AreUnborn members.items }
         ensures members { result.replicas ≡ members.items }
         ensures silences { result.silences ≡ [] }

@@ -27,7 +27,7 @@ use crate::step_laws::{
 };
 use crate::writing::Entry;
 use am_instance::{Event, Instance, Outcome, Reply, StepError};
-use am_runs::Source;
+use am_runs::DeliverySource;
 use am_version_order::{Moment, Version, versions_are_values};
 use am_wire::Unknown;
 use std::alloc::{AllocError, Global};
@@ -122,7 +122,7 @@ impl Cluster {
         &mut self,
         place: usize,
         event: Event,
-        source: Source,
+        source: DeliverySource,
         now: Moment,
         line: u64,
     ) -> Result<Reply, ClusterError>

@@ -16,7 +16,7 @@ use crate::journal::Mark;
 use crate::refusals::event_refusal;
 use am_gossip::Frame;
 use am_instance::{Event, Place, Reply};
-use am_runs::Source;
+use am_runs::DeliverySource;
 use am_version_order::Moment;
 use std::alloc::AllocError;
 
@@ -124,6 +124,12 @@ impl Cluster {
             return Err(self.refuse_at(place, cause, now, line));
         }
         let event = self.event_of(&arrival)?;
-        self.apply_event(place, event, Source::Arrived(arrival.index), now, line)
+        self.apply_event(
+            place,
+            event,
+            DeliverySource::Arrived(arrival.index),
+            now,
+            line,
+        )
     }
 }

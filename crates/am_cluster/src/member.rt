@@ -20,13 +20,13 @@ pub(crate) struct Copy {
 
 /// A member: its instance, which runs or is stopped, and its last saved copy.
 #[derive(Drop)]
-pub(crate) struct Member {
+pub(crate) struct ClusterMember {
     pub(crate) instance: Instance,
     pub(crate) runs: bool,
     saved: Copy,
 }
 
-impl Model for Member {
+impl Model for ClusterMember {
     ghost use Rattle.am_cluster.specs.Worlds.{Replica};
 
     ghost Value = { Replica };
@@ -39,9 +39,9 @@ impl Model for Member {
     } };
 }
 
-impl Member {
+impl ClusterMember {
     /// Returns a member that runs and is empty, and of which nothing is saved. Nothing is allocated.
-    pub fn new(alloc: Global, config: Config) -> Member
+    pub fn new(alloc: Global, config: Config) -> ClusterMember
         ensures stand { result.stand ≡ record { config = config; silences = []; log = []; last = 0 } }
         ensures runs { result.runs ≡ true }
         ensures saved_silences { result.saved_silences ≡ [] }
@@ -52,7 +52,7 @@ impl Member {
             silences: Held::new(alloc),
             log: Held::new(alloc),
         };
-        Member {
+        ClusterMember {
             instance,
             runs: true,
             saved,

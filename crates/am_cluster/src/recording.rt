@@ -21,7 +21,7 @@ use crate::writing::{Delivered, Entry, write_event, write_silent};
 use am_gossip::Frame;
 use am_instance::{Event, Made, Outcome, Place, Reply, StepError, Unsent};
 use am_nflog::MeshEntry;
-use am_runs::Source;
+use am_runs::DeliverySource;
 use std::alloc::{AllocError, Global};
 
 /// The kind of an event, depending on the versions that it removes, brings or makes.
@@ -143,10 +143,10 @@ fn all_delivered(coming: PendingDelivery, made: Made) -> Delivered
 }
 
 /// Returns whether the frames of a step are dropped, as they are if a member takes the maps of another one.
-fn drops(source: Source) -> bool
+fn drops(source: DeliverySource) -> bool
     ensures { result ≡ drops source }
 {
-    matches!(source, Source::Lent { .. })
+    matches!(source, DeliverySource::Lent { .. })
 }
 
 /// Records an event that was answered.

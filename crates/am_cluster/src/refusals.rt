@@ -13,7 +13,7 @@ ghost use Rattle.am_cluster.specs.Worlds.{written};
 use crate::cluster::Cluster;
 use crate::error::ClusterError;
 use crate::journal::Mark;
-use crate::member::Member;
+use crate::member::ClusterMember;
 use am_instance::Config;
 use am_schedule::LineEvent;
 use am_version_order::Moment;
@@ -21,7 +21,11 @@ use std::alloc::AllocError;
 
 /// Returns the reason why a member refuses an event, or `None`. `known` says whether the member knows the peer. Nothing is
 /// allocated.
-pub(crate) fn event_refusal(member: &Member, known: bool, now: Moment) -> Option<ClusterError>
+pub(crate) fn event_refusal(
+    member: &ClusterMember,
+    known: bool,
+    now: Moment,
+) -> Option<ClusterError>
     ensures { result ≡ event_refusal known member.now now }
 {
     let last = member.instance.last();
@@ -37,7 +41,7 @@ pub(crate) fn event_refusal(member: &Member, known: bool, now: Moment) -> Option
 }
 
 /// Returns the reason why a member refuses a start, or `None`. Nothing is allocated.
-fn start_refusal(member: &Member, now: Moment) -> Option<ClusterError>
+fn start_refusal(member: &ClusterMember, now: Moment) -> Option<ClusterError>
     ensures { result ≡ start_refusal member.now now }
 {
     let last = member.instance.last();
@@ -65,7 +69,7 @@ fn names_peer(config: &Config, event: &LineEvent) -> bool
 }
 
 /// Returns the reason why a member refuses what a line asks for, or `None`. Nothing is allocated.
-fn refusal(member: &Member, event: &LineEvent, now: Moment) -> Option<ClusterError>
+fn refusal(member: &ClusterMember, event: &LineEvent, now: Moment) -> Option<ClusterError>
     ensures { result ≡ refused_anyway member.now (asked_by member.now.stand.config event.now) now }
 {
     match event {

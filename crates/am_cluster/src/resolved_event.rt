@@ -4,13 +4,16 @@ ghost use Rattle.std.specs.Prelude.{◌≡◌};
 ghost use Rattle.am_cluster.specs.LineEvents.{made};
 
 use am_instance::Event;
-use am_runs::Source;
+use am_runs::DeliverySource;
 
 /// The step that a line of a schedule asks of a member.
 #[derive(Drop)]
 pub enum ResolvedEvent {
     /// The member makes one step of its instance, with versions that come from the source.
-    Event { event: Event, source: Source },
+    Event {
+        event: Event,
+        source: DeliverySource,
+    },
     /// The member starts from its last save.
     Start,
     /// Nothing is asked: no member has the name of the peer.
@@ -23,6 +26,6 @@ pub(crate) fn made(event: Event) -> ResolvedEvent
 {
     ResolvedEvent::Event {
         event,
-        source: Source::Made,
+        source: DeliverySource::Made,
     }
 }

@@ -16,7 +16,7 @@ ghost use Rattle.am_instance.specs.Sendings.{whole_state};
 ghost use Rattle.am_instance.specs.Steps.{fault_of};
 ghost use Rattle.am_cluster.specs.BothStates.{log_state, silence_state};
 ghost use Rattle.am_cluster.specs.Contents.{IsReadable};
-ghost use Rattle.am_runs.specs.declared.step.Source.TheVariants.{Lent};
+ghost use Rattle.am_runs.specs.declared.step.DeliverySource.TheVariants.{Lent};
 ghost use Rattle.am_runs.specs.Members.{last_of, member_of};
 ghost use Rattle.am_cluster.specs.Recorded.{HasSource};
 ghost use Rattle.am_cluster.specs.Lives.{OfMember};
@@ -30,11 +30,11 @@ use crate::carried::laws::what_keeps_its_limit_is_readable;
 use crate::cluster::Cluster;
 use crate::error::SettleError;
 use crate::journal::{Journal, Mark};
-use crate::member::Member;
+use crate::member::ClusterMember;
 use crate::step_laws::lent_maps_come_from_their_lender;
 use am_gossip::Frame;
 use am_instance::{Event, Instance, Place, whole_state};
-use am_runs::Source;
+use am_runs::DeliverySource;
 use am_version_order::Moment;
 use std::alloc::{AllocError, Global};
 
@@ -86,7 +86,7 @@ impl Cluster {
         requires ready { CanSettle self.old now }
         ensures { AreTurns self.old (Collects place ∷ []) now line result self.new }
     {
-        match self.apply_event(place, Event::Tick, Source::Made, now, line) {
+        match self.apply_event(place, Event::Tick, DeliverySource::Made, now, line) {
             Ok(_reply) => Ok(()),
             Err(_) => Err(SettleError::Memory),
         }
@@ -108,7 +108,7 @@ impl Cluster {
     {
         let _ = &self.alloc;
         let event = self.lent_by(lender)?;
-        match self.apply_event(borrower, event, Source::Lent(lender), now, line) {
+        match self.apply_event(borrower, event, DeliverySource::Lent(lender), now, line) {
             Ok(_reply) => Ok(()),
             Err(_) => Err(SettleError::Memory),
         }
@@ -166,21 +166,21 @@ impl Cluster {
 }
 
 /// Returns whether a member is stopped.
-fn has_stopped(members: &[Member]) -> bool
+fn has_stopped(members: &[ClusterMember]) -> bool
     ensures { IsTrue result ↔ HasStopped members.now }
 {
     members.iter().any(|member| !member.runs)
 }
 
 /// Returns whether the last moment of any member is after this one.
-fn has_late(members: &[Member], now: Moment) -> bool
+fn has_late(members: &[ClusterMember], now: Moment) -> bool
     ensures { IsTrue result ↔ HasLate now members.now }
 {
     members.iter().any(|member| now < member.instance.last())
 }
 
 /// Records the refusal of a step with this moment by each member whose last moment is after it. Nothing is allocated.
-fn mark_late(journal: &mut Journal, members: &[Member], now: Moment, line: u64)
+fn mark_late(journal: &mut Journal, members: &[ClusterMember], now: Moment, line: u64)
     requires room { length members.now ≤ journal.old.room }
     requires told { (place : ℕ) (replica : Replica) → slice_get members.now place ≡ Some replica →
         replica.stand.last ≡ last_of (member_of journal.old.members place journal.old.silences) }

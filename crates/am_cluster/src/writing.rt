@@ -14,7 +14,7 @@ use crate::sending::{Sent, send_off, sent_in};
 use am_gossip::Frame;
 use am_instance::Place;
 use am_nflog::MeshEntry;
-use am_runs::{RunStep, Source};
+use am_runs::{DeliverySource, RunStep};
 use am_silence::MeshSilence;
 use am_version_order::Moment;
 use std::alloc::{AllocError, Global};
@@ -24,7 +24,7 @@ use std::alloc::{AllocError, Global};
 pub(crate) struct Entry {
     pub place: usize,
     pub moment: Moment,
-    pub source: Source,
+    pub source: DeliverySource,
     pub line: u64,
 }
 

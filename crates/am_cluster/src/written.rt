@@ -11,7 +11,7 @@ use crate::resolved_event::ResolvedEvent;
 use am_gossip::{Frame, Part, StateKey};
 use am_instance::{Event, Place};
 use am_nflog::MeshEntry;
-use am_runs::Source;
+use am_runs::DeliverySource;
 use am_schedule::{LogLine, SilenceLine, Versions};
 use am_silence::MeshSilence;
 use am_version_order::Moment;
@@ -64,6 +64,6 @@ pub(crate) fn from(
             sender,
             frame: Frame::Delta(part),
         },
-        source: Source::Written(sent),
+        source: DeliverySource::Written(sent),
     })
 }

@@ -1,5 +1,5 @@
 -- What a reader of rows answers without unknown fields, by what it answers with them.
-use Rattle.std.proofs.Common.{◌≡◌, ℕ, ◌<◌, ◌^◌, List, length, Option, Some, None, Result, Ok, Err, inl, inr, ap, sym, subst, ◌∙◌}
+use Rattle.std.proofs.Common.{◌≡◌, ℕ, ◌<◌, ◌^◌, List, length, Option, Some, Result, Ok, Err, inl, inr, ap, sym, subst, ◌∙◌}
 use Rattle.am_wire.specs.declared.error.WireError.{WireError}
 use Rattle.am_wire.specs.declared.reader.RowFault.{RowFault}
 use Rattle.am_wire.specs.declared.reader.RowFault.TheVariants.{Read, Wire, TooLarge, Ended, Memory}
@@ -24,17 +24,6 @@ module _ {A : Type 0} (plain : A → A) (reads : Unknown → ℕ → List ℕ �
       ((message, row, value_plain _ message v read), filled, within, is)
   answers_value Over bytes left v next (none, isnt, is) = absurd cc
   answers_value Refused bytes left v next (none, isnt, is) = absurd cc
-
-  pub answers_plain : (start : RowPosition) (bytes : List ℕ) (left : Option (List ℕ)) (v p : A) (next : RowPosition) → p ≡ plain v
-      → Answers (reads Keep) start bytes left (Ok (Some v)) next → Answers (reads Drop) start bytes left (Ok (Some p)) next
-  answers_plain start bytes left v p next is answer =
-      subst (λ (w : A). Answers (reads Drop) start bytes left (Ok (Some w)) next) (sym is) (answers_value start bytes left v next answer)
-
-  pub answers_none : (start : RowPosition) (bytes : List ℕ) (left : Option (List ℕ)) (next : RowPosition)
-      → Answers (reads Keep) start bytes left (Ok None) next → Answers (reads Drop) start bytes left (Ok None) next
-  answers_none (Before at limit) bytes left next answer = answer
-  answers_none Over bytes left next answer = answer
-  answers_none Refused bytes left next answer = answer
 
   pub answers_fault : (start : RowPosition) (bytes : List ℕ) (left : Option (List ℕ)) (fault : RowFault) (next : RowPosition)
       → Answers (reads Keep) start bytes left (Err fault) next → Answers (reads Drop) start bytes left (Err fault) next

@@ -19,7 +19,7 @@ module _ {K X S W : Type 0} (seen : X → Version K) (cmp : K → K → Ordering
     (inputs : List (Input S)) (contents : W → Option (List ℕ)) where
   pub unsaved_fold : (old new : W) (sources : List (Source X)) (held : List X) → AllZip (IsRead seen cmp gives) inputs sources
       → IsFoldOf seen cmp sources held → (e : SnapshotError) → StopsSaving contents old new (row_encoding seen held) e
-      → StopsTelling seen cmp gives inputs contents (IsFoldRow seen cmp) stops old new (stopped.Told e)
+      → StopsTelling seen cmp gives inputs contents (IsFoldRow seen cmp) stops old new (stopped.Output e)
   unsaved_fold old new sources held read folded (Write k) saving = record {
     sources = sources;
     read = read;

@@ -11,12 +11,12 @@ use Rattle.am_version_order.specs.Versions.{Version}
 use Rattle.am_report.specs.Sources.{Source}
 use Rattle.am_report.specs.Written.{AreLines}
 use Rattle.am_report.specs.Json.Written.{IsLine}
-use Rattle.am_report.specs.declared.format.Format.{Format}
+use Rattle.am_report.specs.declared.format.LineFormat.{LineFormat}
 use Rattle.am_wire.specs.declared.rows.TheConstants.{MOST_MESSAGE_BYTES}
 use Rattle.am_wire.specs.declared.unknown.Unknown.TheVariants.{Drop, Keep}
 use Rattle.am_options.specs.declared.job.DiffJob.{DiffJob}
-use Rattle.am_options.specs.declared.job.Report.{Report}
-use Rattle.am_options.specs.declared.job.Report.TheVariants as reports
+use Rattle.am_options.specs.declared.job.DiffForm.{DiffForm}
+use Rattle.am_options.specs.declared.job.DiffForm.TheVariants as reports
 use Rattle.am_snapshot.specs.declared.error.SnapshotError.{SnapshotError}
 use Rattle.am_snapshot.specs.declared.error.SnapshotError.TheVariants.{Write, Memory}
 use Rattle.am_commands.specs.declared.diff.Comparison.{Comparison}
@@ -46,10 +46,10 @@ diff_reading job is_live = record { state = job.state; keys = Repeated; most = M
 abbrev pub diff_wants : DiffJob → Bool → Wanted
 diff_wants job is_live = wanted_by job.sources.items job.has_logs (diff_reading job is_live)
 
-module _ {K X : Type 0} (seen : X → Version K) (cmp : K → K → Ordering) (begins : K → List ℕ) (told : Format → X → List ℕ)
-    (more : Format → X → X → List ℕ) (by : X → X → List ℕ) (key_data : K → Data) (name : List ℕ) (value : ℕ → X → Data) (how : Comparison) where
+module _ {K X : Type 0} (seen : X → Version K) (cmp : K → K → Ordering) (begins : K → List ℕ) (told : LineFormat → X → List ℕ)
+    (more : LineFormat → X → X → List ℕ) (by : X → X → List ℕ) (key_data : K → Data) (name : List ℕ) (value : ℕ → X → Data) (how : Comparison) where
   -- the text tells all differences of the sources in this form, and `found` says whether there is one
-  abbrev pub IsReportIn : Report → List (Source X) → Bool → List ℕ → Type 0
+  abbrev pub IsReportIn : DiffForm → List (Source X) → Bool → List ℕ → Type 0
   IsReportIn reports.Lines sources found text =
       AreLines seen cmp begins (told how.format) (more how.format) by how.compared how.format.moment sources found text
   IsReportIn reports.Json sources found text =
@@ -81,6 +81,6 @@ module _ {K X : Type 0} (seen : X → Version K) (cmp : K → K → Ordering) (b
       → {W : Type 0} → (W → Option (List ℕ)) → W → W → Stopped → Type 0
   StopsDiff gives stops inputs contents old new (stopped.Source number fault) =
       (new ≡ old) × IsFirstAtFault seen cmp gives stops inputs number fault
-  StopsDiff gives stops inputs contents old new (stopped.Told Memory) = new ≡ old
-  StopsDiff gives stops inputs contents old new (stopped.Told e) =
+  StopsDiff gives stops inputs contents old new (stopped.Output Memory) = new ≡ old
+  StopsDiff gives stops inputs contents old new (stopped.Output e) =
       (sources : List (Source X)) × AllZip (IsRead seen cmp gives) inputs sources × StopsReport sources contents old new e

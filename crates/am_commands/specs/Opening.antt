@@ -8,7 +8,7 @@ use Rattle.am_commands.specs.Statuses.{stopped_status}
 use Rattle.am_commands.specs.declared.fault.SourceFault.{SourceFault}
 use Rattle.am_commands.specs.declared.fault.Stopped.{Stopped}
 use Rattle.am_commands.specs.declared.fault.Stopped.TheVariants as stopped
-use Rattle.am_commands.specs.declared.opened.Asked.{Asked}
+use Rattle.am_commands.specs.declared.opened.SourceRequest.{SourceRequest}
 use Rattle.am_commands.specs.declared.opened.Reading.{Reading}
 use Rattle.am_commands.specs.declared.source.Input.{Input}
 
@@ -31,15 +31,15 @@ pub record Wanted : Type 0 where
 abbrev pub wanted_by : List SourceWord → Bool → Reading → Wanted
 wanted_by words has_logs reading = record { names = map named_of words; has_logs = has_logs; reading = reading }
 
-module _ {S : Type 0} (opens : Asked → Result S SourceFault → Type 0) (wanted : Wanted) where
+module _ {S : Type 0} (opens : SourceRequest → Result S SourceFault → Type 0) (wanted : Wanted) where
   -- the source that is asked for by a word
-  abbrev pub asked_by : SourceWord → Asked
-  asked_by word = record { word = word; has_logs = wanted.has_logs; reading = wanted.reading }
+  abbrev pub request_of : SourceWord → SourceRequest
+  request_of word = record { word = word; has_logs = wanted.has_logs; reading = wanted.reading }
 
   -- the input has the name of the word, and the source that opening it gave
   pub record IsOpened (word : SourceWord) (input : Input S) : Type 0 where
     pub name : input.name.now ≡ word.name.now
-    pub source : opens (asked_by word) (Ok input.source)
+    pub source : opens (request_of word) (Ok input.source)
 
   -- the inputs are the sources that are wanted, in their order, each once
   pub record AreOpened (inputs : List (Input S)) : Type 0 where
@@ -53,12 +53,12 @@ module _ {S : Type 0} (opens : Asked → Result S SourceFault → Type 0) (wante
     pub names : map named_of words ≡ wanted.names
     pub inside : number < length words
     pub before : (inputs : List (Input S)) × AllZip IsOpened (take number words) inputs
-    pub here : (d : SourceWord) → opens (asked_by (slice_index_or words number d)) (Err fault)
+    pub here : (d : SourceWord) → opens (request_of (slice_index_or words number d)) (Err fault)
 
   -- the first source that isn't opened; or memory ran out
   abbrev pub StopsOpening : Stopped → Type 0
   StopsOpening (stopped.Source number fault) = IsFirstUnopened number fault
-  StopsOpening (stopped.Told e) = e ≡ Memory
+  StopsOpening (stopped.Output e) = e ≡ Memory
 
   -- all sources were opened, and this came of them
   pub record ComesOf (Comes : List (Input S) → Type 0) : Type 0 where

@@ -30,4 +30,4 @@ module _ {K X S : Type 0} (seen : X → Version K) (cmp : K → K → Ordering) 
     -- the first source that is at fault; or memory ran out
     abbrev pub StopsReading : List (Input S) → Stopped → Type 0
     StopsReading inputs (stopped.Source number fault) = IsFirstAtFault inputs number fault
-    StopsReading inputs (stopped.Told e) = e ≡ Memory
+    StopsReading inputs (stopped.Output e) = e ≡ Memory

@@ -18,7 +18,7 @@ use Rattle.am_options.specs.declared.job.Form.TheVariants.{Lines, Json}
 use Rattle.am_commands.specs.declared.fault.SourceFault.{SourceFault}
 use Rattle.am_commands.specs.declared.fault.Stopped.{Stopped}
 use Rattle.am_commands.specs.declared.fault.Stopped.TheVariants as stopped
-use Rattle.am_commands.specs.declared.opened.Asked.{Asked}
+use Rattle.am_commands.specs.declared.opened.SourceRequest.{SourceRequest}
 use Rattle.am_commands.specs.declared.opened.Keys.TheVariants.{Once}
 use Rattle.am_commands.specs.declared.opened.Reading.{Reading}
 
@@ -31,10 +31,10 @@ file_or_input (Some file) = file.now
 abbrev pub show_reading : ShowJob → Reading
 show_reading job = record { state = job.state; keys = Once; most = MOST_MESSAGE_BYTES; unknown = job.unknown }
 
-module _ {S : Type 0} (opens : Asked → Result S SourceFault → Type 0) (job : ShowJob) where
+module _ {S : Type 0} (opens : SourceRequest → Result S SourceFault → Type 0) (job : ShowJob) where
   -- opening the file of the job gave this
   pub record OpensFile (gave : Result S SourceFault) : Type 0 where
-    pub asked : Asked
+    pub asked : SourceRequest
     pub file : asked.word.file.now ≡ file_or_input job.file
     pub logs : asked.has_logs ≡ job.has_logs
     pub reading : asked.reading ≡ show_reading job
@@ -64,5 +64,5 @@ module _ {K X S W : Type 0} (seen : X → Version K) (cmp : K → K → Ordering
   -- the source is at fault, and the writer is as it was; or it was read, and writing its text stopped
   abbrev pub StopsShowing : W → W → Stopped → Type 0
   StopsShowing old new (stopped.Source number fault) = (number ≡ 0) × (new ≡ old) × stops source fault
-  StopsShowing old new (stopped.Told e) =
+  StopsShowing old new (stopped.Output e) =
       (held : List X) × IsMap seen cmp held × gives source held × StopsWriting contents old new (text held) e

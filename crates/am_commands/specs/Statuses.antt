@@ -15,4 +15,4 @@ source_status (Words words) = 1
 -- of the fault that stopped it
 abbrev pub stopped_status : Stopped → ℕ
 stopped_status (stopped.Source number fault) = source_status fault
-stopped_status (stopped.Told error) = row_status error
+stopped_status (stopped.Output error) = row_status error

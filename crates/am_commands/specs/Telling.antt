@@ -36,7 +36,7 @@ module _ {K X S W : Type 0} (seen : X → Version K) (cmp : K → K → Ordering
   -- the first source at fault, or want of memory or of room, before a byte goes out; or a write that failed
   abbrev pub StopsTelling : (S → SourceFault → Type 0) → W → W → Stopped → Type 0
   StopsTelling stops old new (stopped.Source number fault) = (new ≡ old) × IsFirstAtFault seen cmp gives stops inputs number fault
-  StopsTelling stops old new (stopped.Told (Write k)) = IsToldTo k old new
-  StopsTelling stops old new (stopped.Told TooLarge) = new ≡ old
-  StopsTelling stops old new (stopped.Told Memory) = new ≡ old
-  StopsTelling stops old new (stopped.Told _) = ⊥
+  StopsTelling stops old new (stopped.Output (Write k)) = IsToldTo k old new
+  StopsTelling stops old new (stopped.Output TooLarge) = new ≡ old
+  StopsTelling stops old new (stopped.Output Memory) = new ≡ old
+  StopsTelling stops old new (stopped.Output _) = ⊥

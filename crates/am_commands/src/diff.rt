@@ -16,14 +16,14 @@ use crate::host::{Host, Streams};
 use crate::live::Shown;
 use crate::losses::{HasLosses, warn_of_sources};
 use crate::moment::{moment_of, warn};
-use crate::opened::{Asked, Keys, Opened, Reading, Row, open};
+use crate::opened::{Keys, Opened, Reading, Row, SourceRequest, open};
 use crate::replica::told_by;
 use crate::source::{Input, Source, inputs_of, read_sources};
 use am_diagnostics::{report, status};
 use am_nflog::MeshEntry;
-use am_options::{DiffJob, PullJob, Report, StateName};
+use am_options::{DiffForm, DiffJob, PullJob, StateName};
 use am_report::{
-    Compared, Format, InJson, Replica, ReportLine, has_later_source, write_differences,
+    Compared, InJson, LineFormat, Replica, ReportLine, has_later_source, write_differences,
     write_differences_json,
 };
 use am_silence::MeshSilence;
@@ -64,7 +64,7 @@ fn diff_named<
     R: Host,
     V: ReportLine + InJson,
     S: Source<V> + HasLosses,
-    F: Fn(Asked<'a>) -> Result<S, SourceFault>,
+    F: Fn(SourceRequest<'a>) -> Result<S, SourceFault>,
     W: Write,
 >(rt: &R, job: &DiffJob<'a>, now: Moment, is_live: bool, source_of: F, writer: &mut W) -> u8
     requires { F.IsAlwaysCallable source_of }
@@ -133,9 +133,9 @@ fn tell<R: Host>(rt: &R, job: &DiffJob<'_>, outcome: Outcome) -> u8
 #[derive(Clone, Copy)]
 pub struct Comparison {
     pub compared: Compared,
-    pub report: Report,
+    pub report: DiffForm,
     /// The moment, and the form of lines.
-    pub format: Format,
+    pub format: LineFormat,
 }
 
 /// Returns what of a job's sources is compared at a moment, and how that is told: API v2, and so a comparison with a server,
@@ -146,7 +146,7 @@ fn comparison_of(job: &DiffJob<'_>, now: Moment, is_live: bool) -> Comparison
     Comparison {
         compared: job.compared,
         report: job.report,
-        format: Format {
+        format: LineFormat {
             moment: now,
             has_expiries: !is_live,
             is_long: job.is_long,
@@ -177,9 +177,9 @@ pub fn open_source<R: Host>(
     rt: &R,
     input: Stdin,
     time_limit: Duration,
-    asked: Asked<'_>,
+    asked: SourceRequest<'_>,
 ) -> Result<Opened<BufReader<Row>>, SourceFault> {
-    let Asked { word, reading, .. } = asked;
+    let SourceRequest { word, reading, .. } = asked;
     let Some(replica) = word.replica() else {
         return open(rt, input, asked);
     };
@@ -211,15 +211,15 @@ fn write_report<V: ReportLine + InJson, W: Write>(
 {
     let format = &how.format;
     match how.report {
-        Report::Lines => write_differences(alloc, replicas, how.compared, format, writer),
-        Report::Json => write_differences_json(
+        DiffForm::Lines => write_differences(alloc, replicas, how.compared, format, writer),
+        DiffForm::Json => write_differences_json(
             alloc,
             replicas,
             how.compared,
             format.moment,
             writer,
         ),
-        Report::Figures => write_figures(alloc, replicas, how.compared, format.moment, writer),
+        DiffForm::Figures => write_figures(alloc, replicas, how.compared, format.moment, writer),
     }
 }
 
@@ -229,7 +229,7 @@ fn write_report<V: ReportLine + InJson, W: Write>(
 ///
 /// # Errors
 ///
-/// Those of [`read_sources`], before a byte goes out, and then [`Stopped::Told`] if memory runs out or a write fails.
+/// Those of [`read_sources`], before a byte goes out, and then [`Stopped::Output`] if memory runs out or a write fails.
 pub fn diff_sources<V: ReportLine + InJson, S: Source<V>, W: Write>(
     alloc: Global,
     inputs: &mut [Input<'_, S>],
@@ -256,6 +256,6 @@ pub fn diff_sources<V: ReportLine + InJson, S: Source<V>, W: Write>(
     mem::forget(replicas);
     match written {
         Ok(found) => Ok(Outcome { found, has_later }),
-        Err(error) => Err(Stopped::Told(error)),
+        Err(error) => Err(Stopped::Output(error)),
     }
 }

@@ -38,7 +38,7 @@ pub enum Stopped {
     /// The source of this number, from 0 on, is at fault.
     Source { number: usize, fault: SourceFault },
     /// No source is: memory ran out, or what is told of them is too large or isn't written.
-    Told(SnapshotError),
+    Output(SnapshotError),
 }
 
 impl Stopped {
@@ -51,29 +51,29 @@ impl Stopped {
     pub fn number(&self) -> Option<usize> {
         match self {
             Stopped::Source { number, .. } => Some(*number),
-            Stopped::Told(_) => None,
+            Stopped::Output(_) => None,
         }
     }
 }
 
 impl From<SnapshotError> for Stopped {
-    ghost use Rattle.am_commands.specs.declared.fault.Stopped.TheVariants.{Told};
+    ghost use Rattle.am_commands.specs.declared.fault.Stopped.TheVariants.{Output};
 
-    ghost from_gives = { λ error stopped. stopped ≡ Told error };
+    ghost from_gives = { λ error stopped. stopped ≡ Output error };
 
     fn from(error: SnapshotError) -> Stopped {
-        Stopped::Told(error)
+        Stopped::Output(error)
     }
 }
 
 impl From<AllocError> for Stopped {
     ghost use Rattle.am_snapshot.specs.declared.error.SnapshotError.TheVariants.{Memory};
-    ghost use Rattle.am_commands.specs.declared.fault.Stopped.TheVariants.{Told};
+    ghost use Rattle.am_commands.specs.declared.fault.Stopped.TheVariants.{Output};
 
-    ghost from_gives = { λ _ stopped. stopped ≡ Told Memory };
+    ghost from_gives = { λ _ stopped. stopped ≡ Output Memory };
 
     fn from(_error: AllocError) -> Stopped {
-        Stopped::Told(SnapshotError::Memory)
+        Stopped::Output(SnapshotError::Memory)
     }
 }
 
@@ -97,7 +97,7 @@ pub fn report_stopped<R: Host>(rt: &R, name: Option<&str>, stopped: &Stopped) ->
     ensures some { (1 ≤ result) × (result ≤ 4) }
 {
     match stopped {
-        Stopped::Told(error) => report(rt, Fault::Snapshot(*error)),
+        Stopped::Output(error) => report(rt, Fault::Snapshot(*error)),
         Stopped::Source { fault, .. } => report_of_source(rt, name, fault),
     }
 }

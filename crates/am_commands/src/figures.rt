@@ -7,7 +7,7 @@ ghost use Rattle.am_report.specs.Sources.{rest_of};
 ghost use Rattle.am_report.specs.Views.{StopsWriting};
 ghost use Rattle.am_commands.specs.Figures.{AreFigures, IsFound, StopsFigures};
 
-use am_metrics::{Family, Label, MetricType, Number, Sample, write_families};
+use am_metrics::{Family, MetricLabel, MetricType, Number, Sample, write_families};
 use am_report::{Compared, InJson, MergeCursor, Replica, greatest_of, next_difference, sides_of};
 use am_snapshot::SnapshotError;
 use am_version_order::{Moment, Version};
@@ -83,9 +83,9 @@ fn tallies_of<V: Version>(
 }
 
 /// Returns a label of a figure.
-fn label(alloc: Global, name: &'static str, value: &str) -> Result<Label, AllocError> {
+fn label(alloc: Global, name: &'static str, value: &str) -> Result<MetricLabel, AllocError> {
     let value = Text::new(String::from_str(alloc, value)?);
-    Ok(Label { name, value })
+    Ok(MetricLabel { name, value })
 }
 
 /// Returns the figure of a source: at how many keys it stands so to the greatest version.

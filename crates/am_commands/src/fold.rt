@@ -8,7 +8,7 @@ ghost use Rattle.am_commands.specs.Telling.{IsTold, StopsTelling};
 use crate::fault::{SourceFault, Stopped, add, report_stopped};
 use crate::host::{Host, Streams};
 use crate::losses::{HasLosses, warn_of_sources};
-use crate::opened::{Asked, Keys, Reading, Unopened};
+use crate::opened::{Keys, Reading, SourceRequest, Unopened};
 use crate::source::{Input, Source, inputs_of, join_sources};
 use am_diagnostics::status;
 use am_merge::Held;
@@ -39,7 +39,7 @@ fn fold_files<
     R: Host,
     V: Version,
     S: Source<V> + HasLosses,
-    F: Fn(Asked<'a>) -> Result<S, SourceFault>,
+    F: Fn(SourceRequest<'a>) -> Result<S, SourceFault>,
     W: Write,
 >(rt: &R, job: &FoldJob<'a>, source_of: F, writer: &mut W) -> u8
     requires { F.IsAlwaysCallable source_of }
@@ -73,7 +73,7 @@ fn name_of<'a>(job: &FoldJob<'a>, stopped: &Stopped) -> Option<&'a str> {
 }
 
 /// Opens the sources of a job.
-fn inputs_named<'a, S: Drop, F: Fn(Asked<'a>) -> Result<S, SourceFault>>(
+fn inputs_named<'a, S: Drop, F: Fn(SourceRequest<'a>) -> Result<S, SourceFault>>(
     alloc: Global,
     job: &FoldJob<'a>,
     source_of: F,
@@ -144,6 +144,6 @@ pub fn fold_sources<V: Version, S: Source<V>, W: Write>(
     mem::forget(folded);
     match written {
         Ok(_) => Ok(()),
-        Err(error) => Err(Stopped::Told(error)),
+        Err(error) => Err(Stopped::Output(error)),
     }
 }

@@ -10,11 +10,11 @@ use crate::diff::open_source;
 use crate::fault::SourceFault;
 use crate::host::Host;
 use crate::losses::HasLosses;
-use crate::opened::Asked;
+use crate::opened::SourceRequest;
 use crate::source::Source;
 use am_diagnostics::Fault;
 use am_merge::Held;
-use am_peers::{Server, body_of, fetch, held_of, shown_of_row};
+use am_peers::{HttpServer, body_of, fetch, held_of, shown_of_row};
 use am_report::Losses;
 use am_silence::MeshSilence;
 use am_silence_json::read_silences;
@@ -29,12 +29,17 @@ pub struct Shown<'a, R> {
     input: Stdin,
     /// The most time that a connection to a server may last.
     time_limit: Duration,
-    asked: Asked<'a>,
+    asked: SourceRequest<'a>,
 }
 
 impl<'a, R: Host> Shown<'a, R> {
     /// Returns a source that is asked for, and isn't read yet.
-    pub fn new(rt: &'a R, input: Stdin, time_limit: Duration, asked: Asked<'a>) -> Shown<'a, R>
+    pub fn new(
+        rt: &'a R,
+        input: Stdin,
+        time_limit: Duration,
+        asked: SourceRequest<'a>,
+    ) -> Shown<'a, R>
         ensures { result.asked ≡ asked.entry }
     {
         Shown {
@@ -89,7 +94,7 @@ fn shown_by_row<R: Host>(
     rt: &R,
     input: Stdin,
     time_limit: Duration,
-    asked: Asked<'_>,
+    asked: SourceRequest<'_>,
 ) -> Result<Held<MeshSilence>, SourceFault>
     ensures { IfOk result (IsMap mesh_version (slice_cmp nat_cmp)) }
 {
@@ -115,7 +120,7 @@ fn shown_of(alloc: Global, held: &Held<MeshSilence>) -> Result<Held<MeshSilence>
 /// Returns the silences that a server shows.
 fn shown_by_server<R: Host>(
     rt: &R,
-    server: &Server<'_>,
+    server: &HttpServer<'_>,
     time_limit: Duration,
 ) -> Result<Held<MeshSilence>, Fault>
     ensures { IfOk result (IsMap mesh_version (slice_cmp nat_cmp)) }

@@ -13,7 +13,7 @@ use am_diagnostics::{Fault, report, status};
 use am_merge::Held;
 use am_nflog::MeshEntry;
 use am_options::{MendJob, PullJob, StateName};
-use am_report::{Compared, Format, Replica, ReportLine, write_differences};
+use am_report::{Compared, LineFormat, Replica, ReportLine, write_differences};
 use am_silence::MeshSilence;
 use am_snapshot::load_bytes;
 use am_version_order::{Moment, Version};
@@ -127,14 +127,14 @@ fn tell<V: ReportLine, W: Write>(
     now: Moment,
     output: &mut W,
 ) -> Result<bool, Stopped> {
-    let format = Format {
+    let format = LineFormat {
         moment: now,
         has_expiries: true,
         is_long: true,
     };
     match write_differences(alloc, replicas, Compared::Shown, &format, output) {
         Ok(found) => Ok(found),
-        Err(error) => Err(Stopped::Told(error)),
+        Err(error) => Err(Stopped::Output(error)),
     }
 }
 

@@ -14,7 +14,7 @@ use am_matcher::Hazard;
 use am_memberlist::states_encoding;
 use am_merge::Held;
 use am_options::PullJob;
-use am_report::{Format, ListedWord, ReportLine};
+use am_report::{LineFormat, ListedWord, ReportLine};
 use am_snapshot::SnapshotError;
 use am_version_order::{Moment, Version};
 use am_wire::writing::append_delimited;
@@ -248,7 +248,7 @@ fn append_line<V: ReportLine>(
     to: Addressee<'_>,
     moment: Moment,
 ) -> Result<(), AllocError> {
-    let format = Format {
+    let format = LineFormat {
         moment,
         has_expiries: true,
         is_long: false,

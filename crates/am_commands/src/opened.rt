@@ -128,7 +128,7 @@ pub struct Reading {
 
 /// A source that is asked for: the words that name it, and the way in which it is read.
 #[derive(Clone, Copy)]
-pub struct Asked<'a> {
+pub struct SourceRequest<'a> {
     pub word: SourceWord<'a>,
     /// True if the logs beside its file are read too.
     pub has_logs: bool,
@@ -251,9 +251,9 @@ pub fn join_logs<V: Version + Message>(
 pub fn open<R: Host>(
     rt: &R,
     input: Stdin,
-    asked: Asked<'_>,
+    asked: SourceRequest<'_>,
 ) -> Result<Opened<BufReader<Row>>, SourceFault> {
-    let Asked {
+    let SourceRequest {
         word: SourceWord { file, .. },
         has_logs,
         reading,
@@ -299,14 +299,14 @@ fn are_there(logs: &Option<Logs>) -> bool {
 pub struct Unopened<'a, R> {
     rt: &'a R,
     input: Stdin,
-    asked: Asked<'a>,
+    asked: SourceRequest<'a>,
     /// The losses of the versions that were read, if they are noted.
     losses: Losses,
 }
 
 impl<'a, R: Host> Unopened<'a, R> {
     /// Returns a source that is asked for, and isn't read yet.
-    pub fn new(rt: &'a R, input: Stdin, asked: Asked<'a>) -> Unopened<'a, R>
+    pub fn new(rt: &'a R, input: Stdin, asked: SourceRequest<'a>) -> Unopened<'a, R>
         ensures { result.asked ≡ asked.entry }
     {
         Unopened {

@@ -50,7 +50,7 @@ fn pull<R: Host>(rt: &R, streams: Streams, job: &PullJob<'_>) -> Result<(), Stop
     };
     match written {
         Ok(_) => Ok(()),
-        Err(error @ SnapshotError::Write { .. }) => Err(Stopped::Told(error)),
+        Err(error @ SnapshotError::Write { .. }) => Err(Stopped::Output(error)),
         Err(error) => Err(Stopped::of_first(SourceFault::Own(Fault::Snapshot(error)))),
     }
 }

@@ -93,7 +93,7 @@ fn tell_refused<V: Candidate + Message + ReportLine, W: Write>(
 pub fn write_text<W: Write>(output: &mut W, text: &[u8]) -> Result<(), Stopped> {
     match send(output, text) {
         Ok(()) => Ok(()),
-        Err(fault) => Err(Stopped::Told(SnapshotError::from(fault))),
+        Err(fault) => Err(Stopped::Output(SnapshotError::from(fault))),
     }
 }
 
@@ -118,7 +118,7 @@ fn read_mending<V: Version + Message, I: Read>(
     let row = read_all(alloc, input)?;
     let all = match take_row(alloc, Unknown::Keep, &mut row.as_slice()) {
         Ok(all) => all,
-        Err(fault) => return Err(Stopped::Told(SnapshotError::from(fault))),
+        Err(fault) => return Err(Stopped::Output(SnapshotError::from(fault))),
     };
     let mut rows = Vec::new(alloc);
     add(&mut rows, row)?;

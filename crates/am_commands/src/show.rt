@@ -12,7 +12,7 @@ use crate::fault::{SourceFault, Stopped, report_stopped};
 use crate::host::{Host, Streams};
 use crate::losses::{HasLosses, warn_of_source};
 use crate::moment::{moment_of, warn};
-use crate::opened::{Asked, Keys, Reading, Unopened};
+use crate::opened::{Keys, Reading, SourceRequest, Unopened};
 use crate::source::Source;
 use am_diagnostics::{report, status};
 use am_merge::Held;
@@ -51,7 +51,7 @@ fn show_file<
     R: Host,
     V: Viewed + InJson,
     S: Source<V> + HasLosses,
-    F: Fn(Asked<'a>) -> Result<S, SourceFault>,
+    F: Fn(SourceRequest<'a>) -> Result<S, SourceFault>,
     W: Write,
 >(rt: &R, job: &ShowJob<'a>, now: Moment, source_of: F, writer: &mut W) -> u8
     requires { F.IsAlwaysCallable source_of }
@@ -66,7 +66,7 @@ fn show_file<
         (λ source. StopsShowing V.seen V.Key.cmp S.gives S.stops (shown_text V.seen V.lines V.value job.entry.now.form now) source W.contents writer.old writer.new)
         writer.old writer.new) result }
 {
-    let mut source = match source_of(asked_by(job)) {
+    let mut source = match source_of(request_of(job)) {
         Ok(source) => source,
         Err(fault) => {
             return report_stopped(rt, job.file, &Stopped::Source { number: 0, fault });
@@ -85,7 +85,7 @@ fn show_file<
 }
 
 /// Returns the source of a job: its file, or standard input if it names none.
-fn asked_by<'a>(job: &ShowJob<'a>) -> Asked<'a>
+fn request_of<'a>(job: &ShowJob<'a>) -> SourceRequest<'a>
     ensures file { result.word.file.now ≡ file_or_input job.entry.now.file }
     ensures logs { result.has_logs ≡ job.entry.now.has_logs }
     ensures reading { result.reading ≡ show_reading job.entry.now }
@@ -94,7 +94,7 @@ fn asked_by<'a>(job: &ShowJob<'a>) -> Asked<'a>
         Some(file) => file,
         None => STANDARD_INPUT,
     };
-    Asked {
+    SourceRequest {
         word: SourceWord { name: file, file },
         has_logs: job.has_logs,
         reading: Reading {
@@ -182,7 +182,7 @@ fn write_form<V: Viewed + InJson, W: Write>(
 ///
 /// # Errors
 ///
-/// [`Stopped::Source`] with the fault of the source, before a byte goes out, and then [`Stopped::Told`] if memory runs out or
+/// [`Stopped::Source`] with the fault of the source, before a byte goes out, and then [`Stopped::Output`] if memory runs out or
 /// a write fails.
 pub fn show_source<V: Viewed + InJson, S: Source<V>, W: Write>(
     alloc: Global,
@@ -209,6 +209,6 @@ pub fn show_source<V: Viewed + InJson, S: Source<V>, W: Write>(
     mem::forget(held);
     match written {
         Ok(_) => Ok(has_later),
-        Err(error) => Err(Stopped::Told(error)),
+        Err(error) => Err(Stopped::Output(error)),
     }
 }

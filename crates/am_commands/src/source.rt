@@ -10,7 +10,7 @@ ghost use Rattle.am_commands.specs.Reading.{IsRead, StopsReading};
 ghost use Rattle.am_commands.specs.Folding.{IsFoldOf};
 
 use crate::fault::{SourceFault, Stopped, add};
-use crate::opened::{Asked, Reading};
+use crate::opened::{Reading, SourceRequest};
 use am_merge::Held;
 use am_options::SourceWord;
 use am_report::Replica;
@@ -47,8 +47,8 @@ pub struct Input<'n, S: Drop> {
 ///
 /// # Errors
 ///
-/// [`Stopped::Source`] with the fault of the first source that isn't opened, and [`Stopped::Told`] if memory runs out.
-pub fn inputs_of<'n, S: Drop, F: Fn(Asked<'n>) -> Result<S, SourceFault>>(
+/// [`Stopped::Source`] with the fault of the first source that isn't opened, and [`Stopped::Output`] if memory runs out.
+pub fn inputs_of<'n, S: Drop, F: Fn(SourceRequest<'n>) -> Result<S, SourceFault>>(
     alloc: Global,
     words: &[SourceWord<'n>],
     has_logs: bool,
@@ -61,7 +61,7 @@ pub fn inputs_of<'n, S: Drop, F: Fn(Asked<'n>) -> Result<S, SourceFault>>(
 {
     let mut inputs = Vec::new(alloc);
     for word in words {
-        let asked = Asked {
+        let asked = SourceRequest {
             word: *word,
             has_logs,
             reading,
@@ -101,7 +101,7 @@ fn read_one<'n, V: Version, S: Source<V>>(
 ///
 /// # Errors
 ///
-/// [`Stopped::Source`] with the fault of the first source that is at fault, and [`Stopped::Told`] if memory runs out.
+/// [`Stopped::Source`] with the fault of the first source that is at fault, and [`Stopped::Output`] if memory runs out.
 pub fn read_sources<'n, V: Version, S: Source<V>>(
     alloc: Global,
     inputs: &mut [Input<'n, S>],
@@ -144,7 +144,7 @@ fn join<V: Version>(mut all: Held<V>, more: Held<V>) -> Result<Held<V>, AllocErr
 ///
 /// # Errors
 ///
-/// [`Stopped::Source`] with the fault of the first source that is at fault, and [`Stopped::Told`] if memory runs out.
+/// [`Stopped::Source`] with the fault of the first source that is at fault, and [`Stopped::Output`] if memory runs out.
 pub fn join_sources<V: Version, S: Source<V>>(
     alloc: Global,
     inputs: &mut [Input<'_, S>],

@@ -4,7 +4,7 @@ use Rattle.std.specs.List.{flat_map}
 use Rattle.std.specs.Option.{IsSome, option_or}
 use Rattle.std.specs.Io.KnownBytes.{Appends, Consumes, IsAtEnd}
 use Rattle.am_wire.specs.OutputWriting.{WritesPart}
-use Rattle.am_http.specs.Sessions.{IsOver, Spoken, Standing, fresh, most_bytes, name_of}
+use Rattle.am_http.specs.Sessions.{IsOver, Spoken, SessionPhase, fresh, most_bytes, name_of}
 use Rattle.am_instance.specs.InstanceStates.{InstanceState}
 use Rattle.am_instance.specs.Sendings.{Gathers}
 use Rattle.am_api_silences.specs.ReplyBuilder.{IsMadeOf}
@@ -24,12 +24,12 @@ use Rattle.am_connection.specs.declared.ended.Ended.{Ended}
 -- the progress of a connection: what its session has heard, the instance, the effects of its steps besides, and what was
 -- written
 pub record Stand : Type 0 where
-  pub session : Standing
+  pub session : SessionPhase
   pub instance : InstanceState
   pub effects : StepEffects
   pub written : Option (List ℕ)
 
-abbrev pub stand : Standing → InstanceState → StepEffects → Option (List ℕ) → Stand
+abbrev pub stand : SessionPhase → InstanceState → StepEffects → Option (List ℕ) → Stand
 stand session instance effects written = record { session = session; instance = instance; effects = effects; written = written }
 
 -- ---- a piece
@@ -58,7 +58,7 @@ GoesOut (Some making) before after (Some _) = ⊥
 pub record IsTurn (bits now : ℕ) (piece : List ℕ) (before after : Stand) (fault : Option ConnectionFault) : Type 0 where
   -- the session says this of it
   pub said : Spoken
-  pub heard : Standing
+  pub heard : SessionPhase
   pub tells : Tells before.session (came_of piece) said heard
   -- this is answered by steps at this moment
   pub answer : SessionAnswer
@@ -133,4 +133,4 @@ effects_of ended = record {
 -- The outcome of a connection, from its first byte on: its frames, whether there was a Tick, and its fault are those of its pieces.
 abbrev pub IsConnection : ℕ → ℕ → Option (List ℕ) → Option (List ℕ) → InstanceState → InstanceState → Option (List ℕ) → Option (List ℕ) → Ended → Type 0
 IsConnection bits now input left old new before after ended =
-    (session : Standing) × IsConversed bits now input left (stand fresh old no_effects before) (stand session new (effects_of ended) after) ended.fault
+    (session : SessionPhase) × IsConversed bits now input left (stand fresh old no_effects before) (stand session new (effects_of ended) after) ended.fault

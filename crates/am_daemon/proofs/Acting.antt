@@ -1,5 +1,5 @@
 -- What a member does by itself, and what waits for peers then.
-use Rattle.std.proofs.Common.{◌≡◌, ◌∙◌, ℕ, Bool, Option, None, Some, Result, ap, inl, inr, refl, subst, sym}
+use Rattle.std.proofs.Common.{◌≡◌, ◌∙◌, ℕ, Option, None, Some, Result, ap, inl, inr, refl, subst, sym}
 use Rattle.std.specs.Prelude.{if◌then◌else◌}
 use Rattle.am_backend.specs.Outbound.{IsSentOn}
 use Rattle.am_gossip.specs.declared.frame.Frame.{Frame}
@@ -13,7 +13,7 @@ use Rattle.am_member.specs.Lives.{IsOwnEvent}
 use Rattle.am_peer_auth.specs.declared.seal.Lock.{Lock}
 use Rattle.am_server.proofs.Steps.{made_on, nothing_made, one_made}
 use Rattle.am_server.specs.Answered.{ByItself}
-use Rattle.am_daemon.specs.Offers.{ForPeers, IsLost, OnlyCounts, is_beside, nothing_put_by, with_put_by}
+use Rattle.am_daemon.specs.Offers.{ForPeers, OnlyCounts}
 use Rattle.am_daemon.specs.Sending.{FrameIsSentOn, IsWoken, MayTick}
 
 -- ---- only frames that aren't sent are counted
@@ -23,10 +23,6 @@ counts_same old new same = subst (λ (held : ForPeers). OnlyCounts old held) (sy
 
 pub counts_on : (old mid new : ForPeers) → OnlyCounts old mid → OnlyCounts mid new → OnlyCounts old new
 counts_on old mid new first second = (second.0 ∙ ap (λ (held : ForPeers). record held { queue = new.queue }) first.0, second.1 ∙ first.1)
-
--- the same frames wait, and the lock is the same
-pub counts_only : (held : ForPeers) (queue : Sent) (lock : Option Lock) → queue.frames ≡ held.queue.frames → lock ≡ held.lock → OnlyCounts held (record held { queue = queue; lock = lock })
-counts_only held queue lock frames same = (ap (λ (l : Option Lock). record held { queue = queue; lock = l }) same, frames)
 
 -- ---- the step of a frame
 
@@ -70,8 +66,3 @@ woken_by came disk disk' old mid new was before after is same tick waits sent st
   sent = subst (λ (d : Option ℕ). FrameIsSentOn came d mid before new after) same sent;
   stays = stays;
 }
-
--- ---- a link that is lost
-
-pub lost_where : (b : Bool) (peer : ℕ) (old new : ForPeers) → is_beside old peer ≡ b → new ≡ (if b then old else with_put_by peer nothing_put_by old) → IsLost peer old new
-lost_where b peer old new is same = subst (λ (c : Bool). new ≡ (if c then old else with_put_by peer nothing_put_by old)) (sym is) same

@@ -4,7 +4,7 @@ use Rattle.std.proofs.lemmas.Option.{none-some}
 use Rattle.std.specs.Option.{is_some, option_copied}
 use Rattle.am_server.specs.Answered.{IsAnswered, IsTaken, SaysBy}
 use Rattle.am_server.specs.Talks.{Stays, Talk}
-use Rattle.am_http.specs.Sessions.{Spoken, Standing, name_of, nothing}
+use Rattle.am_http.specs.Sessions.{Spoken, SessionPhase, name_of, nothing}
 use Rattle.am_instance.specs.InstanceStates.{InstanceState}
 use Rattle.am_member.specs.declared.session_answer.SessionAnswer.{SessionAnswer}
 use Rattle.am_member.specs.Exchanging.{IsSessionAnswer, left_at}
@@ -12,7 +12,7 @@ use Rattle.am_member.specs.Incoming.{no_effects}
 use Rattle.am_member.specs.Sparing.{deferred}
 
 -- its steps were made
-pub steps_taken : (said given : Spoken) (old new : InstanceState) (talk talk' : Talk) (mid : Standing) (exchanged : SessionAnswer) → given ≡ deferred said →
+pub steps_taken : (said given : Spoken) (old new : InstanceState) (talk talk' : Talk) (mid : SessionPhase) (exchanged : SessionAnswer) → given ≡ deferred said →
     ((bits : ℕ) × (now : ℕ) × IsSessionAnswer (name_of talk.session) bits now given old new exchanged) → mid ≡ left_at exchanged.fault talk.session →
     Stays (record talk { session = mid }) talk' → SaysBy exchanged.reply talk.saying talk'.saying → IsTaken said old talk new talk'
 steps_taken said given old new talk talk' mid exchanged is steps left stays says = record {
@@ -20,7 +20,7 @@ steps_taken said given old new talk talk' mid exchanged is steps left stays says
   now = steps.1;
   answer = exchanged;
   exchanged = subst (λ (s : Spoken). IsSessionAnswer (name_of talk.session) steps.0 steps.1 s old new exchanged) is steps.2;
-  way = stays.way;
+  auth_phase = stays.auth_phase;
   session = stays.session ∙ left;
   waiting = stays.waiting;
   saying = says;
@@ -49,7 +49,7 @@ nothing_taken said old talk is name = record {
   answer = no_answer;
   exchanged = subst (λ (n : Option (List ℕ)). IsSessionAnswer n 0 0 (deferred said) old old no_answer) (sym name)
       (subst (λ (s : Spoken). IsSessionAnswer None 0 0 (deferred s) old old no_answer) (sym is) (unsaid old));
-  way = refl;
+  auth_phase = refl;
   session = refl;
   waiting = inl refl;
   saying = refl;

@@ -1,9 +1,9 @@
 -- The outcomes of calls, and what is replied then.
 use Rattle.std.proofs.Common.{◌≡◌, ◌∙◌, ℕ, Option, Some, Ok, sym, subst}
-use Rattle.am_api_decisions.specs.Asked.{IsAsked}
-use Rattle.am_api_decisions.specs.declared.asked.Asked.TheVariants as asks
-use Rattle.am_api_decisions.specs.declared.asked.Question.{Question}
-use Rattle.am_api_silences.specs.ReplyBuilder.{IsMadeOf, Makes}
+use Rattle.am_api_decisions.specs.ParsedCalls.{IsAsked}
+use Rattle.am_api_decisions.specs.declared.parsed_call.ParsedCall.TheVariants as asks
+use Rattle.am_api_decisions.specs.declared.parsed_call.Question.{Question}
+use Rattle.am_api_silences.specs.ReplyBuilder.{IsMadeOf}
 use Rattle.am_api_silences.specs.declared.reply_builder.ReplyBuilder.{ReplyBuilder}
 use Rattle.am_api_silences.specs.declared.replies.ResponseBytes.{ResponseBytes}
 use Rattle.am_server.proofs.Calls.{away_replied, made_given, put_given, question_replied, same_given, told_given}
@@ -53,11 +53,6 @@ put_off_called request waits old (outcomes.Later (progress.Log writing)) new sam
 put_off_called request waits old (outcomes.Later (progress.Counting state_count)) new same is = absurd is
 put_off_called request waits old (outcomes.Refused refusal) new same is = away_replied request TooManyWait (line_seen refusal) old new is
 put_off_called request waits old (outcomes.Made making changes) new same is = absurd is
-
--- a reply that is made
-pub made_called : (request : Request) (making : ReplyBuilder) (old : InstanceState) (called : Called) (new : InstanceState) → ((changes : ℕ) × (called ≡ outcomes.Made making changes)) →
-    Makes (λ reply. IsCallReply request old reply new) making → IsCalled request old called new
-made_called request making old called new is makes = subst (λ (c : Called). IsCalled request old c new) (sym is.1) makes
 
 -- a decision that is given, or whose request waits
 module _ (request : Request) (question : Question) (start : InstanceState) (reply : ResponseBytes) (unheard : Option Request) (new : InstanceState)

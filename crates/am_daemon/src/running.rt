@@ -206,6 +206,6 @@ impl<'a, U: Backend> MemberService for Member<'a, U> {
         (λ _ _ _ _ answered. answered.0.1) (λ _ _ _ _ _ given. given.0.1) (λ _ _ _ _ offered. offered.0.1) (λ _ _ _ _ asked. asked.0.1) member member' call) in
         record { deeds = alone.0; own = alone.1; life = alone.2 } };
 
-    ghost does_for_one = { λ member connection deed member' connection' does number standings passed turns accord.
-        does_lives number standings member.instance member'.instance turns passed (talk_of connection) (talk_of connection') member.lock deed accord does.1 };
+    ghost does_for_one = { λ member connection deed member' connection' does number session_phases passed turns accord.
+        does_lives number session_phases member.instance member'.instance turns passed (talk_of connection) (talk_of connection') member.lock deed accord does.1 };
 }

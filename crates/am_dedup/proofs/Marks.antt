@@ -84,14 +84,6 @@ marks_more sorted before marks last at fits is marked hash place first =
           ∙ sym (among_one_more before last hash ∙ ap (λ b. is_among before hash || b) e ∙ or_false _)
     ] refl
 
--- and none for one that has no place
-pub marks_same : (sorted before : List ℕ) (marks : List Bool) (last : ℕ) → first_place sorted last ≡ None → Marks sorted marks before → Marks sorted marks (before ++ last ∷ [])
-marks_same sorted before marks last none marked hash place first =
-    elim (nat_eq last hash) as (λ b. nat_eq last hash ≡ b → get_or marks place false ≡ is_among (before ++ last ∷ []) hash) [
-      | true ↦ λ e. absurd (cc (sym none ∙ ap (first_place sorted) (is_same _ _ e) ∙ first))
-      | false ↦ λ e. marked hash place first ∙ sym (among_one_more before last hash ∙ ap (λ b. is_among before hash || b) e ∙ or_false _)
-    ] refl
-
 -- a table that has each hash's remainder
 abbrev pub HasRemainders : List ℕ → List ℕ → Type 0
 HasRemainders hashes met = (i : ℕ) → i < length hashes → nat_eq (get_or met (get_or hashes i 0 % 32768) 0) 0 ≡ false

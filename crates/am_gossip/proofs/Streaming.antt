@@ -7,7 +7,7 @@ use Rattle.am_wire.proofs.Items.{rest_is}
 use Rattle.am_gossip.specs.declared.error.FrameError.{FrameError}
 use Rattle.am_gossip.specs.declared.frame.Frame.{Frame}
 use Rattle.am_gossip.specs.declared.reading.End.{End}
-use Rattle.am_gossip.specs.Standings.{EndsAs}
+use Rattle.am_gossip.specs.HeaderProgresses.{EndsAs}
 use Rattle.am_gossip.specs.Headers.{header_of}
 use Rattle.am_gossip.specs.Streams.{Front, whole, fault, incomplete, front_of, Stream, put_before, next_frame, stream_from, stream_of, ends_with, goes_on, fed_in}
 use Rattle.am_gossip.proofs.Fronts.{front_more, front_within, front_found, waits_short}

@@ -14,7 +14,7 @@ use Rattle.am_gossip.specs.declared.reading.Read.TheVariants.{Frame, Waits, Faul
 use Rattle.am_gossip.specs.Frames.{reads_payload}
 use Rattle.am_gossip.specs.Headers.{head, bad, header_of}
 use Rattle.am_gossip.specs.Streams.{incomplete, payload_front, front_of}
-use Rattle.am_gossip.specs.Standings.{IsAt, IsWaiting, IsWhole, IsRead, Holds}
+use Rattle.am_gossip.specs.HeaderProgresses.{IsAt, IsWaiting, IsWhole, IsRead, Holds}
 use Rattle.am_gossip.proofs.Fronts.{header_stays, bad_stays, length_goes_on, front_short, front_more_wanted, front_full}
 
 -- ---- one byte of a piece

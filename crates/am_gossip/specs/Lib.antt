@@ -10,4 +10,4 @@ pub mod Headers
 pub mod Streams
 pub mod Grammar
 pub mod Lengths
-pub mod Standings
+pub mod HeaderProgresses

@@ -1,7 +1,7 @@
 //! The reader of a stream.
 
 ghost use Rattle.std.specs.Prelude.{◌≡◌, ◌⊎◌, ◌↔◌, ◌++◌, [], Some, None, Err, length, take, vec_len, OnOk, IfOk, IfErr, OnErr};
-ghost use Rattle.am_gossip.specs.Standings.{IsWaiting, EndsAs};
+ghost use Rattle.am_gossip.specs.HeaderProgresses.{IsWaiting, EndsAs};
 ghost use Rattle.am_gossip.specs.Streams.{stream_of, waiting_rest, fault_in, rest_bytes};
 
 use crate::error::FrameError;
@@ -43,10 +43,10 @@ fn take_rest(
 fn take_piece(
     alloc: Global,
     held: &mut Vec<u8>,
-    standing: HeaderProgress,
+    progress: HeaderProgress,
     piece: &[u8],
 ) -> Result<(Vec<Frame>, End), FrameError>
-    requires { IsWaiting standing held.old.items }
+    requires { IsWaiting progress held.old.items }
     ensures frames { IfOk result (λ x. x.0.items ≡ (stream_of (held.old.items ++ piece.now)).frames) }
     ensures end { IfOk result (λ x. EndsAs x.1 held.new.items (stream_of (held.old.items ++ piece.now)).ending) }
     ensures kept { OnErr result (take (vec_len held.old) held.new.items ≡ held.old.items) }
@@ -57,12 +57,12 @@ fn take_piece(
     if waiting == 0 {
         return take_rest(alloc, frames, held, piece);
     }
-    match finish_frame(alloc, held, standing, piece)? {
+    match finish_frame(alloc, held, progress, piece)? {
         Read::Frame { frame, len } => {
             frames.push(frame)?;
             take_rest(alloc, frames, held, &piece[len - waiting..])
         }
-        Read::Waits(standing) => Ok((frames, End::Waits(standing))),
+        Read::Waits(progress) => Ok((frames, End::Waits(progress))),
         Read::Fault(e) => Ok((frames, End::Fault(e))),
     }
 }
@@ -75,19 +75,19 @@ fn take_piece(
 pub struct Feeder {
     alloc: Global,
     held: Vec<u8>,
-    standing: Option<HeaderProgress>,
+    progress: Option<HeaderProgress>,
 }
 
 impl Model for Feeder {
     ghost use Rattle.std.specs.Prelude.{List, ℕ, Option};
     ghost use Rattle.std.specs.Option.{ForSome, option_map};
-    ghost use Rattle.am_gossip.specs.Standings.{IsWaiting};
+    ghost use Rattle.am_gossip.specs.HeaderProgresses.{IsWaiting};
 
     ghost Value = { Option (List ℕ) };
 
-    ghost view = { λ f. option_map (λ _. f.held.items) f.standing };
+    ghost view = { λ f. option_map (λ _. f.held.items) f.progress };
 
-    ghost invariant = { λ f. ForSome f.standing (λ s. IsWaiting s f.held.items) };
+    ghost invariant = { λ f. ForSome f.progress (λ s. IsWaiting s f.held.items) };
 }
 
 impl Feeder {
@@ -98,7 +98,7 @@ impl Feeder {
         Feeder {
             alloc,
             held: Vec::new(alloc),
-            standing: Some(HeaderProgress::Before),
+            progress: Some(HeaderProgress::Before),
         }
     }
 
@@ -106,7 +106,7 @@ impl Feeder {
     pub fn waiting(&self) -> usize
         ensures { result ≡ length (rest_bytes self.now) }
     {
-        if self.standing.is_some() {
+        if self.progress.is_some() {
             self.held.len()
         } else {
             0
@@ -131,11 +131,11 @@ impl Feeder {
         ensures refused { IfErr result (λ e. (e ≡ FrameError.Ended) ⊎ (e ≡ FrameError.Memory)) }
         ensures unchanged { OnErr result (self.new ≡ self.old) }
     {
-        let Some(standing) = self.standing else {
+        let Some(progress) = self.progress else {
             return Err(FrameError::Ended);
         };
         let waiting = self.held.len();
-        let (frames, end) = match take_piece(self.alloc, &mut self.held, standing, piece) {
+        let (frames, end) = match take_piece(self.alloc, &mut self.held, progress, piece) {
             Ok(taken) => taken,
             Err(e) => {
                 self.held.truncate(waiting);
@@ -143,15 +143,15 @@ impl Feeder {
             }
         };
         match end {
-            End::Waits(standing) => {
-                self.standing = Some(standing);
+            End::Waits(progress) => {
+                self.progress = Some(progress);
                 Ok(Fed {
                     frames,
                     fault: None,
                 })
             }
             End::Fault(e) => {
-                self.standing = None;
+                self.progress = None;
                 self.held = Vec::new(self.alloc);
                 Ok(Fed {
                     frames,

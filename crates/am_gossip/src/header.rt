@@ -1,7 +1,7 @@
 //! The reading of headers byte by byte.
 
 ghost use Rattle.std.specs.Prelude.{◌++◌, ◌∷◌, [], List, ℕ};
-ghost use Rattle.am_gossip.specs.Standings.{IsAt, Stands};
+ghost use Rattle.am_gossip.specs.HeaderProgresses.{IsAt, Stands};
 ghost use Rattle.am_gossip.specs.declared.header.HeaderProgress.TheVariants.{InLength};
 
 use crate::error::FrameError;
@@ -55,26 +55,26 @@ fn read_length(kind: FrameKind, groups: Groups, byte: u8) -> Result<HeaderProgre
 }
 
 /// Reads the next byte of a frame; behind the header nothing changes.
-fn read_byte(standing: HeaderProgress, byte: u8) -> Result<HeaderProgress, FrameError>
-    ensures { (before : List ℕ) → IsAt standing before → Stands result (before ++ byte ∷ []) }
+fn read_byte(progress: HeaderProgress, byte: u8) -> Result<HeaderProgress, FrameError>
+    ensures { (before : List ℕ) → IsAt progress before → Stands result (before ++ byte ∷ []) }
 {
-    match standing {
+    match progress {
         HeaderProgress::Before => read_kind(byte),
         HeaderProgress::InLength { kind, groups } => read_length(kind, groups, byte),
-        HeaderProgress::InPayload(_) => Ok(standing),
+        HeaderProgress::InPayload(_) => Ok(progress),
     }
 }
 
 /// Continues reading a header, up to its end or that of the bytes.
-pub fn read_header(standing: HeaderProgress, bytes: &[u8]) -> Result<HeaderProgress, FrameError>
-    ensures { (before : List ℕ) → IsAt standing before → Stands result (before ++ bytes.now) }
+pub fn read_header(progress: HeaderProgress, bytes: &[u8]) -> Result<HeaderProgress, FrameError>
+    ensures { (before : List ℕ) → IsAt progress before → Stands result (before ++ bytes.now) }
 {
-    let mut standing = standing;
+    let mut progress = progress;
     for byte in bytes {
-        if let HeaderProgress::InPayload(_) = standing {
-            return Ok(standing);
+        if let HeaderProgress::InPayload(_) = progress {
+            return Ok(progress);
         }
-        standing = read_byte(standing, *byte)?;
+        progress = read_byte(progress, *byte)?;
     }
-    Ok(standing)
+    Ok(progress)
 }

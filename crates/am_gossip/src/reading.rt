@@ -1,7 +1,7 @@
 //! The frames in a piece of a stream.
 
 ghost use Rattle.std.specs.Prelude.{◌≡◌, ◌++◌, ◌≤◌, List, ℕ, length, take, IfOk, IfErr, OnOk, vec_len};
-ghost use Rattle.am_gossip.specs.Standings.{IsRead, IsWhole, IsWaiting, Holds, EndsAs};
+ghost use Rattle.am_gossip.specs.HeaderProgresses.{IsRead, IsWhole, IsWaiting, Holds, EndsAs};
 ghost use Rattle.am_gossip.specs.Streams.{stream_of};
 ghost use Rattle.am_gossip.specs.declared.error.FrameError.TheVariants.{Memory};
 
@@ -52,16 +52,16 @@ pub fn read_frame(alloc: Global, bytes: &[u8]) -> Result<Read, FrameError>
     ensures read { IfOk result (λ read. IsRead read bytes.now) }
     ensures refused { IfErr result (λ e. e ≡ Memory) }
 {
-    let standing = match read_header(HeaderProgress::Before, bytes) {
-        Ok(standing) => standing,
+    let progress = match read_header(HeaderProgress::Before, bytes) {
+        Ok(progress) => progress,
         Err(e) => return Ok(Read::Fault(e)),
     };
-    let HeaderProgress::InPayload(head) = standing else {
-        return Ok(Read::Waits(standing));
+    let HeaderProgress::InPayload(head) = progress else {
+        return Ok(Read::Waits(progress));
     };
     let len = head.len + head.size;
     if bytes.len() < len {
-        return Ok(Read::Waits(standing));
+        return Ok(Read::Waits(progress));
     }
     read_whole(alloc, head, &bytes[head.len..len])
 }
@@ -71,27 +71,27 @@ pub fn read_frame(alloc: Global, bytes: &[u8]) -> Result<Read, FrameError>
 pub fn finish_frame(
     alloc: Global,
     held: &mut Vec<u8>,
-    standing: HeaderProgress,
+    progress: HeaderProgress,
     piece: &[u8],
 ) -> Result<Read, FrameError>
-    requires { IsWaiting standing held.old.items }
+    requires { IsWaiting progress held.old.items }
     ensures read { IfOk result (λ read. IsRead read (held.old.items ++ piece.now)) }
     ensures waits { IfOk result (λ read. Holds read (held.old.items ++ piece.now) held.new.items) }
     ensures kept { take (vec_len held.old) held.new.items ≡ held.old.items }
     ensures refused { IfErr result (λ e. e ≡ Memory) }
 {
-    let standing = match read_header(standing, piece) {
-        Ok(standing) => standing,
+    let progress = match read_header(progress, piece) {
+        Ok(progress) => progress,
         Err(e) => return Ok(Read::Fault(e)),
     };
-    let HeaderProgress::InPayload(head) = standing else {
+    let HeaderProgress::InPayload(head) = progress else {
         held.extend_from_slice(piece)?;
-        return Ok(Read::Waits(standing));
+        return Ok(Read::Waits(progress));
     };
     let missing = head.len + head.size - held.len();
     if piece.len() < missing {
         held.extend_from_slice(piece)?;
-        return Ok(Read::Waits(standing));
+        return Ok(Read::Waits(progress));
     }
     held.extend_from_slice(&piece[..missing])?;
     read_whole(alloc, head, &held[head.len..])
@@ -114,7 +114,7 @@ pub fn read_frames<'a>(
                 frames.push(frame)?;
                 rest = &rest[len..];
             }
-            Read::Waits(standing) => return Ok((rest, End::Waits(standing))),
+            Read::Waits(progress) => return Ok((rest, End::Waits(progress))),
             Read::Fault(e) => return Ok((rest, End::Fault(e))),
         }
     }

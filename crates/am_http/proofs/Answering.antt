@@ -1,8 +1,7 @@
 -- What is read of bytes, by how far the request has come.
 use Rattle.std.proofs.Common.{◌≡◌, ℕ, List, Bool, ◌∙◌}
-use Rattle.am_http.specs.Requests.{IsRequestIn, IsTakenFrom, HasFault, IsRefusedFor, IsReadOf}
-use Rattle.am_http.specs.declared.cause.Cause.{Cause}
-use Rattle.am_http.specs.declared.cause.Cause.TheVariants.{EndedEarly, Memory}
+use Rattle.am_http.specs.Requests.{IsRequestIn, IsTakenFrom, IsReadOf}
+use Rattle.am_http.specs.declared.cause.Cause.TheVariants.{Memory}
 use Rattle.am_http.specs.declared.request.Read.{Read}
 use Rattle.am_http.specs.declared.request.Read.TheVariants.{More, Whole, Refused}
 
@@ -14,8 +13,3 @@ pub read_taken : (bytes method target body : List ℕ) (ended : Bool) (read : Re
 read_taken bytes method target body ended (Whole request) is from = same_parts bytes method target body _ _ _ from.0 from.1 from.2 is
 read_taken bytes method target body ended (Refused refusal) is from = (Memory, from, (method, target, body, is))
 read_taken bytes method target body ended More is from = absurd from
-
-pub fault_refuses : (bytes : List ℕ) (ended : Bool) (cause : Cause) → HasFault bytes cause → IsRefusedFor bytes ended cause
-fault_refuses bytes ended EndedEarly fault = absurd fault
-fault_refuses bytes ended Memory fault = absurd fault
-fault_refuses bytes ended _ fault = fault

@@ -3,15 +3,15 @@ use Rattle.std.proofs.Common.{◌≡◌, ℕ, ◌≤◌, ◌⊎◌, List, [], �
 use Rattle.std.specs.Prelude.{slice_get}
 use Rattle.am_http.specs.declared.request.Read.{Read}
 use Rattle.am_http.specs.declared.request.Read.TheVariants.{More, Whole, Refused}
-use Rattle.am_http.specs.Sessions.{Standing, fresh, over, Spoken, asked, IsAsked, Asks, LacksToAsk, Feeds}
+use Rattle.am_http.specs.Sessions.{SessionPhase, fresh, over, Spoken, asked, IsAsked, Asks, LacksToAsk, Feeds}
 
-pub asked_is : (bytes : List ℕ) (read : Read) (said : Spoken) (new : Standing) → (read ≡ More → ⊥) → said ≡ asked read → new ≡ over None → IsAsked bytes read said new
+pub asked_is : (bytes : List ℕ) (read : Read) (said : Spoken) (new : SessionPhase) → (read ≡ More → ⊥) → said ≡ asked read → new ≡ over None → IsAsked bytes read said new
 asked_is bytes More said new other is ends = absurd (other refl)
 asked_is bytes (Whole request) said new other is ends = (is, ends)
 asked_is bytes (Refused refusal) said new other is ends = (is, ends)
 
 -- a connection whose first byte is no greeting's begins as a request does
-pub begins_asking : (piece : List ℕ) (first : ℕ) (said : Spoken) (new : Standing) → slice_get piece 0 ≡ Some first → 32 ≤ first → Asks piece said new ⊎ LacksToAsk said new → Feeds fresh piece said new
+pub begins_asking : (piece : List ℕ) (first : ℕ) (said : Spoken) (new : SessionPhase) → slice_get piece 0 ≡ Some first → 32 ≤ first → Asks piece said new ⊎ LacksToAsk said new → Feeds fresh piece said new
 begins_asking [] first said new is le told = absurd (never is)
   where
     never : None ≡ Some first → ⊥

@@ -1,7 +1,7 @@
 pub mod Digits
 pub mod FieldLists
 pub mod HeadLemmas
-pub mod Standings
+pub mod SessionPhases
 pub mod Screenings
 pub mod Unique
 pub mod Ids

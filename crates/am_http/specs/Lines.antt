@@ -2,8 +2,8 @@
 use Rattle.std.specs.Prelude.{ℕ, List, Bool, false, Option, Some, None, codes}
 use Rattle.std.specs.Option.{option_copied}
 use Rattle.std.specs.Str.{bytes_eq}
-use Rattle.am_silence_json.specs.declared.key.Key.{Key}
-use Rattle.am_silence_json.specs.declared.key.Key.TheVariants.{Id, Matchers, StartsAt, EndsAt, CreatedBy, Comment}
+use Rattle.am_silence_json.specs.declared.key.JsonKey.{JsonKey}
+use Rattle.am_silence_json.specs.declared.key.JsonKey.TheVariants.{Id, Matchers, StartsAt, EndsAt, CreatedBy, Comment}
 use Rattle.am_http.specs.declared.cause.Cause.{Cause}
 use Rattle.am_http.specs.declared.cause.Cause.TheVariants.{HeadTooLarge, BadHead, TransferEncoding, BadContentLength}
 use Rattle.am_http.specs.declared.cause.Cause.TheVariants.{BodyTooLarge, EndedEarly, NoSuchPath, MethodNotAllowed}
@@ -46,7 +46,7 @@ allowed_at Silences = codes "GET, POST"
 allowed_at Silence = codes "GET, DELETE"
 
 -- the text for a key that is missing or wrong
-abbrev pub bad_key : Key → List ℕ
+abbrev pub bad_key : JsonKey → List ℕ
 bad_key Id = codes "bad silence: id"
 bad_key Matchers = codes "bad silence: matchers"
 bad_key StartsAt = codes "bad silence: startsAt"

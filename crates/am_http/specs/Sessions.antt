@@ -22,15 +22,15 @@ use Rattle.am_http.specs.declared.session.output.SessionOutput.{SessionOutput}
 -- The progress of a connection: before its first byte; in a request, with its bytes so far; in a greeting, with its bytes so far;
 -- in the frames behind a greeting, with the name in the greeting, the number of bytes that came in all, and the last of them,
 -- which begin a frame; or over, with the name in the greeting, if one came.
-pub data Standing : Type 0 where
-  fresh : Standing
-  InRequest : List ℕ → Standing
-  InGreeting : List ℕ → Standing
-  InFrames : List ℕ → ℕ → List ℕ → Standing
-  over : Option (List ℕ) → Standing
+pub data SessionPhase : Type 0 where
+  fresh : SessionPhase
+  InRequest : List ℕ → SessionPhase
+  InGreeting : List ℕ → SessionPhase
+  InFrames : List ℕ → ℕ → List ℕ → SessionPhase
+  over : Option (List ℕ) → SessionPhase
 
 -- the name in the greeting, if one came
-abbrev pub name_of : Standing → Option (List ℕ)
+abbrev pub name_of : SessionPhase → Option (List ℕ)
 name_of fresh = None
 name_of (InRequest bytes) = None
 name_of (InGreeting bytes) = None
@@ -38,7 +38,7 @@ name_of (InFrames name count rest) = Some name
 name_of (over name) = name
 
 -- the bytes that wait for the rest of their request, greeting or frame
-abbrev pub waiting_in : Standing → List ℕ
+abbrev pub waiting_in : SessionPhase → List ℕ
 waiting_in (InRequest bytes) = bytes
 waiting_in (InGreeting bytes) = bytes
 waiting_in (InFrames name count rest) = rest
@@ -81,26 +81,26 @@ most_bytes = 134217728
 -- ---- a request
 
 -- the bytes that came decide nothing yet; or they are a request, which is told, and nothing more is heard
-abbrev pub IsAsked : List ℕ → Read → Spoken → Standing → Type 0
+abbrev pub IsAsked : List ℕ → Read → Spoken → SessionPhase → Type 0
 IsAsked bytes More said new = (said ≡ nothing) × (new ≡ InRequest bytes)
 IsAsked bytes read said new = (said ≡ asked read) × (new ≡ over None)
 
 -- the output for all the bytes of a request so far
-abbrev pub Asks : List ℕ → Spoken → Standing → Type 0
+abbrev pub Asks : List ℕ → Spoken → SessionPhase → Type 0
 Asks bytes said new = (read : Read) × IsReadOf bytes false read × IsAsked bytes read said new
 
 -- ---- frames
 
 -- The output for the frames in the bytes that were taken, given the bytes beyond the limit: the stream goes on, or it ends at a
 -- byte too many or at its fault. `count` is the number of bytes that came in all.
-abbrev pub IsHeard : List ℕ → ℕ → List Frame → Result (List ℕ) FrameError → List ℕ → Spoken → Standing → Type 0
+abbrev pub IsHeard : List ℕ → ℕ → List Frame → Result (List ℕ) FrameError → List ℕ → Spoken → SessionPhase → Type 0
 IsHeard name count frames (Ok rest) [] said new = (said ≡ heard frames None) × (new ≡ InFrames name count rest)
 IsHeard name count frames (Ok rest) (_ ∷ _) said new = (said ≡ heard frames (Some TooLarge)) × (new ≡ over (Some name))
 IsHeard name count frames (Err e) lost said new = (said ≡ heard frames (Some (InFrame e))) × (new ≡ over (Some name))
 
 -- The output for a piece of a stream if `rest` begins a frame and `count` bytes of the connection came before: as much of the
 -- piece is taken as a connection may have.
-abbrev pub Hears : List ℕ → ℕ → List ℕ → List ℕ → Spoken → Standing → Type 0
+abbrev pub Hears : List ℕ → ℕ → List ℕ → List ℕ → Spoken → SessionPhase → Type 0
 Hears name count rest piece said new =
     let took : List ℕ = take (most_bytes - count) piece in
     IsHeard name (count + length took) (stream_of (rest ++ took)).frames (stream_of (rest ++ took)).ending (drop (most_bytes - count) piece) said new
@@ -108,24 +108,24 @@ Hears name count rest piece said new =
 -- ---- a greeting
 
 -- the greeting isn't whole; or it is, and the bytes behind it are a piece of its stream; or it is at fault
-abbrev pub IsGreeted : List ℕ → Result (Option (List ℕ × ℕ)) FrameError → Spoken → Standing → Type 0
+abbrev pub IsGreeted : List ℕ → Result (Option (List ℕ × ℕ)) FrameError → Spoken → SessionPhase → Type 0
 IsGreeted bytes (Ok None) said new = (said ≡ nothing) × (new ≡ InGreeting bytes)
 IsGreeted bytes (Ok (Some greeting)) said new = Hears greeting.0 greeting.1 [] (drop greeting.1 bytes) said new
 IsGreeted bytes (Err e) said new = (said ≡ heard [] (Some (InFrame e))) × (new ≡ over None)
 
 -- the output for all the bytes of a connection of frames so far
-abbrev pub Greets : List ℕ → Spoken → Standing → Type 0
+abbrev pub Greets : List ℕ → Spoken → SessionPhase → Type 0
 Greets bytes said new = IsGreeted bytes (hello_of bytes) said new
 
 -- ---- a connection
 
 -- the first byte of a greeting is below 0x20, and that of a request isn't
-pub record Begins (first : ℕ) (bytes : List ℕ) (said : Spoken) (new : Standing) : Type 0 where
+pub record Begins (first : ℕ) (bytes : List ℕ) (said : Spoken) (new : SessionPhase) : Type 0 where
   pub peer : first < 32 → Greets bytes said new
   pub request : 32 ≤ first → Asks bytes said new
 
 -- The output for a piece if there is memory for it, and the progress of the connection then.
-abbrev pub Says : Standing → List ℕ → Spoken → Standing → Type 0
+abbrev pub Says : SessionPhase → List ℕ → Spoken → SessionPhase → Type 0
 Says fresh [] said new = (said ≡ nothing) × (new ≡ fresh)
 Says fresh (first ∷ bytes) said new = Begins first (first ∷ bytes) said new
 Says (InRequest bytes) piece said new = Asks (bytes ++ piece) said new
@@ -134,16 +134,16 @@ Says (InFrames name count rest) piece said new = Hears name count rest piece sai
 Says (over name) piece said new = (said ≡ nothing) × (new ≡ over name)
 
 -- the output for pieces that come one after the other
-abbrev pub SaysAll : Standing → List (List ℕ) → Spoken → Standing → Type 0
+abbrev pub SaysAll : SessionPhase → List (List ℕ) → Spoken → SessionPhase → Type 0
 SaysAll old [] said new = (said ≡ nothing) × (new ≡ old)
 SaysAll old (piece ∷ pieces) said new =
-    (first : Spoken) × (mid : Standing) × (others : Spoken) × Says old piece first mid × SaysAll mid pieces others new
+    (first : Spoken) × (mid : SessionPhase) × (others : Spoken) × Says old piece first mid × SaysAll mid pieces others new
     × (said ≡ and_then first others)
 
 -- ---- want of memory
 
 -- nothing more is heard
-abbrev pub IsOver : Standing → Type 0
+abbrev pub IsOver : SessionPhase → Type 0
 IsOver s = (name : Option (List ℕ)) × (s ≡ over name)
 
 -- the output has no frame of the piece, and says that memory ran out
@@ -155,20 +155,20 @@ abbrev pub IsTurnedAway : Spoken → Type 0
 IsTurnedAway said = (refusal : Refusal) × (said ≡ asked (Refused refusal)) × (line_seen refusal ≡ line_of Memory)
 
 -- there was no memory for the bytes of a request
-abbrev pub LacksToAsk : Spoken → Standing → Type 0
+abbrev pub LacksToAsk : Spoken → SessionPhase → Type 0
 LacksToAsk said new = IsTurnedAway said × (new ≡ over None)
 
 -- there was no memory for a greeting, or for the frames behind it
-abbrev pub LacksToGreet : Spoken → Standing → Type 0
+abbrev pub LacksToGreet : Spoken → SessionPhase → Type 0
 LacksToGreet said new = IsUnheard said × IsOver new
 
 -- there was no memory for what a connection begins with, by its first byte
-pub record LacksToBegin (first : ℕ) (said : Spoken) (new : Standing) : Type 0 where
+pub record LacksToBegin (first : ℕ) (said : Spoken) (new : SessionPhase) : Type 0 where
   pub peer : first < 32 → LacksToGreet said new
   pub request : 32 ≤ first → LacksToAsk said new
 
 -- there was no memory for what a piece says: the output says so, and nothing more is heard
-abbrev pub LacksMemory : Standing → List ℕ → Spoken → Standing → Type 0
+abbrev pub LacksMemory : SessionPhase → List ℕ → Spoken → SessionPhase → Type 0
 LacksMemory fresh [] said new = ⊥
 LacksMemory fresh (first ∷ bytes) said new = LacksToBegin first said new
 LacksMemory (InRequest bytes) piece said new = LacksToAsk said new
@@ -177,7 +177,7 @@ LacksMemory (InFrames name count rest) piece said new = IsUnheard said × (new �
 LacksMemory (over name) piece said new = ⊥
 
 -- the output for a piece: what the piece says, or that there was no memory for it
-abbrev pub Feeds : Standing → List ℕ → Spoken → Standing → Type 0
+abbrev pub Feeds : SessionPhase → List ℕ → Spoken → SessionPhase → Type 0
 Feeds old piece said new = Says old piece said new ⊎ LacksMemory old piece said new
 
 -- ---- the end of the input
@@ -190,14 +190,14 @@ pub record IsCutShort (bytes : List ℕ) (said : Spoken) : Type 0 where
   pub read : IsReadOf bytes true (Refused refusal)
 
 -- the output for the end of the input: that a request is cut short, if it isn't whole; nothing otherwise
-abbrev pub SaysEnd : Standing → Spoken → Type 0
+abbrev pub SaysEnd : SessionPhase → Spoken → Type 0
 SaysEnd (InRequest bytes) said = IsCutShort bytes said
 SaysEnd _ said = said ≡ nothing
 
 -- ---- where it comes from
 
 -- the screening of a connection with the next piece, by the head of the request that its bytes begin
-abbrev pub Screens : Standing → List ℕ → List (List ℕ) → Screened → Type 0
+abbrev pub Screens : SessionPhase → List ℕ → List (List ℕ) → Screened → Type 0
 Screens fresh piece names result = IsScreened names piece result
 Screens (InRequest bytes) piece names result = IsScreened names (bytes ++ piece) result
 Screens _ piece names result = result ≡ screened.Known

@@ -8,15 +8,15 @@ use Rattle.am_http.specs.declared.session.fault.SessionFault.{SessionFault}
 use Rattle.am_http.specs.declared.session.fault.SessionFault.TheVariants.{TooLarge, Frame as InFrame}
 use Rattle.am_http.specs.declared.session.state.SessionState.{SessionState}
 use Rattle.am_http.specs.declared.session.state.SessionState.TheVariants.{Fresh, Asking, Greeting, Hearing, Over}
-use Rattle.am_http.specs.Sessions.{Standing, fresh, InRequest, InGreeting, InFrames, over}
+use Rattle.am_http.specs.Sessions.{SessionPhase, fresh, InRequest, InGreeting, InFrames, over}
 
 -- the progress of the connection
-abbrev pub standing_in : SessionState → Standing
-standing_in Fresh = fresh
-standing_in (Asking bytes) = InRequest bytes.items
-standing_in (Greeting bytes) = InGreeting bytes.items
-standing_in (Hearing h) = InFrames (string_bytes h.name) h.count (rest_bytes h.feeder)
-standing_in (Over name) = over (option_map string_bytes name)
+abbrev pub phase_in : SessionState → SessionPhase
+phase_in Fresh = fresh
+phase_in (Asking bytes) = InRequest bytes.items
+phase_in (Greeting bytes) = InGreeting bytes.items
+phase_in (Hearing h) = InFrames (string_bytes h.name) h.count (rest_bytes h.feeder)
+phase_in (Over name) = over (option_map string_bytes name)
 
 -- a request that was begun isn't decided, and a stream that goes on has had no fault
 abbrev pub IsSound : SessionState → Type 0

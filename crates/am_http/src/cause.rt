@@ -5,7 +5,7 @@ ghost use Rattle.http.specs.StatusCode.{IsStatusCode};
 ghost use Rattle.am_http.specs.Lines.{allowed_at, bad_key, is_head, line, line_of, line_seen, told_to};
 
 use crate::refusal::Refusal;
-use am_silence_json::Key;
+use am_silence_json::JsonKey;
 
 /// A resource that a path of API v2 names.
 #[derive(Clone, Copy, Debug)]
@@ -40,7 +40,7 @@ pub enum Cause {
     /// The body isn't a JSON object.
     BadJson,
     /// The posted silence lacks this key, or has a wrong value for it.
-    BadSilence(Key),
+    BadSilence(JsonKey),
     /// Memory ran out.
     Memory,
 }
@@ -92,16 +92,16 @@ impl Resource {
 }
 
 /// Returns the text for a key that is missing or wrong in what is posted.
-const fn bad_key(key: Key) -> &'static str
+const fn bad_key(key: JsonKey) -> &'static str
     ensures { result.now ≡ bad_key key }
 {
     match key {
-        Key::Id => "bad silence: id",
-        Key::Matchers => "bad silence: matchers",
-        Key::StartsAt => "bad silence: startsAt",
-        Key::EndsAt => "bad silence: endsAt",
-        Key::CreatedBy => "bad silence: createdBy",
-        Key::Comment => "bad silence: comment",
+        JsonKey::Id => "bad silence: id",
+        JsonKey::Matchers => "bad silence: matchers",
+        JsonKey::StartsAt => "bad silence: startsAt",
+        JsonKey::EndsAt => "bad silence: endsAt",
+        JsonKey::CreatedBy => "bad silence: createdBy",
+        JsonKey::Comment => "bad silence: comment",
     }
 }
 

@@ -39,7 +39,7 @@ fn text_at(head: &[u8], place: Span) -> &str
 }
 
 /// Returns how far the bytes of a request have come. It takes no memory.
-pub fn standing_of(bytes: &[u8]) -> RequestProgress<'_>
+pub fn progress_of(bytes: &[u8]) -> RequestProgress<'_>
     ensures { IsStandingOf bytes.now result }
 {
     let mut fields = [EMPTY_HEADER_SPAN; MOST_FIELDS];

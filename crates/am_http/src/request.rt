@@ -4,7 +4,7 @@ ghost use Rattle.std.specs.Prelude.{◌≡◌, IfOk, string_bytes};
 ghost use Rattle.am_http.specs.Requests.{IsReadOf, IsTakenFrom, IsUnfinished};
 
 use crate::cause::Cause;
-use crate::progress::{Parts, RequestProgress, standing_of};
+use crate::progress::{Parts, RequestProgress, progress_of};
 use crate::refusal::Refusal;
 use std::alloc::{AllocError, Global};
 
@@ -68,7 +68,7 @@ pub fn read_request(alloc: Global, bytes: &[u8], ended: bool) -> Read
     // PROMISE: Bytes are a whole request, unfinished, or at fault by the first line of the table.
     ensures { IsReadOf bytes.now ended result }
 {
-    match standing_of(bytes) {
+    match progress_of(bytes) {
         RequestProgress::Head | RequestProgress::Body { .. } => unfinished(bytes, ended),
         RequestProgress::Whole(parts) => taken(alloc, parts),
         RequestProgress::Refused(cause) => Read::Refused(cause.refusal()),

@@ -37,12 +37,12 @@ pub struct Session {
 }
 
 impl Model for Session {
-    ghost use Rattle.am_http.specs.Sessions.{Standing};
-    ghost use Rattle.am_http.specs.States.{IsSound, standing_in};
+    ghost use Rattle.am_http.specs.Sessions.{SessionPhase};
+    ghost use Rattle.am_http.specs.States.{IsSound, phase_in};
 
-    ghost Value = { Standing };
+    ghost Value = { SessionPhase };
 
-    ghost view = { λ s. standing_in s.state };
+    ghost view = { λ s. phase_in s.state };
 
     ghost invariant = { λ s. IsSound s.state };
 }

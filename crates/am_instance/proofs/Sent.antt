@@ -1,5 +1,5 @@
 -- Frames that are sent one after the other.
-use Rattle.std.proofs.Common.{◌≡◌, ℕ, ◌+◌, List, [], ◌∷◌, ◌++◌, Bool, true, false, ap, refl, sym, subst, ◌∙◌, append-nil, arith}
+use Rattle.std.proofs.Common.{◌≡◌, ℕ, ◌+◌, List, [], ◌∷◌, ◌++◌, Bool, false, ap, refl, sym, subst, ◌∙◌, arith}
 use Rattle.std.specs.Prelude.{filter}
 use Rattle.std.proofs.lemmas.List.{map-id, map-append}
 use Rattle.std.proofs.lemmas.List.Elements.{filter-append}
@@ -41,12 +41,6 @@ along_more n one other frame a b c first second =
     let whole : addressed (places_but n one other) frame ++ addressed (filter (is_other one other) (n ∷ [])) frame ≡ addressed (places_but (n + 1) one other) frame =
     sym (ap (λ places. addressed places frame) (places_more n one other) ∙ map-append (λ place. (place, frame)) (places_but n one other) (filter (is_other one other) (n ∷ []))) in
     subst (λ ws. Sends ws a c) whole (sends_append (addressed (places_but n one other) frame) (addressed (filter (is_other one other) (n ∷ [])) frame) a b c first second)
-
--- what is sent of a version that changes the map, and of one that doesn't
-pub if_sent : {A : Type 0} (frames_of : A → List (ℕ × Frame)) (test : Bool) (v : A) (a b : Sent) → test ≡ true → Sends (frames_of v) a b → Sends (flat_map frames_of (only_if test v)) a b
-if_sent frames_of test v a b holds sent =
-    let whole : frames_of v ≡ flat_map frames_of (only_if test v) = sym (ap (λ t. flat_map frames_of (only_if t v)) holds ∙ append-nil (frames_of v)) in
-    subst (λ ws. Sends ws a b) whole sent
 
 pub none_sent : {A : Type 0} (frames_of : A → List (ℕ × Frame)) (test : Bool) (v : A) (a : Sent) → test ≡ false → Sends (flat_map frames_of (only_if test v)) a a
 none_sent frames_of test v a fails = subst (λ ws. Sends ws a a) (sym (ap (λ t. flat_map frames_of (only_if t v)) fails)) refl

@@ -1,10 +1,9 @@
 -- The values of labels in a map by their names.
 use Rattle.std.proofs.Common.{◌≡◌, ℕ, ◌+◌, ◌<◌, Bool, true, false, cond, List, [], ◌∷◌, ◌++◌, length, take, find, reverse, get_or, Option, Some, refl, sym, ap, ◌∙◌}
 use Rattle.std.specs.Prelude.{if◌then◌else◌}
-use Rattle.std.specs.BTreeMap.{BTreeMap, UpdatesBy, get_by, is_at}
+use Rattle.std.specs.BTreeMap.{BTreeMap, UpdatesBy, get_by}
 use Rattle.std.specs.Borrow.{Bor}
 use Rattle.std.specs.Cmp.Lexicographic.{slice_cmp}
-use Rattle.std.specs.Map.{lookup}
 use Rattle.std.specs.Option.{option_map_or}
 use Rattle.std.specs.Ordering.{nat_cmp}
 use Rattle.std.proofs.lemmas.List.{reverse-append, take_more}
@@ -24,11 +23,6 @@ value-last : (labels : List Label) (label : Label) (name : List ℕ) →
 value-last labels label name =
     ap (λ (ls : List Label). option_map_or (λ (l : Label). l.value) (find (λ (l : Label). is_text l.name name) ls) []) (reverse-append labels (label ∷ []))
     ∙ chosen (λ (l : Label). l.value) (is_text label.name name) label (find (λ (l : Label). is_text l.name name) (reverse labels))
-
--- an empty map has the values of no labels
-pub values_of_none : (values : BTreeMap (Bor (List ℕ)) (Bor (List ℕ))) → values.entries ≡ [] → AreValuesOf [] values
-values_of_none values none = λ name.
-    ap (λ (es : List (Bor (List ℕ) × Bor (List ℕ))). option_map_or (λ (value : Bor (List ℕ)). value.now) (lookup (is_at (λ (key : Bor (List ℕ)). slice_cmp nat_cmp name key.now)) es) []) none
 
 -- one label more
 pub values_more : (labels : List Label) (i : ℕ) (label : Label) (key value : Bor (List ℕ)) (old new : BTreeMap (Bor (List ℕ)) (Bor (List ℕ))) →

@@ -19,10 +19,6 @@ unfolding before_all
 before_all-append [] rest found = refl
 before_all-append (part ∷ front) rest found = ap (over part) (before_all-append front rest found)
 
-before_all-cons : (part : Part) (rest : List Part) (found : Option Nest) → before_all (part ∷ rest) found ≡ over part (before_all rest found)
-unfolding before_all
-before_all-cons part rest found = refl
-
 -- ---- what follows an expression is known before it
 record Waits (times often : ℕ) (repeats : List Part) (outer : List ℕ) : Type 0 where
   waiting : Option ℕ

@@ -122,8 +122,6 @@ pub reads_open : {characters : List ℕ} {place : Place} {left : List ℕ} {foun
 reads_open {left} so e other all r = other (ended (so.backward all r).is_read (none_left (length left) e))
 
 -- ---- patterns that are not taken
-pub not_read : (characters : List ℕ) → ((contents : Contents) → IsRead Outside characters contents → ⊥) → (written : List ℕ) → IsTranslated characters written → ⊥
-not_read characters none written t = none t.contents t.is_read
 
 pub not_sound : (characters : List ℕ) (found : Contents) → IsRead Outside characters found → (IsSoundContents found → ⊥) → (written : List ℕ) → IsTranslated characters written → ⊥
 not_sound characters found r unsound written t = unsound (subst IsSoundContents (read_once t.is_read r) t.sound)

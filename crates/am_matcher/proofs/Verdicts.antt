@@ -1,6 +1,5 @@
 -- Each list of matchers has a verdict, whether anyone asks for it or not.
 use Rattle.std.proofs.Common.{◌≡◌, ℕ, suc, ◌≤◌, ◌⊎◌, inl, inr, ⊎_elim, Bool, true, false, true≢false, List, [], ◌∷◌, Option, Some, None, All, Any, IsSomeAnd, refl, sym, ◌∙◌, arith}
-use Rattle.std.specs.List.{list_all}
 use Rattle.std.specs.Str.{chars}
 use Rattle.std.proofs.lemmas.Bool.{cases_lt}
 use Rattle.std.proofs.lemmas.List.Elements.{All-nil, All-cons}
@@ -11,11 +10,9 @@ use Rattle.regex_syntax.specs.declared.error.ErrorKind.TheVariants as parser
 use Rattle.regex.specs.Patterns.{Re, default_config}
 use Rattle.regex.specs.declared.error.Error.TheVariants.{Syntax}
 use Rattle.am_silence.specs.declared.matcher.Matcher.{Matcher}
-use Rattle.am_silence.specs.declared.plan.Verdict.{Verdict}
-use Rattle.am_silence.specs.declared.plan.Verdict.TheVariants.{Fine, Bad, AllEmpty}
 use Rattle.am_silence.specs.Kinds.{is_regexp}
 use Rattle.am_matcher.specs.Patterns.{whole_text, IsReadable, IsSound, IsBroken}
-use Rattle.am_matcher.specs.Matching.{matches_value, IsSoundMatcher, IsBrokenMatcher, IsVerdict}
+use Rattle.am_matcher.specs.Matching.{IsSoundMatcher, IsBrokenMatcher}
 
 read_or_not : (o : Option (Nested Re × Names)) (most : ℕ) → IsSomeAnd o (λ (re, names). re.depth ≤ most) ⊎ (¬ IsSomeAnd o (λ (re, names). re.depth ≤ most))
 read_or_not None most = inr (λ none. none)
@@ -51,13 +48,3 @@ all_or_any (m ∷ ms) = ⊎_elim
     (all_or_any ms))
     (λ broken. inr (0, m, omega arith, refl, broken))
     (by_kind m (is_regexp m.kind) refl)
-
-by_values : (matchers : List Matcher) (b : Bool) → All IsSoundMatcher matchers → list_all (λ m. matches_value m []) matchers ≡ b → (verdict : Verdict) × IsVerdict matchers verdict
-by_values matchers true sound is = (AllEmpty, (sound, is))
-by_values matchers false sound is = (Fine, (sound, is))
-
-pub has_verdict : (matchers : List Matcher) → (verdict : Verdict) × IsVerdict matchers verdict
-has_verdict matchers = ⊎_elim
-    (λ sound. by_values matchers (list_all (λ m. matches_value m []) matchers) sound refl)
-    (λ broken. (Bad, broken))
-    (all_or_any matchers)

@@ -9,7 +9,7 @@ ghost use Rattle.am_matcher.specs.Uses.{is_used_by, TextsPass};
 use crate::compiled::BuildError;
 use crate::dialect::Dialect;
 use crate::entries::{
-    Entry, ask, count, drop_unused, is_broken_in, long_steps, place_of, whole_in,
+    CacheEntry, ask, count, drop_unused, is_broken_in, long_steps, place_of, whole_in,
 };
 use crate::kept::{Kept, whole_of};
 use crate::whole::Whole;
@@ -47,7 +47,7 @@ pub struct Prepared {
 /// of another dialect.
 pub struct PatternCache {
     alloc: Global,
-    entries: Vec<Entry>,
+    entries: Vec<CacheEntry>,
     /// The number of bytes that are counted for all patterns.
     bytes: usize,
 }
@@ -209,7 +209,7 @@ impl PatternCache {
         let Err(place) = place_of(self.entries.as_slice(), built.text()) else {
             return Ok(());
         };
-        let entry = Entry {
+        let entry = CacheEntry {
             kept: built,
             is_used: false,
         };

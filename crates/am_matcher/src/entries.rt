@@ -18,14 +18,14 @@ use am_silence::{MatcherIter, MatcherRef, MeshSilence};
 
 /// A pattern that is kept.
 #[derive(Drop)]
-pub struct Entry {
+pub struct CacheEntry {
     pub kept: Kept,
     /// True if the pattern is marked as one that a silence has. Marks count only while the unused patterns are dropped.
     pub is_used: bool,
 }
 
 /// Returns the place of the pattern with this text, or the place where it would be inserted.
-pub fn place_of(entries: &[Entry], text: &str) -> Result<usize, usize>
+pub fn place_of(entries: &[CacheEntry], text: &str) -> Result<usize, usize>
     ensures found { IfOk result (HoldsAt (λ e. e.kept.text ≡ text.now) entries.now) }
     ensures inside { IfOk result (λ place. place < length entries.now) }
     ensures within { IfErr result (λ place. place ≤ length entries.now) }
@@ -34,7 +34,7 @@ pub fn place_of(entries: &[Entry], text: &str) -> Result<usize, usize>
 }
 
 /// Returns the place of the pattern with this text, if it is one of the dialect.
-fn place_in(entries: &[Entry], dialect: Dialect, text: &str) -> Option<usize>
+fn place_in(entries: &[CacheEntry], dialect: Dialect, text: &str) -> Option<usize>
     ensures found { IfSome result (HoldsAt (λ e. e.kept.text ≡ text.now) entries.now) }
     ensures dialect { IfSome result (HoldsAt (λ e. e.kept.dialect ≡ dialect) entries.now) }
     ensures inside { IfSome result (λ place. place < length entries.now) }
@@ -51,7 +51,7 @@ fn place_in(entries: &[Entry], dialect: Dialect, text: &str) -> Option<usize>
 
 /// Returns whether the value matches the pattern with this text, if that is kept as one of the dialect.
 pub fn ask(
-    entries: &mut Vec<Entry>,
+    entries: &mut Vec<CacheEntry>,
     dialect: Dialect,
     pattern: &str,
     value: &str,
@@ -66,7 +66,7 @@ pub fn ask(
 }
 
 /// Returns whether the pattern with this text is broken, if it is kept as one of the dialect.
-pub fn is_broken_in(entries: &[Entry], dialect: Dialect, pattern: &str) -> Option<bool>
+pub fn is_broken_in(entries: &[CacheEntry], dialect: Dialect, pattern: &str) -> Option<bool>
     ensures sound { IfSome result (λ broken. broken ≡ false → IsSoundIn dialect pattern.now) }
     ensures broken { IfSome result (λ broken. broken ≡ true → IsBrokenIn dialect pattern.now) }
 {
@@ -76,7 +76,7 @@ pub fn is_broken_in(entries: &[Entry], dialect: Dialect, pattern: &str) -> Optio
 
 /// Returns the compiled form of the pattern with this text, if it is kept as one of the dialect. What is kept is shared.
 pub fn whole_in(
-    entries: &[Entry],
+    entries: &[CacheEntry],
     dialect: Dialect,
     pattern: &str,
 ) -> Option<Result<Whole, BuildError>>
@@ -89,7 +89,7 @@ pub fn whole_in(
 }
 
 /// Returns the number of bytes that are counted for the patterns.
-pub fn count(entries: &[Entry]) -> usize
+pub fn count(entries: &[CacheEntry]) -> usize
     requires { size_of_all (patterns_in entries.now) < 2 ^ 64 }
     ensures { result ≡ size_of_all (patterns_in entries.now) }
 {
@@ -101,7 +101,7 @@ pub fn count(entries: &[Entry]) -> usize
 }
 
 /// Returns the number of steps that the long searches for the patterns take at most in a text of `length` bytes.
-pub fn long_steps(entries: &[Entry], length: usize) -> usize
+pub fn long_steps(entries: &[CacheEntry], length: usize) -> usize
     ensures { result ≡ min (long_steps_of_all length (patterns_in entries.now)) (2 ^ 64 - 1) }
 {
     let mut steps = 0usize;
@@ -112,7 +112,7 @@ pub fn long_steps(entries: &[Entry], length: usize) -> usize
 }
 
 /// Drops the patterns that no silence of the map has. Nothing is allocated.
-pub fn drop_unused(entries: &mut Vec<Entry>, held: &Held<MeshSilence>)
+pub fn drop_unused(entries: &mut Vec<CacheEntry>, held: &Held<MeshSilence>)
     ensures used { TextsPass (is_used_by held.now) (patterns_in entries.new.items) }
     ensures kept { All (Contains (patterns_in entries.old.items)) (patterns_in entries.new.items) }
     ensures size { size_of_all (patterns_in entries.new.items) ≤ size_of_all (patterns_in entries.old.items) }
@@ -122,7 +122,7 @@ pub fn drop_unused(entries: &mut Vec<Entry>, held: &Held<MeshSilence>)
 }
 
 /// Marks the patterns that the silences of the map have, and no others.
-fn mark_used(entries: &mut Vec<Entry>, held: &Held<MeshSilence>)
+fn mark_used(entries: &mut Vec<CacheEntry>, held: &Held<MeshSilence>)
     ensures same { patterns_in entries.new.items ≡ patterns_in entries.old.items }
     ensures used { MarkedPass (is_used_by held.now) entries.new.items }
 {
@@ -132,7 +132,7 @@ fn mark_used(entries: &mut Vec<Entry>, held: &Held<MeshSilence>)
     }
 }
 
-fn unmark_all(entries: &mut Vec<Entry>)
+fn unmark_all(entries: &mut Vec<CacheEntry>)
     ensures same { patterns_in entries.new.items ≡ patterns_in entries.old.items }
     ensures none { All (λ e. e.is_used ≡ false) entries.new.items }
 {
@@ -142,7 +142,7 @@ fn unmark_all(entries: &mut Vec<Entry>)
 }
 
 /// Marks the patterns of matchers.
-fn mark_all(entries: &mut Vec<Entry>, matchers: MatcherIter<'_>)
+fn mark_all(entries: &mut Vec<CacheEntry>, matchers: MatcherIter<'_>)
     ensures same { patterns_in entries.new.items ≡ patterns_in entries.old.items }
     ensures used { (test : List ℕ → Bool) → PatternsPass test matchers.entry →
         MarkedPass test entries.old.items → MarkedPass test entries.new.items }
@@ -153,7 +153,7 @@ fn mark_all(entries: &mut Vec<Entry>, matchers: MatcherIter<'_>)
 }
 
 /// Marks the pattern of a matcher, if it is a regular expression and is kept.
-fn mark(entries: &mut Vec<Entry>, matcher: &MatcherRef<'_>)
+fn mark(entries: &mut Vec<CacheEntry>, matcher: &MatcherRef<'_>)
     ensures same { patterns_in entries.new.items ≡ patterns_in entries.old.items }
     ensures used { (test : List ℕ → Bool) → (is_regexp matcher.now.kind ≡ true → test matcher.now.pattern ≡ true) →
         MarkedPass test entries.old.items → MarkedPass test entries.new.items }
@@ -168,7 +168,7 @@ fn mark(entries: &mut Vec<Entry>, matcher: &MatcherRef<'_>)
     entry.is_used = true;
 }
 
-fn drop_unmarked(entries: &mut Vec<Entry>)
+fn drop_unmarked(entries: &mut Vec<CacheEntry>)
     ensures { entries.new.items ≡ filter (λ e. e.is_used) entries.old.items }
 {
     entries.retain(|entry| entry.is_used);

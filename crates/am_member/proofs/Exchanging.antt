@@ -11,7 +11,7 @@ use Rattle.am_http.specs.declared.request.Request.{Request}
 use Rattle.am_instance.specs.InstanceStates.{InstanceState}
 use Rattle.am_http.specs.declared.session.fault.SessionFault.{SessionFault}
 use Rattle.am_http.specs.declared.session.fault.SessionFault.TheVariants as session_faults
-use Rattle.am_http.specs.Sessions.{Standing, name_of, over}
+use Rattle.am_http.specs.Sessions.{SessionPhase, name_of, over}
 use Rattle.am_member.specs.declared.session_answer.StepEffects.{StepEffects}
 use Rattle.am_member.specs.declared.session_answer.SessionAnswer.{SessionAnswer}
 use Rattle.am_peers.specs.declared.fault.ConnectionFault.{ConnectionFault}
@@ -30,20 +30,20 @@ module _ (read : Read) (bits now : ℕ) (old new : InstanceState) (answer : Sess
       (record { begun = begun; such = such; reply = reply; effects = effects; no_fault = no_fault })
 
 -- a fault of the session itself is none at which the member stops it
-pub heard_fault : (fault : Option SessionFault) (standing : Standing) → left_at (option_map fault_heard fault) standing ≡ standing
-heard_fault None standing = refl
-heard_fault (Some session_faults.TooLarge) standing = refl
-heard_fault (Some (session_faults.Frame error)) standing = refl
+pub heard_fault : (fault : Option SessionFault) (session_phase : SessionPhase) → left_at (option_map fault_heard fault) session_phase ≡ session_phase
+heard_fault None session_phase = refl
+heard_fault (Some session_faults.TooLarge) session_phase = refl
+heard_fault (Some (session_faults.Frame error)) session_phase = refl
 
 -- a step that isn't made stops it
-pub stopped : (name : Option (List ℕ)) (now : ℕ) (frames : List Frame) (before after : SoFar) (stop : ConnectionFault) (standing : Standing) →
-    AreStepped name now frames before after (Err stop) → left_at (Some stop) standing ≡ over (name_of standing)
-stopped name now frames before after UnknownName standing stepped = refl
-stopped name now frames before after (Step error) standing stepped = refl
-stopped name now frames before after (InRead at) standing stepped = absurd stepped
-stopped name now frames before after (Write written) standing stepped = absurd stepped
-stopped name now frames before after TooLarge standing stepped = absurd stepped
-stopped name now frames before after (InFrame error) standing stepped = absurd stepped
+pub stopped : (name : Option (List ℕ)) (now : ℕ) (frames : List Frame) (before after : SoFar) (stop : ConnectionFault) (session_phase : SessionPhase) →
+    AreStepped name now frames before after (Err stop) → left_at (Some stop) session_phase ≡ over (name_of session_phase)
+stopped name now frames before after UnknownName session_phase stepped = refl
+stopped name now frames before after (Step error) session_phase stepped = refl
+stopped name now frames before after (InRead at) session_phase stepped = absurd stepped
+stopped name now frames before after (Write written) session_phase stepped = absurd stepped
+stopped name now frames before after TooLarge session_phase stepped = absurd stepped
+stopped name now frames before after (InFrame error) session_phase stepped = absurd stepped
 
 module _ (name given : Option (List ℕ)) (now : ℕ) (frames : List Frame) (fault : Option SessionFault) (old : InstanceState) (before : StepEffects) (new : InstanceState) (answer : SessionAnswer)
     (same : given ≡ name) (none : before ≡ no_effects) (silent : answer.reply ≡ None) where

@@ -18,7 +18,7 @@ use Rattle.am_instance.specs.declared.event.Event.{Event}
 use Rattle.am_instance.specs.declared.event.Event.TheVariants as events
 use Rattle.am_instance.specs.declared.reply.Outcome.{Outcome}
 use Rattle.am_api_silences.specs.Answers.{Answered, IsRefusalAnswer, IsRequestAnswer, IsStepAnswer, with_reply}
-use Rattle.am_http.specs.Sessions.{Standing, name_of}
+use Rattle.am_http.specs.Sessions.{SessionPhase, name_of}
 use Rattle.am_member.specs.Sparing.{deferred}
 use Rattle.am_peers.specs.declared.fault.ConnectionFault.{ConnectionFault}
 use Rattle.am_peers.specs.declared.fault.ConnectionFault.TheVariants.{Read as InRead, Write, TooLarge, Frame as InFrame, UnknownName, Step}
@@ -26,7 +26,7 @@ use Rattle.am_member.specs.declared.session_answer.SessionAnswer.{SessionAnswer}
 use Rattle.am_member.specs.Incoming.{MakesAll, SoFar, StopsAt, no_effects, so_far}
 use Rattle.am_member.proofs.Finished.{finish_of}
 use Rattle.am_member.specs.Exchanging.{AreStepped, IsReadAnswer, IsSessionAnswer, is_stopped}
-use Rattle.am_member.specs.Lives.{AreEventsOf, AreEventsOfFrames, AreEventsOfRead, AreStepsOf, AreStepsOfAll, Deed, IsLife, IsTurn, Turn, listed, standings_after}
+use Rattle.am_member.specs.Lives.{AreEventsOf, AreEventsOfFrames, AreEventsOfRead, AreStepsOf, AreStepsOfAll, Deed, IsLife, IsTurn, Turn, listed, session_phases_after}
 use Rattle.am_member.specs.Lives.Deed.{Served, Own}
 
 -- steps behind others
@@ -252,19 +252,19 @@ turn_by old turn None is done =
     })
     found.steps
 
-pub turn_steps : (standing : Standing) (old : InstanceState) (turn : Turn) → IsTurn standing old turn → (steps : List Happened) × AreStepsOf old turn steps
-turn_steps standing old turn done = turn_by old turn (deferred turn.said).request refl done.answered
+pub turn_steps : (session_phase : SessionPhase) (old : InstanceState) (turn : Turn) → IsTurn session_phase old turn → (steps : List Happened) × AreStepsOf old turn steps
+turn_steps session_phase old turn done = turn_by old turn (deferred turn.said).request refl done.answered
 
 -- all deeds
-pub life_steps : (standings : ℕ → Standing) (start new : InstanceState) (deeds : List Deed) → IsLife standings start deeds new →
+pub life_steps : (session_phases : ℕ → SessionPhase) (start new : InstanceState) (deeds : List Deed) → IsLife session_phases start deeds new →
     (steps : List Happened) × AreStepsOfAll start deeds steps × AreMade start steps new
-life_steps standings start new [] same = ([], refl, same)
-life_steps standings start new (Served turn ∷ deeds) life =
-    let own = turn_steps (standings turn.connection) start turn life.0 in
-    let others = life_steps (standings_after standings turn) turn.left new deeds life.1 in (
+life_steps session_phases start new [] same = ([], refl, same)
+life_steps session_phases start new (Served turn ∷ deeds) life =
+    let own = turn_steps (session_phases turn.connection) start turn life.0 in
+    let others = life_steps (session_phases_after session_phases turn) turn.left new deeds life.1 in (
       own.0 ++ others.0,
       (own.0, others.0, own.1, others.1, refl),
       made_append start turn.left new own.0 others.0 own.1.made others.2,
     )
-life_steps standings start new (Own step ∷ deeds) life =
-    let others = life_steps standings step.left new deeds life.1 in (step ∷ others.0, (others.0, others.1, refl), (let left = by_its_own start step.left step.event step.now step.answer life.0 in (left.0, left.1, others.2)))
+life_steps session_phases start new (Own step ∷ deeds) life =
+    let others = life_steps session_phases step.left new deeds life.1 in (step ∷ others.0, (others.0, others.1, refl), (let left = by_its_own start step.left step.event step.now step.answer life.0 in (left.0, left.1, others.2)))

@@ -13,7 +13,7 @@ use Rattle.am_instance.specs.Configs.{Settings}
 use Rattle.am_instance.specs.InstanceStates.{InstanceState}
 use Rattle.am_http.specs.declared.session.fault.SessionFault.{SessionFault}
 use Rattle.am_http.specs.declared.session.fault.SessionFault.TheVariants as session_faults
-use Rattle.am_http.specs.Sessions.{Spoken, Standing, name_of, over}
+use Rattle.am_http.specs.Sessions.{Spoken, SessionPhase, name_of, over}
 use Rattle.am_member.specs.declared.session_answer.SessionAnswer.{SessionAnswer}
 use Rattle.am_peers.specs.declared.fault.ConnectionFault.{ConnectionFault}
 use Rattle.am_peers.specs.declared.fault.ConnectionFault.TheVariants.{TooLarge, Frame as InFrame, UnknownName, Step}
@@ -100,11 +100,11 @@ is_stopped (Some UnknownName) = true
 is_stopped (Some (Step error)) = true
 is_stopped _ = false
 
--- the standing of a connection after a fault, or without one
-abbrev pub left_at : Option ConnectionFault → Standing → Standing
-left_at (Some UnknownName) standing = over (name_of standing)
-left_at (Some (Step error)) standing = over (name_of standing)
-left_at _ standing = standing
+-- the phase of a session after a fault, or without one
+abbrev pub left_at : Option ConnectionFault → SessionPhase → SessionPhase
+left_at (Some UnknownName) session_phase = over (name_of session_phase)
+left_at (Some (Step error)) session_phase = over (name_of session_phase)
+left_at _ session_phase = session_phase
 
 -- ---- expensive requests
 

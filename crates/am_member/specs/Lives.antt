@@ -29,7 +29,7 @@ use Rattle.am_api_silences.specs.Replies.{IsReplyBytes, Says, line_bytes, memory
 use Rattle.am_api_silences.specs.Table.{clock_line}
 use Rattle.am_api_silences.specs.declared.reply_builder.ReplyBuilder.{ReplyBuilder}
 use Rattle.am_api_silences.specs.declared.replies.ResponseBytes.{ResponseBytes}
-use Rattle.am_http.specs.Sessions.{Feeds, Says as SaysPiece, SaysEnd, Spoken, Standing, and_then, name_of, nothing, over}
+use Rattle.am_http.specs.Sessions.{Feeds, Says as SaysPiece, SaysEnd, Spoken, SessionPhase, and_then, name_of, nothing, over}
 use Rattle.am_member.specs.declared.session_answer.SessionAnswer.{SessionAnswer}
 use Rattle.am_member.specs.Exchanging.{AreFrom, IsSessionAnswer, IsFromNobody, is_stopped, left_at}
 use Rattle.am_member.specs.Sparing.{deferred}
@@ -50,18 +50,18 @@ bytes_of AtEnd = []
 bytes_of (Opened greeting frames) = greeting
 
 -- the session heard the greeting, if one came
-abbrev pub IsGreetedBy : Standing → List ℕ → Standing → Type 0
+abbrev pub IsGreetedBy : SessionPhase → List ℕ → SessionPhase → Type 0
 IsGreetedBy old greeting new = ((greeting ≡ []) × (new ≡ old)) ⊎ ((said : Spoken) × Feeds old greeting said new × (said.fault ≡ None))
 
 -- sealed frames say just these, behind the greeting; the connection is heard on or not
-pub record SaysOpened (old : Standing) (greeting : List ℕ) (frames : List Frame) (said : Spoken) (new : Standing) : Type 0 where
+pub record SaysOpened (old : SessionPhase) (greeting : List ℕ) (frames : List Frame) (said : Spoken) (new : SessionPhase) : Type 0 where
   pub says : said ≡ record { frames = frames; request = None; fault = None }
-  pub mid : Standing
+  pub mid : SessionPhase
   pub greets : IsGreetedBy old greeting mid
   pub goes_on : (new ≡ mid) ⊎ (new ≡ over (name_of mid))
 
--- the input says this, and leaves the connection in this standing
-abbrev pub Tells : Standing → Came → Spoken → Standing → Type 0
+-- the input says this, and leaves the connection in this phase
+abbrev pub Tells : SessionPhase → Came → Spoken → SessionPhase → Type 0
 Tells old (Heard piece) said new = SaysPiece old piece said new
 Tells old (Fed piece) said new = Feeds old piece said new
 Tells old AtEnd said new = SaysEnd old said × (new ≡ over (name_of old))
@@ -75,20 +75,20 @@ pub record Turn : Type 0 where
   pub now : ℕ
   pub bits : ℕ
   pub said : Spoken
-  pub heard : Standing
+  pub heard : SessionPhase
   pub answer : SessionAnswer
   pub left : InstanceState
 
 -- The input is told by the connection's own session; the events that its frames ask for are left to the member's own steps, and
 -- the rest is answered as the contract of `apply_session_output` says.
-pub record IsTurn (standing : Standing) (old : InstanceState) (turn : Turn) : Type 0 where
-  pub tells : Tells standing turn.came turn.said turn.heard
+pub record IsTurn (session_phase : SessionPhase) (old : InstanceState) (turn : Turn) : Type 0 where
+  pub tells : Tells session_phase turn.came turn.said turn.heard
   pub answered : IsSessionAnswer (name_of turn.heard) turn.bits turn.now (deferred turn.said) old turn.left turn.answer
 
--- the standings after a turn: its connection's as the turn left it, and each other one as before
-abbrev pub standings_after : (ℕ → Standing) → Turn → ℕ → Standing
-standings_after standings turn = λ connection.
-    if connection == turn.connection then left_at turn.answer.fault turn.heard else standings connection
+-- the phases of sessions after a turn: its connection's as the turn left it, and each other one as before
+abbrev pub session_phases_after : (ℕ → SessionPhase) → Turn → ℕ → SessionPhase
+session_phases_after session_phases turn = λ connection.
+    if connection == turn.connection then left_at turn.answer.fault turn.heard else session_phases connection
 
 -- a deed of a member: a turn of a connection; or a step that is no turn: one by itself, as a Tick, or one for a program that sends
 -- pages
@@ -98,11 +98,11 @@ pub data Deed : Type 0 where
 
 -- A member's life: its deeds one after the other. A turn goes on from where its own connection and the instance stand, and another
 -- step from where the instance stands.
-abbrev pub IsLife : (ℕ → Standing) → InstanceState → List Deed → InstanceState → Type 0
-IsLife standings old [] new = new ≡ old
-IsLife standings old (Served turn ∷ deeds) new =
-    IsTurn (standings turn.connection) old turn × IsLife (standings_after standings turn) turn.left deeds new
-IsLife standings old (Own step ∷ deeds) new = IsStep old step.event step.now step.answer step.left × IsLife standings step.left deeds new
+abbrev pub IsLife : (ℕ → SessionPhase) → InstanceState → List Deed → InstanceState → Type 0
+IsLife session_phases old [] new = new ≡ old
+IsLife session_phases old (Served turn ∷ deeds) new =
+    IsTurn (session_phases turn.connection) old turn × IsLife (session_phases_after session_phases turn) turn.left deeds new
+IsLife session_phases old (Own step ∷ deeds) new = IsStep old step.event step.now step.answer step.left × IsLife session_phases step.left deeds new
 
 -- ---- each connection by itself
 
@@ -136,11 +136,11 @@ IsPagingEvent (events.Decide group_key receiver firing resolved repeat send_reso
 IsPagingEvent (events.Notified group_key receiver firing resolved repeat) = ⊤
 IsPagingEvent _ = ⊥
 
--- the standings of the connections after a life
-abbrev pub standings_in : (ℕ → Standing) → List Deed → ℕ → Standing
-standings_in standings [] = standings
-standings_in standings (Served turn ∷ deeds) = standings_in (standings_after standings turn) deeds
-standings_in standings (Own step ∷ deeds) = standings_in standings deeds
+-- the phases of sessions after a life
+abbrev pub session_phases_in : (ℕ → SessionPhase) → List Deed → ℕ → SessionPhase
+session_phases_in session_phases [] = session_phases
+session_phases_in session_phases (Served turn ∷ deeds) = session_phases_in (session_phases_after session_phases turn) deeds
+session_phases_in session_phases (Own step ∷ deeds) = session_phases_in session_phases deeds
 
 -- a piece came for which there was memory, and the member heard on: its peer is known, and no step was refused
 pub record IsHeardOut (turn : Turn) : Type 0 where

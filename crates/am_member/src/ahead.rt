@@ -4,7 +4,7 @@
 
 ghost use Rattle.std.specs.Prelude.{◌≡◌};
 
-use crate::keeping::{Keeping, keep};
+use crate::keeping::{KeepOutcome, keep};
 use crate::pattern_compilation::{Judged, PatternCompilation};
 use crate::pattern_set::PatternSet;
 use crate::unkept::Unkept;
@@ -290,8 +290,8 @@ fn compile(
         let pattern = version.key().as_str();
         looked = looked.saturating_add(pattern.len().saturating_add(BESIDE_TEXT));
         let compiled = match keep(patterns, dialect, pattern)? {
-            Keeping::Kept(more) => more,
-            Keeping::Full(more) => {
+            KeepOutcome::Kept(more) => more,
+            KeepOutcome::Full(more) => {
                 unkept.add(more);
                 more
             }

@@ -5,7 +5,7 @@ use std::alloc::AllocError;
 
 /// The result of keeping a pattern.
 #[derive(Clone, Copy, PartialEq, Eq)]
-pub enum Keeping {
+pub enum KeepOutcome {
     /// It is kept. This many bytes were counted for it, which are 0 if it was kept before.
     Kept(usize),
     /// There is no room for it. This many bytes were counted for it.
@@ -17,12 +17,12 @@ pub fn keep(
     patterns: &mut PatternCache,
     dialect: Dialect,
     pattern: &str,
-) -> Result<Keeping, AllocError> {
+) -> Result<KeepOutcome, AllocError> {
     let before = patterns.size();
     let prepared = patterns.prepare_in(dialect, pattern)?;
     if prepared.bytes > 0 && patterns.size() <= before {
-        Ok(Keeping::Full(prepared.bytes))
+        Ok(KeepOutcome::Full(prepared.bytes))
     } else {
-        Ok(Keeping::Kept(prepared.bytes))
+        Ok(KeepOutcome::Kept(prepared.bytes))
     }
 }

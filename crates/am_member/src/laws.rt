@@ -7,9 +7,9 @@ ghost use Rattle.am_http.specs.declared.request.Request.{Request};
 ghost use Rattle.am_instance.specs.Configs.{AreMembers};
 ghost use Rattle.am_instance.specs.InstanceStates.{InstanceState};
 ghost use Rattle.am_instance.specs.Laws.{AreMade, Happened, HasMaps, all_entries, all_silences};
-ghost use Rattle.am_http.specs.Sessions.{Says, Standing, fresh};
+ghost use Rattle.am_http.specs.Sessions.{Says, SessionPhase, fresh};
 ghost use Rattle.am_member.specs.Lives.{AreCalm, AreStepsOfAll, Deed, IsBareAnswer, IsHeardOut, IsLife, IsTurn, ShowsBareSets, Turn};
-ghost use Rattle.am_member.specs.Lives.{bytes_in, said_in, standings_in, turns_of};
+ghost use Rattle.am_member.specs.Lives.{bytes_in, said_in, session_phases_in, turns_of};
 ghost use Rattle.am_peers.specs.Outgoing.{is_name};
 
 use am_http::session::laws::pieces_are_their_bytes;
@@ -22,9 +22,9 @@ pub fn names_of_members_are_sent()
 
 /// States that a connection said what all its bytes say, whatever came of other connections between them.
 pub fn connections_say_what_their_bytes_say()
-    ensures { (standings : ℕ → Standing) (start new : InstanceState) (deeds : List Deed) (connection : ℕ) →
-        IsLife standings start deeds new → standings connection ≡ fresh → AllByRecursion IsHeardOut (turns_of connection deeds) →
-        Says fresh (bytes_in (turns_of connection deeds)) (said_in (turns_of connection deeds)) (standings_in standings deeds connection) }
+    ensures { (session_phases : ℕ → SessionPhase) (start new : InstanceState) (deeds : List Deed) (connection : ℕ) →
+        IsLife session_phases start deeds new → session_phases connection ≡ fresh → AllByRecursion IsHeardOut (turns_of connection deeds) →
+        Says fresh (bytes_in (turns_of connection deeds)) (said_in (turns_of connection deeds)) (session_phases_in session_phases deeds connection) }
 {
     pieces_are_their_bytes();
 }
@@ -34,15 +34,15 @@ pub fn connections_say_what_their_bytes_say()
 /// itself.
 pub fn lives_are_steps()
     // PROMISE: Any interleaving of connections is one list of steps.
-    ensures { (standings : ℕ → Standing) (start new : InstanceState) (deeds : List Deed) → IsLife standings start deeds new →
+    ensures { (session_phases : ℕ → SessionPhase) (start new : InstanceState) (deeds : List Deed) → IsLife session_phases start deeds new →
         (steps : List Happened) × AreStepsOfAll start deeds steps × AreMade start steps new }
 {}
 
 /// States that a member shows, from the last of its steps on, what the bare sets show of all versions that it began with or that
 /// were delivered to it by requests and peers, for each map that the steps were calm for; its Ticks are among the steps.
 pub fn lives_show_the_bare_sets()
-    ensures { (standings : ℕ → Standing) (start new : InstanceState) (deeds : List Deed) → HasMaps start →
-        IsLife standings start deeds new →
+    ensures { (session_phases : ℕ → SessionPhase) (start new : InstanceState) (deeds : List Deed) → HasMaps start →
+        IsLife session_phases start deeds new →
         (steps : List Happened) × AreStepsOfAll start deeds steps × ShowsBareSets start steps new }
 {
     lives_are_steps();
@@ -53,9 +53,9 @@ pub fn lives_show_the_bare_sets()
 /// all that came before it, however long they take to be written.
 pub fn lives_reply_as_the_bare_sets()
     // PROMISE: After calm steps a list's reply is, byte for byte, that of everything that came.
-    ensures { (standings : ℕ → Standing) (start stand : InstanceState) (deeds : List Deed) (turn : Turn) (request : Request) →
-        HasMaps start → HasMaps stand → IsLife standings start deeds stand →
-        IsTurn (standings_in standings deeds turn.connection) stand turn → turn.said.request ≡ Some (Whole request) →
+    ensures { (session_phases : ℕ → SessionPhase) (start stand : InstanceState) (deeds : List Deed) (turn : Turn) (request : Request) →
+        HasMaps start → HasMaps stand → IsLife session_phases start deeds stand →
+        IsTurn (session_phases_in session_phases deeds turn.connection) stand turn → turn.said.request ≡ Some (Whole request) →
         (steps : List Happened) × AreStepsOfAll start deeds steps × (AreCalm start steps →
         IsBareAnswer stand.config.dialect (all_silences start steps) (all_entries start steps) request turn.bits turn.now turn.answer) }
 {

@@ -7,7 +7,7 @@ ghost use Rattle.am_http.specs.declared.cause.Cause.TheVariants as causes;
 ghost use Rattle.am_matcher.specs.Sizes.{size_of_all};
 ghost use Rattle.am_silence.specs.declared.error.SilenceError.TheVariants as errors;
 
-use crate::keeping::{Keeping, keep};
+use crate::keeping::{KeepOutcome, keep};
 use am_api_silences::patterns_of;
 use am_http::{Cause, Refusal, Request};
 use am_matcher::{Dialect, PatternCache};
@@ -212,7 +212,7 @@ impl PatternCompilation {
         let fits = self.fits_beside(patterns);
         for pattern in &self.left {
             let keeping = keep(patterns, self.dialect, pattern.as_str())?;
-            if matches!(keeping, Keeping::Full(_)) && !fits {
+            if matches!(keeping, KeepOutcome::Full(_)) && !fits {
                 return Ok(Judged::TooMuch);
             }
         }

@@ -11,11 +11,6 @@ abbrev pub with_pairs : List PairAt → Result (List PairAt × List ℕ) AnswerE
 with_pairs pairs (Ok others) = Ok (pairs ++ others.0, others.1)
 with_pairs pairs (Err e) = Err e
 
--- no pair before them
-pub with_none : (others : Result (List PairAt × List ℕ) AnswerError) → with_pairs [] others ≡ others
-with_none (Ok others) = refl
-with_none (Err e) = refl
-
 -- one more before them
 next_pair : (pairs : List PairAt) (pair : PairAt) (others : Result (List PairAt × List ℕ) AnswerError)
     → with_pairs pairs (others >>= with_pair pair) ≡ with_pairs (pairs ++ pair ∷ []) others

@@ -1,6 +1,6 @@
 pub mod Lzw
 pub mod Plain
-pub mod Standings
+pub mod LzwStates
 pub mod LzwStretches
 pub mod Answers
 pub mod Messages

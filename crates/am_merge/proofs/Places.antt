@@ -1,17 +1,15 @@
 -- What cursors and searches say of a list's items.
-use Rattle.std.proofs.Common.{◌≡◌, ◌≢◌, ◌⊎◌, ℕ, ◌+◌, ◌-◌, ◌<◌, ◌≤◌, suc, zero, List, [], ◌∷◌, ◌++◌, length, take, drop, get_or, slice_get, Some, inl, inr, sym, ap, ◌∙◌, arith}
-use Rattle.std.specs.List.{All, AllPairs, insert}
+use Rattle.std.proofs.Common.{◌≡◌, ◌≢◌, ◌⊎◌, ℕ, ◌+◌, ◌-◌, ◌<◌, ◌≤◌, List, [], ◌∷◌, ◌++◌, length, take, get_or, inl, inr, sym, ap, ◌∙◌, arith}
+use Rattle.std.specs.List.{AllPairs, insert}
 use Rattle.std.specs.declared.cmp.Ordering.{Ordering}
 use Rattle.std.specs.declared.cmp.Ordering.TheVariants.{Less, Equal, Greater}
 use Rattle.std.proofs.lemmas.Bool.{cases_lt}
-use Rattle.std.proofs.lemmas.List.{take-append-drop, drop_more, take_all, get_or_past, get_or-take, get_or-drop, length-take-le, length-drop}
+use Rattle.std.proofs.lemmas.List.{take_all, get_or_past, get_or-take, get_or-drop, length-take-le, length-drop}
 use Rattle.std.proofs.lemmas.List.Edits.{get_or-insert_below, get_or-insert_at, get_or-insert_above, length-insert}
-use Rattle.std.proofs.lemmas.List.Elements.{All-append, All-weaker}
-use Rattle.std.proofs.lemmas.Option.{get_or_from_slice_get, slice_get_within}
 use Rattle.am_merge.specs.declared.blocks.cursor.Cursor.{Cursor}
 use Rattle.am_merge.specs.Rows.{Rows, entries, joined}
 use Rattle.am_merge.specs.Cursors.{IsItem, IsWithin, place}
-use Rattle.am_merge.specs.Searches.{IsRising, IsFound, IsMissing}
+use Rattle.am_merge.specs.Searches.{IsMissing}
 use Rattle.am_merge.proofs.Joined.{block_inside, place_inside, length_around}
 
 module _ {T : Type 0} where
@@ -37,12 +35,6 @@ module _ {T : Type 0} where
             let offset = within.offset in
             omega arith
       ]
-
-  -- a place that was read is split off
-  pub items_around : (items : List T) (n : ℕ) (item : T) → slice_get items n ≡ Some item → items ≡ take n items ++ item ∷ drop (n + 1) items
-  items_around items n item at =
-      let inside : n < length items = slice_get_within items n item at in
-      sym (take-append-drop n items) ∙ ap (λ xs. take n items ++ xs) (drop_more items n item inside ∙ ap (λ x. x ∷ drop (n + 1) items) (get_or_from_slice_get items n item item at))
 
   get_insert_above : (items : List T) (n : ℕ) (item d : T) (k : ℕ) → n ≤ length items → n < k → get_or (insert items n item) k d ≡ get_or items (k - 1) d
   get_insert_above items n item d k within above =
@@ -72,25 +64,8 @@ module _ {T : Type 0} where
       ]
 
 module _ {T : Type 0} (order : T → Ordering) where
-  -- what a search found is equal to what was looked for
-  pub found_equal : (rows : Rows T) (cursor : Cursor) (item : T) → IsFound order rows cursor → slice_get (entries rows) (place rows cursor) ≡ Some item → order item ≡ Equal
-  found_equal rows cursor item found at = ap order (sym (get_or_from_slice_get (entries rows) (place rows cursor) item item at)) ∙ found.equal item
-
   less_apart : (x : T) → order x ≡ Less → order x ≢ Equal
   less_apart x less equal = cc
-
-  greater_apart : (x : T) → order x ≡ Greater → order x ≢ Equal
-  greater_apart x greater equal = cc
-
-  -- where nothing was found, no item is equal to what was looked for
-  pub missing_apart : (rows : Rows T) (cursor : Cursor) → IsMissing order rows cursor → All (λ x. order x ≢ Equal) (entries rows)
-  missing_apart rows cursor missing =
-      let front = take (place rows cursor) (entries rows) in
-      let back = drop (place rows cursor) (entries rows) in
-      rw (← take-append-drop (place rows cursor) (entries rows))
-      (All-append (λ x. order x ≢ Equal) front back
-      (All-weaker (λ x. order x ≡ Less) (λ x. order x ≢ Equal) less_apart front missing.before)
-      (All-weaker (λ x. order x ≡ Greater) (λ x. order x ≢ Equal) greater_apart back missing.behind))
 
   -- what stands before the place of what is missing, and what stands from there on
   pub missing_before : (rows : Rows T) (cursor : Cursor) → IsMissing order rows cursor → (k : ℕ) (d : T) → k < place rows cursor → order (get_or (entries rows) k d) ≡ Less
@@ -105,16 +80,3 @@ module _ {T : Type 0} (order : T → Ordering) where
       let there : place rows cursor + (k - place rows cursor) ≡ k = omega arith in
       let found = missing.behind (k - place rows cursor) d (omega arith) in
       ap (λ m. order (get_or (entries rows) m d)) (sym there) ∙ ap order (sym (get_or-drop (place rows cursor) (entries rows) (k - place rows cursor) d)) ∙ found
-
-  -- items rise where of any two in a relation the first is before what is looked for or the second behind it
-  pub rising_pairs : (R : T → T → Type 0) → ((x y : T) → R x y → (order x ≡ Less) ⊎ (order y ≡ Greater)) → (items : List T) → AllPairs R items → IsRising order items
-  rising_pairs R parts items pairs i j d less inside = parts (get_or items i d) (get_or items j d) (pairs i j d less inside)
-
-  pub rising_nil : IsRising order []
-  rising_nil i j d less inside = absurd (omega arith)
-
-  -- items rise where the first of them does against each other and those rise
-  pub rising_cons : (x : T) (items : List T) → All (λ y. (order x ≡ Less) ⊎ (order y ≡ Greater)) items → IsRising order items → IsRising order (x ∷ items)
-  rising_cons x items first rising i zero d less inside = absurd (omega arith)
-  rising_cons x items first rising zero (suc j) d less inside = first j d (omega arith)
-  rising_cons x items first rising (suc i) (suc j) d less inside = rising i j d (omega arith) (omega arith)

@@ -12,7 +12,7 @@ use Rattle.std.specs.declared.cmp.Ordering.{Ordering}
 use Rattle.slab.specs.Slab.{Slab, get, slab_len, Updates}
 use Rattle.am_merge.specs.declared.blocks.cursor.Cursor.{Cursor}
 use Rattle.am_merge.specs.Rows.{Rows, joined, entries, HasRoom}
-use Rattle.am_merge.specs.Cursors.{IsItem, place, place_in, block_at}
+use Rattle.am_merge.specs.Cursors.{IsItem, place}
 use Rattle.am_version_order.specs.Versions.{Version, is_below, rank_cmp}
 use Rattle.am_merge.specs.Maps.{IsMap, at, replaces, greater_of, is_above}
 use Rattle.am_merge.specs.Takings.{IsPut, new_keys, new_versions}
@@ -177,25 +177,6 @@ module _ {K X : Type 0} (seen : X → Version K) where
         table_is : get old.table ≡ get new.table
         table_is = λ i key. slice_index_or (sym slots i) key None
 
-    pub moved_cursor : (old new : Store X) (key : K) (cursor : Cursor) → new.table.slots ≡ old.table.slots → new.keys.blocks ≡ old.keys.blocks → IsKeyCursor seen cmp old key cursor → IsKeyCursor seen cmp new key cursor
-    moved_cursor old new key cursor slots blocks at =
-        record {
-          item = record { offset = subst (λ bs. cursor.offset < length (block_at bs cursor)) (sym blocks) at.item.offset };
-          place = subst (λ t. IsPlaceOf seen cmp (versions_of t (entries new.keys)) key (place new.keys cursor)) (λ i k. slice_index_or (sym slots i) k None)
-              (subst (λ bs. IsPlaceOf seen cmp (versions_of (get old.table) (joined bs)) key (place_in bs cursor)) (sym blocks) at.place);
-        }
-
-    pub moved_gap : (old new : Store X) (key : K) (cursor : Cursor) → new.table.slots ≡ old.table.slots → new.keys.blocks ≡ old.keys.blocks → IsGapCursor seen cmp old key cursor → IsGapCursor seen cmp new key cursor
-    moved_gap old new key cursor slots blocks at =
-        record {
-          within = record {
-            block = subst (λ bs. cursor.block ≤ length bs) (sym blocks) at.within.block;
-            offset = subst (λ bs. cursor.offset ≤ length (block_at bs cursor)) (sym blocks) at.within.offset;
-          };
-          gap = subst (λ t. IsGapFor seen cmp (versions_of t (entries new.keys)) key (place new.keys cursor)) (λ i k. slice_index_or (sym slots i) k None)
-              (subst (λ bs. IsGapFor seen cmp (versions_of (get old.table) (joined bs)) key (place_in bs cursor)) (sym blocks) at.gap);
-        }
-
 -- room for more is room for less
 pub less_room : {T : Type 0} (rows : Rows T) (n : ℕ) → HasRoom rows (n + 1) → HasRoom rows n
 less_room rows n room = let spares = room.spares in let places = room.places in record { spares = omega arith; places = omega arith }
@@ -279,12 +260,6 @@ module _ {K X : Type 0} (seen : X → Version K) (cmp : K → K → Ordering) (k
     same_at : eq_by_cmp cmp (seen v).key (seen w).key ≡ false → at seen cmp new (seen w).key ≡ at seen cmp map (seen w).key
     same_at apart = put.joined (seen w).key ∙ apart_is (at seen cmp map (seen w).key) (eq_by_cmp cmp (seen v).key (seen w).key) apart
 
-    pub keys_apart : eq_by_cmp cmp (seen v).key (seen w).key ≡ false → new_keys seen cmp map w ≡ new_keys seen cmp new w
-    keys_apart apart = ap (λ o. one_if (is_none o)) (sym (same_at apart))
-
-    pub versions_apart : eq_by_cmp cmp (seen v).key (seen w).key ≡ false → new_versions seen cmp map w ≡ new_versions seen cmp new w
-    versions_apart apart = ap (λ o. one_if (is_above seen o w)) (sym (same_at apart))
-
     greater_is : (o : Option X) (b : Bool) → is_above seen o v ≡ b → greater_of seen o (Some v) ≡ cond b (Some v) o
     greater_is None b above = ap (λ c. cond c (Some v) None) above
     greater_is (Some u) b above = ap (λ c. cond c (Some v) (Some u)) above
@@ -295,21 +270,5 @@ module _ {K X : Type 0} (seen : X → Version K) (cmp : K → K → Ordering) (k
         ∙ ap (λ c. greater_of seen (at seen cmp map (seen w).key) (cond c (Some v) None)) (ap (λ k. eq_by_cmp cmp (seen v).key k) (sym key) ∙ eq_itself seen cmp keys (seen v).key)
         ∙ greater_is (at seen cmp map (seen w).key) b (ap (λ k. is_above seen (at seen cmp map k) v) (sym key) ∙ came)
 
-    pub versions_kept : (seen v).key ≡ (seen w).key → replaces seen cmp map v ≡ false → new_versions seen cmp map w ≡ new_versions seen cmp new w
-    versions_kept key stays = ap (λ o. one_if (is_above seen o w)) (sym (own_at key false stays))
-
     pub versions_over : (seen v).key ≡ (seen w).key → replaces seen cmp map v ≡ true → one_if (is_below (seen v) (seen w)) ≡ new_versions seen cmp new w
     versions_over key comes = ap (λ o. one_if (is_above seen o w)) (sym (own_at key true comes))
-
-    some_key : (o : Option X) → one_if (is_none (greater_of seen o (Some v))) ≡ 0
-    some_key None = refl
-    some_key (Some u) = by (is_below (seen u) (seen v)) where
-      by : (b : Bool) → one_if (is_none (cond b (Some v) (Some u))) ≡ 0
-      by true = refl
-      by false = refl
-
-    pub keys_own : (seen v).key ≡ (seen w).key → 0 ≡ new_keys seen cmp new w
-    keys_own key =
-        sym (ap (λ o. one_if (is_none o)) (put.joined (seen w).key)
-        ∙ ap (λ c. one_if (is_none (greater_of seen (at seen cmp map (seen w).key) (cond c (Some v) None)))) (ap (λ k. eq_by_cmp cmp (seen v).key k) (sym key) ∙ eq_itself seen cmp keys (seen v).key)
-        ∙ some_key (at seen cmp map (seen w).key))

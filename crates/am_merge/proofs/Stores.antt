@@ -19,7 +19,7 @@ use Rattle.am_merge.proofs.Joined.{length_around, place_inside, block_inside}
 use Rattle.am_version_order.specs.Versions.{Version}
 use Rattle.am_merge.specs.Maps.{IsMap}
 use Rattle.am_merge.specs.Places.{IsPlaceOf, IsGapFor}
-use Rattle.am_merge.specs.Indexes.{Changes, filed, Names}
+use Rattle.am_merge.specs.Indexes.{Changes, filed}
 use Rattle.am_merge.specs.Entries.{versions_of, key_slot, expiry_slot, key_entry, expiry_entry, with_slots, by_time, time_cmp, key_order, expiry_order, tie_of}
 use Rattle.am_merge.specs.Stores.{IsExpiryIndex, IsKeyIndex}
 use Rattle.am_merge.specs.declared.entry.KeyEntry.{KeyEntry}
@@ -117,10 +117,6 @@ module _ {K X : Type 0} (seen : X → Version K) where
   expiry_never_missed table rows slot v cursor there is missing =
       indexes.never-missed expiry_slot (expiry_entry seen) expiry_slot_entry (by_time seen) time_cmp times (with_slots table) slot (slot, v) (some_with_slots table slot v there) (entries rows) is.index is.order (expiry_order (seen v).expires slot) (expiry_agrees table (seen v).expires slot) (place rows cursor) missing.before missing.behind
 
-  pub expiry_met : (table : ℕ → Option X) (rows : Rows ExpiryEntry) (slot : ℕ) (v : X) (cursor : Cursor) → table slot ≡ Some v → IsExpiryIndex seen table (entries rows) → IsFound (expiry_order (seen v).expires slot) rows cursor → HoldsAt (λ e. expiry_slot e ≡ slot) (entries rows) (place rows cursor)
-  expiry_met table rows slot v cursor there is found =
-      indexes.met-own expiry_slot (expiry_entry seen) expiry_slot_entry (by_time seen) time_cmp times (with_slots table) slot (slot, v) (some_with_slots table slot v there) (entries rows) is.index is.order (expiry_order (seen v).expires slot) (expiry_agrees table (seen v).expires slot) (place rows cursor) (item_within rows cursor found.item) found.equal
-
   -- an empty slot has no entry
   pub expiry_never_met : (table : ℕ → Option X) (rows : Rows ExpiryEntry) (expires slot : ℕ) (cursor : Cursor) → table slot ≡ None → IsExpiryIndex seen table (entries rows) → IsFound (expiry_order expires slot) rows cursor → ⊥
   expiry_never_met table rows expires slot cursor vacant is found =
@@ -184,10 +180,6 @@ module _ {K X : Type 0} (seen : X → Version K) where
 
       pub key_met_own : IsFound (key_order seen cmp table head (seen v).key) rows cursor → HoldsAt (λ e. key_slot e ≡ slot) (entries rows) (place rows cursor)
       key_met_own found = indexes.met-own key_slot (key_entry seen head_of) key_slot_entry seen cmp keys table slot v there (entries rows) is.index is.order (key_order seen cmp table head (seen v).key) (key_agrees heads table (seen v).key head head_is) (place rows cursor) (item_within rows cursor found.item) found.equal
-
-    -- what an entry names
-    pub key_names : (table : ℕ → Option X) (es : List KeyEntry) (i : ℕ) (e : KeyEntry) → IsKeyIndex seen head_of cmp table es → i < length es → get_or es i e ≡ e → Names key_slot (key_entry seen head_of) table e
-    key_names table es i e is within at = indexes.sound-at key_slot (key_entry seen head_of) key_slot_entry table es i e is.index.sound within at
 
     pub key_named_at : (table : ℕ → Option X) (es : List KeyEntry) (i : ℕ) (e : KeyEntry) (v : X) → IsKeyIndex seen head_of cmp table es → i < length es → get_or es i e ≡ e → table e.slot ≡ Some v → get_or (versions_of table es) i v ≡ v
     key_named_at table es i e v is within at there = indexes.listed-at key_slot (key_entry seen head_of) key_slot_entry table es i e v is.index.sound within at there

@@ -4,7 +4,7 @@ use Rattle.std.specs.List.{flat_map}
 use Rattle.am_metrics.specs.MetricTypes.{kind_text}
 use Rattle.am_metrics.specs.declared.family.Number.{Number}
 use Rattle.am_metrics.specs.declared.family.Number.TheVariants.{Whole, Nanos}
-use Rattle.am_metrics.specs.declared.family.Label.{Label}
+use Rattle.am_metrics.specs.declared.family.MetricLabel.{MetricLabel}
 use Rattle.am_metrics.specs.declared.family.Sample.{Sample}
 use Rattle.am_metrics.specs.declared.family.Family.{Family}
 
@@ -17,15 +17,15 @@ abbrev pub value_byte : ℕ → List ℕ
 value_byte b = if b == 34 then codes "\\\"" else help_byte b
 
 -- a label: its name, and its value in quotes
-unfoldable pub label_text : Label → List ℕ
+unfoldable pub label_text : MetricLabel → List ℕ
 label_text label = label.name.now ++ (codes "=\"" ++ (flat_map value_byte label.value ++ codes "\""))
 
 -- a label after another
-abbrev pub next_label : Label → List ℕ
+abbrev pub next_label : MetricLabel → List ℕ
 next_label label = codes "," ++ label_text label
 
 -- labels in braces, separated by commas, or nothing if there are none
-unfoldable pub labels_text : List Label → List ℕ
+unfoldable pub labels_text : List MetricLabel → List ℕ
 labels_text [] = []
 labels_text (label ∷ labels) = codes "{" ++ (label_text label ++ (flat_map next_label labels ++ codes "}"))
 

@@ -38,7 +38,7 @@ pub enum Number {
 
 /// A label of a figure.
 #[derive(Drop)]
-pub struct Label {
+pub struct MetricLabel {
     pub name: &'static str,
     pub value: Text,
 }
@@ -48,7 +48,7 @@ pub struct Label {
 pub struct Sample {
     /// The ending of the family's name: nothing, or the part of a histogram that this is.
     pub suffix: &'static str,
-    pub labels: Vec<Label>,
+    pub labels: Vec<MetricLabel>,
     pub number: Number,
 }
 

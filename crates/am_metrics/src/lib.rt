@@ -15,7 +15,7 @@ mod writing;
 
 pub use beside::Beside;
 pub use counters::Counters;
-pub use family::{Family, Label, MetricType, Number, Sample};
+pub use family::{Family, MetricLabel, MetricType, Number, Sample};
 pub use metrics::Metrics;
 pub use peers::{Heard, PeerName};
 pub use saves::Save;

@@ -1,7 +1,7 @@
 //! Families of figures in the making.
 
 use crate::counters::Counters;
-use crate::family::{Family, Label, MetricType, Number, Sample};
+use crate::family::{Family, MetricLabel, MetricType, Number, Sample};
 use crate::peers::PeerName;
 use crate::words::CounterLabel;
 use am_wire::Text;
@@ -62,11 +62,14 @@ pub fn seconds_of(nanos: u64) -> Number {
 }
 
 /// Returns the labels of a figure from their names and values.
-fn labels_of(alloc: Global, words: &[(&'static str, &str)]) -> Result<Vec<Label>, AllocError> {
+fn labels_of(
+    alloc: Global,
+    words: &[(&'static str, &str)],
+) -> Result<Vec<MetricLabel>, AllocError> {
     let mut labels = Vec::with_capacity(alloc, words.len())?;
     for (name, word) in words {
         let value = Text::copied(alloc, word)?;
-        labels.push(Label { name, value })?;
+        labels.push(MetricLabel { name, value })?;
     }
     Ok(labels)
 }

@@ -5,7 +5,7 @@ ghost use Rattle.std.specs.List.{flat_map};
 ghost use Rattle.am_metrics.specs.Expositions.{exposition, family_text, help_byte, help_line, label_text, labels_text, next_label};
 ghost use Rattle.am_metrics.specs.Expositions.{nine_digits, number_text, sample_text, type_line, value_byte};
 
-use crate::family::{Family, Label, Number, Sample};
+use crate::family::{Family, MetricLabel, Number, Sample};
 use std::alloc::{AllocError, Global};
 
 /// Adds a text.
@@ -62,7 +62,7 @@ fn add_value(out: &mut Vec<u8>, text: &str) -> Result<(), AllocError>
 
 /// Adds a label.
 #[tactic(auto, unfolding(crate::specs::Expositions::label_text))]
-fn add_label(out: &mut Vec<u8>, label: &Label) -> Result<(), AllocError>
+fn add_label(out: &mut Vec<u8>, label: &MetricLabel) -> Result<(), AllocError>
     ensures { OnOk result (out.new.items ≡ out.old.items ++ label_text label.now) }
 {
     add(out, label.name)?;
@@ -73,7 +73,7 @@ fn add_label(out: &mut Vec<u8>, label: &Label) -> Result<(), AllocError>
 }
 
 /// Adds labels after a first one.
-fn add_more_labels(out: &mut Vec<u8>, labels: &[Label]) -> Result<(), AllocError>
+fn add_more_labels(out: &mut Vec<u8>, labels: &[MetricLabel]) -> Result<(), AllocError>
     ensures { OnOk result (out.new.items ≡ out.old.items ++ flat_map next_label labels.now) }
 {
     for label in labels {
@@ -85,7 +85,7 @@ fn add_more_labels(out: &mut Vec<u8>, labels: &[Label]) -> Result<(), AllocError
 
 /// Adds labels.
 #[tactic(auto, unfolding(crate::specs::Expositions::labels_text))]
-fn add_labels(out: &mut Vec<u8>, labels: &[Label]) -> Result<(), AllocError>
+fn add_labels(out: &mut Vec<u8>, labels: &[MetricLabel]) -> Result<(), AllocError>
     ensures { OnOk result (out.new.items ≡ out.old.items ++ labels_text labels.now) }
 {
     if let [first, others @ ..] = labels {

@@ -2,7 +2,7 @@
 
 use crate::options::Options;
 use crate::source::{SourceWord, are_live};
-use am_peers::Server;
+use am_peers::HttpServer;
 use am_report::Compared;
 use am_version_order::Moment;
 use am_wire::Unknown;
@@ -74,7 +74,7 @@ pub enum Form {
 
 /// The form in which differences are reported.
 #[derive(Clone, Copy)]
-pub enum Report {
+pub enum DiffForm {
     /// Lines of words.
     Lines,
     /// One line of JSON.
@@ -100,7 +100,7 @@ pub struct DiffJob<'a> {
     /// The part of the sources that is compared.
     pub compared: Compared,
     /// The form in which the differences are reported.
-    pub report: Report,
+    pub report: DiffForm,
     /// True if more of a version is printed below its line.
     pub is_long: bool,
     /// The moment; without it, the clock's.
@@ -128,7 +128,7 @@ pub struct PullJob<'a> {
     /// The replica as it was named.
     pub name: &'a str,
     /// The address at which the replica listens for other replicas.
-    pub replica: Server<'a>,
+    pub replica: HttpServer<'a>,
     /// The most time that a connection to the replica may last.
     pub time_limit: Duration,
 }

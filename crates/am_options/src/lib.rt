@@ -10,7 +10,9 @@ mod started;
 mod times;
 mod words;
 
-pub use job::{DiffJob, FoldJob, Form, Job, MendJob, PullJob, PushJob, Report, ShowJob, StateName};
+pub use job::{
+    DiffForm, DiffJob, FoldJob, Form, Job, MendJob, PullJob, PushJob, ShowJob, StateName,
+};
 pub use options::Options;
 pub use options_list::{options_text, seconds_in};
 pub use process::Process;

@@ -1,6 +1,6 @@
 //! The sources of a comparison.
 
-use am_peers::{Server, server_of};
+use am_peers::{HttpServer, server_of};
 
 /// The file that is standard input.
 pub const STANDARD_INPUT: &str = "-";
@@ -27,7 +27,7 @@ impl<'a> SourceWord<'a> {
     }
 
     /// Returns the server that the source is, if it is one.
-    pub fn server(&self) -> Option<Server<'a>> {
+    pub fn server(&self) -> Option<HttpServer<'a>> {
         server_of(self.place()?)
     }
 
@@ -37,7 +37,7 @@ impl<'a> SourceWord<'a> {
     }
 
     /// Returns the address at which the replica listens for other replicas, if the source is asked by gossip.
-    pub fn replica(&self) -> Option<Server<'a>> {
+    pub fn replica(&self) -> Option<HttpServer<'a>> {
         match server_of(self.gossip_place()?) {
             Some(server) if server.path.is_empty() => Some(server),
             _ => None,

@@ -9,7 +9,7 @@ use Rattle.am_peer_auth.specs.declared.seal.SealError.{SealError}
 use Rattle.am_peer_auth.specs.declared.sequence.Sequence.{Sequence}
 use Rattle.am_peer_auth.specs.Seals.{seal_sum}
 use Rattle.am_peer_auth.specs.Sequences.{after, next_in}
-use Rattle.am_peer_auth.specs.Openings.{IsTaken, IsWhole, Opens, rest_of, size_in, text_in}
+use Rattle.am_peer_auth.specs.Openings.{IsTaken, IsWhole, Opens, rest_of, size_in, encoding_in}
 
 -- what stands whole at the front of the first piece stands there in both
 module _ (first second : List ℕ) (whole : IsWhole first) where
@@ -23,8 +23,8 @@ module _ (first second : List ℕ) (whole : IsWhole first) where
   behind_head : drop 4 (drop 32 (first ++ second)) ≡ drop 4 (drop 32 first) ++ second
   behind_head = ap (drop 4) behind_sum ∙ drop-append-le 4 (drop 32 first) second (omega (arith, whole.head, length-drop 32 first))
 
-  text_stays : text_in (first ++ second) ≡ text_in first
-  text_stays =
+  encoding_stays : encoding_in (first ++ second) ≡ encoding_in first
+  encoding_stays =
       ap (λ (n : ℕ). take n (drop 4 (drop 32 (first ++ second)))) size_stays
       ∙ ap (take (size_in first)) behind_head
       ∙ take-append-le (size_in first) (drop 4 (drop 32 first)) second (omega (arith, whole.within, length-drop 32 first, length-drop 4 (drop 32 first)))
@@ -43,8 +43,8 @@ module _ (first second : List ℕ) (whole : IsWhole first) where
       → IsTaken lock sender place (first ++ second) frame
   taken_stays lock sender place frame taken = record {
     whole = whole_stays;
-    right = take-append-le 32 first second (omega (arith, whole.head)) ∙ taken.right ∙ ap (seal_sum lock.secret.now place sender lock.name.now) (sym text_stays);
-    is = ap stream_of text_stays ∙ taken.is;
+    right = take-append-le 32 first second (omega (arith, whole.head)) ∙ taken.right ∙ ap (seal_sum lock.secret.now place sender lock.name.now) (sym encoding_stays);
+    is = ap stream_of encoding_stays ∙ taken.is;
   }
 
 -- the place behind a frame and so many more

@@ -31,35 +31,35 @@ name_apart name rest other more short brief same =
     (sym (append_assoc (size name) name rest) ∙ same ∙ append_assoc (size other) other more) in
     split name rest other more first.0 first.1
 
--- names behind their lengths, and a text
+-- names behind their lengths, and an encoding
 abbrev named : List ℕ → List ℕ → List ℕ → List ℕ
-named sender addressee text = (size sender ++ sender) ++ ((size addressee ++ addressee) ++ text)
+named sender addressee encoding = (size sender ++ sender) ++ ((size addressee ++ addressee) ++ encoding)
 
-regroup : (place : Sequence) (sender addressee text : List ℕ)
-    → sealed_message place sender addressee text ≡ place.challenge ++ (to_be_bytes w64 place.number ++ named sender addressee text)
-regroup place sender addressee text =
+regroup : (place : Sequence) (sender addressee encoding : List ℕ)
+    → sealed_message place sender addressee encoding ≡ place.challenge ++ (to_be_bytes w64 place.number ++ named sender addressee encoding)
+regroup place sender addressee encoding =
     let head : List ℕ = place.challenge ++ to_be_bytes w64 place.number in
     let first : List ℕ = head ++ size sender in
-    append_assoc ((first ++ sender) ++ size addressee) addressee text
-    ∙ append_assoc (first ++ sender) (size addressee) (addressee ++ text)
-    ∙ ap (λ (l : List ℕ). (first ++ sender) ++ l) (sym (append_assoc (size addressee) addressee text))
-    ∙ ap (λ (l : List ℕ). l ++ ((size addressee ++ addressee) ++ text)) (append_assoc head (size sender) sender)
-    ∙ append_assoc head (size sender ++ sender) ((size addressee ++ addressee) ++ text)
-    ∙ append_assoc place.challenge (to_be_bytes w64 place.number) (named sender addressee text)
+    append_assoc ((first ++ sender) ++ size addressee) addressee encoding
+    ∙ append_assoc (first ++ sender) (size addressee) (addressee ++ encoding)
+    ∙ ap (λ (l : List ℕ). (first ++ sender) ++ l) (sym (append_assoc (size addressee) addressee encoding))
+    ∙ ap (λ (l : List ℕ). l ++ ((size addressee ++ addressee) ++ encoding)) (append_assoc head (size sender) sender)
+    ∙ append_assoc head (size sender ++ sender) ((size addressee ++ addressee) ++ encoding)
+    ∙ append_assoc place.challenge (to_be_bytes w64 place.number) (named sender addressee encoding)
 
 same_place : (place elsewhere : Sequence) → place.challenge ≡ elsewhere.challenge → place.number ≡ elsewhere.number → place ≡ elsewhere
 same_place place elsewhere challenge number =
     ap (λ (c : List ℕ). record place { challenge = c }) challenge ∙ ap (λ (n : ℕ). record elsewhere { number = n }) number
 
-pub apart : (place elsewhere : Sequence) (sender addressee text other whom what : List ℕ) → length place.challenge ≡ 32 → length elsewhere.challenge ≡ 32
+pub apart : (place elsewhere : Sequence) (sender addressee encoding other whom what : List ℕ) → length place.challenge ≡ 32 → length elsewhere.challenge ≡ 32
     → place.number < 2 ^ 64 → elsewhere.number < 2 ^ 64 → length sender < 2 ^ 64 → length addressee < 2 ^ 64 → length other < 2 ^ 64
-    → length whom < 2 ^ 64 → sealed_message place sender addressee text ≡ sealed_message elsewhere other whom what
-    → (place ≡ elsewhere) × (sender ≡ other) × (addressee ≡ whom) × (text ≡ what)
-apart place elsewhere sender addressee text other whom what long long' n m s a o w same =
-    let whole = split place.challenge (to_be_bytes w64 place.number ++ named sender addressee text) elsewhere.challenge
+    → length whom < 2 ^ 64 → sealed_message place sender addressee encoding ≡ sealed_message elsewhere other whom what
+    → (place ≡ elsewhere) × (sender ≡ other) × (addressee ≡ whom) × (encoding ≡ what)
+apart place elsewhere sender addressee encoding other whom what long long' n m s a o w same =
+    let whole = split place.challenge (to_be_bytes w64 place.number ++ named sender addressee encoding) elsewhere.challenge
     (to_be_bytes w64 elsewhere.number ++ named other whom what) (long ∙ sym long')
-    (sym (regroup place sender addressee text) ∙ same ∙ regroup elsewhere other whom what) in
-    let number = number_apart place.number elsewhere.number (named sender addressee text) (named other whom what) n m whole.1 in
-    let one = name_apart sender ((size addressee ++ addressee) ++ text) other ((size whom ++ whom) ++ what) s o number.1 in
-    let two = name_apart addressee text whom what a w one.1 in
+    (sym (regroup place sender addressee encoding) ∙ same ∙ regroup elsewhere other whom what) in
+    let number = number_apart place.number elsewhere.number (named sender addressee encoding) (named other whom what) n m whole.1 in
+    let one = name_apart sender ((size addressee ++ addressee) ++ encoding) other ((size whom ++ whom) ++ what) s o number.1 in
+    let two = name_apart addressee encoding whom what a w one.1 in
     (same_place place elsewhere whole.0 number.0, one.0, two.0, two.1)

@@ -1,4 +1,4 @@
--- Sums that cover the beginning of a text still do as more of it comes.
+-- Sums that cover the beginning of an encoding still do as more of it comes.
 use Rattle.std.proofs.Common.{◌≡◌, ℕ, zero, suc, ◌+◌, ◌≤◌, List, ◌++◌, length, length-append, take, drop, Option, Some, None, IfSome, refl, sym, ap, ◌∙◌, subst, arith}
 use Rattle.std.proofs.lemmas.List.{drop-append-le, length-drop, take-append-le}
 use Rattle.am_peer_auth.specs.declared.summing.Summing.{Summing}

@@ -6,11 +6,11 @@ use Rattle.am_gossip.specs.declared.frame.Frame.{Frame}
 use Rattle.am_peer_auth.specs.declared.seal.Lock.{Lock}
 use Rattle.am_peer_auth.specs.declared.seal.SealError.{SealError}
 use Rattle.am_gossip.specs.Streams.{stream_of}
-use Rattle.am_peer_auth.specs.declared.seal.SealError.TheVariants.{Length, Sum, Text, Number, Memory}
+use Rattle.am_peer_auth.specs.declared.seal.SealError.TheVariants.{Length, Sum, NotOneFrame, Number, Memory}
 use Rattle.am_peer_auth.specs.declared.sequence.Sequence.{Sequence}
 use Rattle.am_peer_auth.specs.Sequences.{after, next_in}
 use Rattle.am_peer_auth.specs.Seals.{IsOnly, IsRight, IsUntaken, seal_sum}
-use Rattle.am_peer_auth.specs.Openings.{EndsSo, IsRefused, IsShort, IsTaken, IsWhole, Opens, most_text, rest_of, size_in, sum_in, text_in}
+use Rattle.am_peer_auth.specs.Openings.{EndsSo, IsRefused, IsShort, IsTaken, IsWhole, Opens, most_encoding, rest_of, size_in, sum_in, encoding_in}
 
 -- the place of the next frame is that behind one more
 pub one_behind : (count more : ℕ) (place : Sequence) → more ≡ count + 1 → next_in (after count place) ≡ after more place
@@ -48,44 +48,44 @@ module _ (bytes sum first size behind : List ℕ) (n : ℕ) (sum_is : sum ≡ ta
   unfolding size_in
   size_there = n_is ∙ ap (from_be_bytes w32) (size_is ∙ ap (take 4) first_is)
 
-  pub text_there : take n behind ≡ text_in bytes
-  text_there = ap (λ (k : ℕ). take k behind) size_there ∙ ap (take (size_in bytes)) (behind_is ∙ ap (drop 4) first_is)
+  pub encoding_there : take n behind ≡ encoding_in bytes
+  encoding_there = ap (λ (k : ℕ). take k behind) size_there ∙ ap (take (size_in bytes)) (behind_is ∙ ap (drop 4) first_is)
 
-  pub whole_there : n ≤ most_text → n ≤ length behind → IsWhole bytes
+  pub whole_there : n ≤ most_encoding → n ≤ length behind → IsWhole bytes
   whole_there short within = record {
     head = omega (arith, first_len, behind_len);
     short = omega (arith, short, size_there);
     within = omega (arith, within, first_len, behind_len, size_there);
   }
 
-  pub right_there : (lock : Lock) (sender : List ℕ) (place : Sequence) → IsRight lock sender place sum (take n behind) → IsRight lock sender place (sum_in bytes) (text_in bytes)
-  right_there lock sender place right = sym sum_is ∙ right ∙ ap (seal_sum lock.secret.now place sender lock.name.now) text_there
+  pub right_there : (lock : Lock) (sender : List ℕ) (place : Sequence) → IsRight lock sender place sum (take n behind) → IsRight lock sender place (sum_in bytes) (encoding_in bytes)
+  right_there lock sender place right = sym sum_is ∙ right ∙ ap (seal_sum lock.secret.now place sender lock.name.now) encoding_there
 
-  pub taken_there : (lock : Lock) (sender : List ℕ) (place next : Sequence) (frame : Frame) → n ≤ most_text → n ≤ length behind
+  pub taken_there : (lock : Lock) (sender : List ℕ) (place next : Sequence) (frame : Frame) → n ≤ most_encoding → n ≤ length behind
       → IsRight lock sender place sum (take n behind) → IsOnly (take n behind) frame → next ≡ next_in place
       → IsTaken lock sender place bytes frame × (36 + n ≡ 36 + size_in bytes) × (next ≡ next_in place)
   taken_there lock sender place next frame short within right is behind_is = (
     record {
       whole = whole_there short within;
       right = right_there lock sender place right;
-      is = ap stream_of (sym text_there) ∙ is;
+      is = ap stream_of (sym encoding_there) ∙ is;
     },
     ap (λ (k : ℕ). 36 + k) size_there,
     behind_is,
   )
 
-  pub refused_there : (lock : Lock) (sender : List ℕ) (place : Sequence) (e : SealError) → n ≤ most_text → n ≤ length behind
+  pub refused_there : (lock : Lock) (sender : List ℕ) (place : Sequence) (e : SealError) → n ≤ most_encoding → n ≤ length behind
       → IsUntaken lock sender place sum (take n behind) e → IsRefused lock sender place bytes e
   refused_there lock sender place Length short within untaken = absurd untaken
   refused_there lock sender place Number short within untaken = absurd untaken
   refused_there lock sender place Sum short within untaken =
-      (whole_there short within, λ right. untaken (sum_is ∙ right ∙ ap (seal_sum lock.secret.now place sender lock.name.now) (sym text_there)))
-  refused_there lock sender place Text short within untaken =
-      (whole_there short within, right_there lock sender place untaken.0, λ frame is. untaken.1 frame (ap stream_of text_there ∙ is))
+      (whole_there short within, λ right. untaken (sum_is ∙ right ∙ ap (seal_sum lock.secret.now place sender lock.name.now) (sym encoding_there)))
+  refused_there lock sender place NotOneFrame short within untaken =
+      (whole_there short within, right_there lock sender place untaken.0, λ frame is. untaken.1 frame (ap stream_of encoding_there ∙ is))
   refused_there lock sender place Memory short within untaken = tt
 
-  pub long_there : most_text < n → (36 ≤ length bytes) × (most_text < size_in bytes)
+  pub long_there : most_encoding < n → (36 ≤ length bytes) × (most_encoding < size_in bytes)
   long_there long = (omega (arith, first_len, behind_len), omega (arith, long, size_there))
 
-  pub short_there : n ≤ most_text → length behind < n → IsShort bytes
+  pub short_there : n ≤ most_encoding → length behind < n → IsShort bytes
   short_there short lacks = inr (omega (arith, short, size_there), omega (arith, lacks, first_len, behind_len, size_there))

@@ -1,4 +1,4 @@
--- The seal of a frame: the message that its sum covers, and the texts that are taken.
+-- The seal of a frame: the message that its sum covers, and the encodings that are taken.
 use Rattle.std.specs.Prelude.{◌≡◌, ℕ, List, [], ◌∷◌, ◌++◌, length, ⊤, Ok}
 use Rattle.std.specs.Int.{w32, w64, to_be_bytes}
 use Rattle.am_gossip.specs.declared.frame.Frame.{Frame}
@@ -6,7 +6,7 @@ use Rattle.am_gossip.specs.Frames.{frame_encoding}
 use Rattle.am_gossip.specs.Streams.{stream_of}
 use Rattle.am_peer_auth.specs.declared.seal.Lock.{Lock}
 use Rattle.am_peer_auth.specs.declared.seal.SealError.{SealError}
-use Rattle.am_peer_auth.specs.declared.seal.SealError.TheVariants.{Length, Sum, Text, Number, Memory}
+use Rattle.am_peer_auth.specs.declared.seal.SealError.TheVariants.{Length, Sum, NotOneFrame, Number, Memory}
 use Rattle.am_peer_auth.specs.declared.sequence.Sequence.{Sequence}
 use Rattle.am_peer_auth.specs.Macs.{hmac}
 use Rattle.am_peer_auth.specs.Sequences.{next_in}
@@ -19,35 +19,35 @@ message_front place sender addressee = place.challenge ++ to_be_bytes w64 place.
 
 -- the message that a sum covers: its front, and the frame's bytes
 abbrev pub sealed_message : Sequence → List ℕ → List ℕ → List ℕ → List ℕ
-sealed_message place sender addressee text = message_front place sender addressee ++ text
+sealed_message place sender addressee encoding = message_front place sender addressee ++ encoding
 
 -- the sum of a frame's bytes at a place in its connection, from a sender to an addressee
 unfoldable pub seal_sum : List ℕ → Sequence → List ℕ → List ℕ → List ℕ → List ℕ
-seal_sum secret place sender addressee text = hmac secret (sealed_message place sender addressee text)
+seal_sum secret place sender addressee encoding = hmac secret (sealed_message place sender addressee encoding)
 
 -- a sum is correct for a sender, for the receiver, for a place in the connection, and for a frame's bytes
 abbrev pub IsRight : Lock → List ℕ → Sequence → List ℕ → List ℕ → Type 0
-IsRight lock sender place sum text = sum ≡ seal_sum lock.secret.now place sender lock.name.now text
+IsRight lock sender place sum encoding = sum ≡ seal_sum lock.secret.now place sender lock.name.now encoding
 
--- a text is exactly one frame
+-- an encoding is exactly one frame
 abbrev pub IsOnly : List ℕ → Frame → Type 0
-IsOnly text frame = stream_of text ≡ record { frames = frame ∷ []; ending = Ok [] }
+IsOnly encoding frame = stream_of encoding ≡ record { frames = frame ∷ []; ending = Ok [] }
 
--- the reason why a text isn't taken: its sum isn't correct; its sum is correct, but it isn't one frame; or memory ran out
+-- the reason why an encoding isn't taken: its sum isn't correct; its sum is correct, but it isn't one frame; or memory ran out
 abbrev pub IsUntaken : Lock → List ℕ → Sequence → List ℕ → List ℕ → SealError → Type 0
-IsUntaken lock sender place sum text Sum = ¬ IsRight lock sender place sum text
-IsUntaken lock sender place sum text Text = IsRight lock sender place sum text × ((frame : Frame) → ¬ IsOnly text frame)
-IsUntaken lock sender place sum text Memory = ⊤
-IsUntaken lock sender place sum text Length = ⊥
-IsUntaken lock sender place sum text Number = ⊥
+IsUntaken lock sender place sum encoding Sum = ¬ IsRight lock sender place sum encoding
+IsUntaken lock sender place sum encoding NotOneFrame = IsRight lock sender place sum encoding × ((frame : Frame) → ¬ IsOnly encoding frame)
+IsUntaken lock sender place sum encoding Memory = ⊤
+IsUntaken lock sender place sum encoding Length = ⊥
+IsUntaken lock sender place sum encoding Number = ⊥
 
--- the reason why a text is no frame
+-- the reason why an encoding is no frame
 abbrev pub IsNoFrame : List ℕ → SealError → Type 0
-IsNoFrame text Text = (frame : Frame) → ¬ IsOnly text frame
-IsNoFrame text Memory = ⊤
-IsNoFrame text _ = ⊥
+IsNoFrame encoding NotOneFrame = (frame : Frame) → ¬ IsOnly encoding frame
+IsNoFrame encoding Memory = ⊤
+IsNoFrame encoding _ = ⊥
 
--- a sealed frame as it is sent: its sum, its length in 4 bytes, and its text
+-- a sealed frame as it is sent: its sum, its length in 4 bytes, and its encoding
 abbrev pub sealed_frame : Lock → List ℕ → Sequence → Frame → List ℕ
 sealed_frame lock addressee place frame =
     seal_sum lock.secret.now place lock.name.now addressee (frame_encoding frame) ++ to_be_bytes w32 (length (frame_encoding frame)) ++ frame_encoding frame

@@ -2,7 +2,7 @@
 
 ghost use Rattle.std.specs.Prelude.{◌≡◌, ◌≤◌, length};
 ghost use Rattle.am_http.specs.Sessions.{SaysEnd, name_of, over, spoken};
-ghost use Rattle.am_peer_auth.specs.Authenticators.{Passes, before, challenge_left, challenge_sent, cut_at, told_by, waiting_at, way_of};
+ghost use Rattle.am_peer_auth.specs.Authenticators.{Passes, before, challenge_left, challenge_sent, cut_at, told_by, waiting_at, phase_of};
 
 use crate::fault::AuthFault;
 use crate::opening::SEALED;
@@ -27,18 +27,18 @@ pub struct Authenticator {
 }
 
 impl Model for Authenticator {
-    ghost use Rattle.am_peer_auth.specs.Authenticators.{AtGate, way_of};
+    ghost use Rattle.am_peer_auth.specs.Authenticators.{AtGate, phase_of};
 
     ghost Value = { AtGate };
 
-    ghost view = { λ g. record { accepts = g.accepts; way = way_of g.state } };
+    ghost view = { λ g. record { accepts = g.accepts; auth_phase = phase_of g.state } };
 }
 
 impl Authenticator {
     /// Returns the authenticator before the first byte of a connection of which this is accepted.
     pub fn new(alloc: Global, accepts: AcceptedProtocols) -> Authenticator
         ensures accepts { result.accepts ≡ accepts }
-        ensures fresh { result.way ≡ before }
+        ensures fresh { result.auth_phase ≡ before }
     {
         Authenticator {
             alloc,
@@ -58,7 +58,7 @@ impl Authenticator {
         piece: &[u8],
     ) -> Heard
         // PROMISE: With a secret, frames reach a session only if they were sealed by their sender for this member and for the challenge of this connection, each once and in order.
-        ensures passes { Passes self.old.accepts lock.entry challenge self.old.way session.old piece.now (told_by result) self.new.way session.new }
+        ensures passes { Passes self.old.accepts lock.entry challenge self.old.auth_phase session.old piece.now (told_by result) self.new.auth_phase session.new }
         ensures accepts { self.new.accepts ≡ self.old.accepts }
     {
         let state = mem::replace(&mut self.state, AuthState::Closed);
@@ -76,7 +76,7 @@ impl Authenticator {
         challenge: [u8; CHALLENGE],
         piece: &[u8],
     ) -> (Heard, AuthState)
-        ensures { Passes self.now.accepts lock.entry challenge (way_of state) session.old piece.now (told_by result.0) (way_of result.1) session.new }
+        ensures { Passes self.now.accepts lock.entry challenge (phase_of state) session.old piece.now (told_by result.0) (phase_of result.1) session.new }
     {
         match (state, lock) {
             (AuthState::Fresh, _) => self.begin(session, lock, challenge, piece),
@@ -99,7 +99,7 @@ impl Authenticator {
         challenge: [u8; CHALLENGE],
         piece: &[u8],
     ) -> (Heard, AuthState)
-        ensures { Passes self.now.accepts lock.entry challenge before session.old piece.now (told_by result.0) (way_of result.1) session.new }
+        ensures { Passes self.now.accepts lock.entry challenge before session.old piece.now (told_by result.0) (phase_of result.1) session.new }
     {
         let alloc = self.alloc;
         match piece.split_first() {
@@ -123,7 +123,7 @@ impl Authenticator {
     pub fn end(&mut self, session: &mut Session) -> Heard
         ensures said { SaysEnd session.old (spoken result.said) }
         ensures over { session.new ≡ over (name_of session.old) }
-        ensures cut { result.fault ≡ cut_at (waiting_at self.old.way) }
+        ensures cut { result.fault ≡ cut_at (waiting_at self.old.auth_phase) }
         ensures unchanged { self.new ≡ self.old }
     {
         let fault = if self.waiting() > 0 {
@@ -139,7 +139,7 @@ impl Authenticator {
 
     /// Returns the number of bytes that wait here for the rest of their greeting or frame.
     pub fn waiting(&self) -> usize
-        ensures { result ≡ length (waiting_at self.now.way) }
+        ensures { result ≡ length (waiting_at self.now.auth_phase) }
     {
         match &self.state {
             AuthState::Fresh | AuthState::Open | AuthState::Closed => 0,
@@ -150,7 +150,7 @@ impl Authenticator {
 
     /// Returns the bytes of the challenge that are still to be written.
     pub fn output(&self) -> &[u8]
-        ensures { result.now ≡ challenge_left self.now.way }
+        ensures { result.now ≡ challenge_left self.now.auth_phase }
     {
         match &self.state {
             AuthState::Sealed(sealing) => sealing.left(),
@@ -160,8 +160,8 @@ impl Authenticator {
 
     /// Records that `count` more bytes of the challenge were sent.
     pub fn sent(&mut self, count: usize)
-        requires within { count ≤ length (challenge_left self.old.way) }
-        ensures way { self.new.way ≡ challenge_sent count self.old.way }
+        requires within { count ≤ length (challenge_left self.old.auth_phase) }
+        ensures auth_phase { self.new.auth_phase ≡ challenge_sent count self.old.auth_phase }
         ensures accepts { self.new.accepts ≡ self.old.accepts }
     {
         if let AuthState::Sealed(sealing) = &mut self.state {

@@ -14,10 +14,10 @@ ghost use Rattle.am_peer_auth.specs.Sequences.{after};
 /// five have the same bytes.
 pub fn messages_are_told_apart()
     // PROMISE: No other challenge, number, sender, addressee and frame are summed as the same bytes.
-    ensures { (place elsewhere : Sequence) (sender addressee text other whom what : List ℕ) → length place.challenge ≡ 32 → length elsewhere.challenge ≡ 32
+    ensures { (place elsewhere : Sequence) (sender addressee encoding other whom what : List ℕ) → length place.challenge ≡ 32 → length elsewhere.challenge ≡ 32
         → place.number < 2 ^ 64 → elsewhere.number < 2 ^ 64 → length sender < 2 ^ 64 → length addressee < 2 ^ 64 → length other < 2 ^ 64
-        → length whom < 2 ^ 64 → sealed_message place sender addressee text ≡ sealed_message elsewhere other whom what
-        → (place ≡ elsewhere) × (sender ≡ other) × (addressee ≡ whom) × (text ≡ what) }
+        → length whom < 2 ^ 64 → sealed_message place sender addressee encoding ≡ sealed_message elsewhere other whom what
+        → (place ≡ elsewhere) × (sender ≡ other) × (addressee ≡ whom) × (encoding ≡ what) }
 {}
 
 /// States that two pieces of a sealed stream, one after another, open to the same as both joined, if the second is opened from the

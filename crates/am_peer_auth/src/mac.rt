@@ -17,13 +17,13 @@ const INNER: u8 = 0x36;
 /// The mark of the outer hash (RFC 2104, section 2).
 const OUTER: u8 = 0x5c;
 
-/// Returns a text of at most a block, padded with zeros.
-fn padded(text: &[u8]) -> [u8; BLOCK]
-    requires { length text.now ≤ 64 }
-    ensures { result ≡ text.now ++ replicate (64 - length text.now) 0 }
+/// Returns bytes of at most a block, padded with zeros.
+fn padded(bytes: &[u8]) -> [u8; BLOCK]
+    requires { length bytes.now ≤ 64 }
+    ensures { result ≡ bytes.now ++ replicate (64 - length bytes.now) 0 }
 {
     let mut block = [0u8; BLOCK];
-    block[..text.len()].copy_from_slice(text);
+    block[..bytes.len()].copy_from_slice(bytes);
     block
 }
 

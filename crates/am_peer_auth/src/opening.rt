@@ -99,12 +99,12 @@ fn summed(
     alloc: Global,
     summing: Option<Summing>,
     origin: Origin<'_>,
-    text: &[u8],
+    encoding: &[u8],
 ) -> Option<Summing>
-    requires covers { IfSome summing (λ s. Covers s text.now) }
-    ensures covers { IfSome result (λ s. Covers s text.now) }
+    requires covers { IfSome summing (λ s. Covers s encoding.now) }
+    ensures covers { IfSome result (λ s. Covers s encoding.now) }
 {
-    match sum_so_far(alloc, summing, origin, text) {
+    match sum_so_far(alloc, summing, origin, encoding) {
         Ok(summing) => Some(summing),
         Err(_) => None,
     }
@@ -112,7 +112,7 @@ fn summed(
 
 /// Returns the sum if it covers no more than the first `size` bytes of an encoding.
 fn summed_within(summing: Option<Summing>, size: usize) -> Option<Summing>
-    ensures within { (text : List ℕ) → size ≤ length text → IfSome summing (λ s. Covers s text) → IfSome result (λ s. Covers s (take size text)) }
+    ensures within { (encoding : List ℕ) → size ≤ length encoding → IfSome summing (λ s. Covers s encoding) → IfSome result (λ s. Covers s (take size encoding)) }
 {
     let summing = summing?;
     if summing.count() <= size {

@@ -2,7 +2,7 @@
 
 ghost use Rattle.std.specs.Prelude.{◌≡◌, ◌+◌, ◌≤◌, drop, length};
 ghost use Rattle.am_http.specs.Sessions.{nothing};
-ghost use Rattle.am_peer_auth.specs.Authenticators.{IsTurnedBack, PassesOn, told, told_by, way_of};
+ghost use Rattle.am_peer_auth.specs.Authenticators.{IsTurnedBack, PassesOn, told, told_by, phase_of};
 
 use crate::fault::AuthFault;
 use crate::opening::Waiting;
@@ -78,7 +78,7 @@ impl Sealing {
 
 /// Returns what the session says of a piece.
 pub fn pass_on(session: &mut Session, piece: &[u8]) -> (Heard, AuthState)
-    ensures { PassesOn session.old piece.now (told_by result.0) (way_of result.1) session.new }
+    ensures { PassesOn session.old piece.now (told_by result.0) (phase_of result.1) session.new }
 {
     let said = session.feed(piece);
     (Heard { said, fault: None }, AuthState::Open)
@@ -86,7 +86,7 @@ pub fn pass_on(session: &mut Session, piece: &[u8]) -> (Heard, AuthState)
 
 /// Stops the session for this reason: nothing more is heard.
 pub fn turn_back(alloc: Global, session: &mut Session, fault: AuthFault) -> (Heard, AuthState)
-    ensures { IsTurnedBack fault session.old (told_by result.0) (way_of result.1) session.new }
+    ensures { IsTurnedBack fault session.old (told_by result.0) (phase_of result.1) session.new }
 {
     session.stop();
     let heard = Heard {
@@ -99,7 +99,7 @@ pub fn turn_back(alloc: Global, session: &mut Session, fault: AuthFault) -> (Hea
 /// Returns that nothing was said, with this state.
 pub fn wait(alloc: Global, state: AuthState) -> (Heard, AuthState)
     ensures said { told_by result.0 ≡ told nothing }
-    ensures state { way_of result.1 ≡ way_of state }
+    ensures state { phase_of result.1 ≡ phase_of state }
 {
     let heard = Heard {
         said: SessionOutput::nothing(alloc),

@@ -37,8 +37,8 @@ pub enum SealError {
     #[error("Sum")]
     Sum,
     /// The sum is correct, but the bytes aren't one frame.
-    #[error("Text")]
-    Text,
+    #[error("NotOneFrame")]
+    NotOneFrame,
     /// There is no number for a next frame.
     #[error("Number")]
     Number,
@@ -64,9 +64,9 @@ pub fn sum_of(
     place: Sequence,
     sender: &str,
     addressee: &str,
-    text: &[u8],
+    encoding: &[u8],
 ) -> [u8; SUM]
-    ensures { result ≡ seal_sum secret.now place sender.now addressee.now text.now }
+    ensures { result ≡ seal_sum secret.now place sender.now addressee.now encoding.now }
 {
     let mut mac = Mac::new(secret);
     mac.update(&place.challenge);
@@ -75,7 +75,7 @@ pub fn sum_of(
     mac.update(sender.as_bytes());
     mac.update(&(addressee.len() as u64).to_be_bytes());
     mac.update(addressee.as_bytes());
-    mac.update(text);
+    mac.update(encoding);
     mac.finalize()
 }
 
@@ -83,22 +83,22 @@ pub fn sum_of(
 ///
 /// # Errors
 ///
-/// Returns [`SealError::Text`] if the encoding is no frame, or more than one, and [`SealError::Memory`] if memory runs out.
-fn only_frame(alloc: Global, text: &[u8]) -> Result<Frame, SealError>
-    ensures taken { IfOk result (λ frame. IsOnly text.now frame) }
-    ensures refused { IfErr result (IsNoFrame text.now) }
+/// Returns [`SealError::NotOneFrame`] if the encoding is no frame, or more than one, and [`SealError::Memory`] if memory runs out.
+fn only_frame(alloc: Global, encoding: &[u8]) -> Result<Frame, SealError>
+    ensures taken { IfOk result (λ frame. IsOnly encoding.now frame) }
+    ensures refused { IfErr result (IsNoFrame encoding.now) }
 {
     let mut feeder = Feeder::new(alloc);
-    let Ok(fed) = feeder.feed(text) else {
+    let Ok(fed) = feeder.feed(encoding) else {
         return Err(SealError::Memory);
     };
     let Fed { mut frames, fault } = fed;
     if fault.is_some() || feeder.waiting() > 0 || frames.len() > 1 {
-        return Err(SealError::Text);
+        return Err(SealError::NotOneFrame);
     }
     match frames.pop() {
         Some(frame) => Ok(frame),
-        None => Err(SealError::Text),
+        None => Err(SealError::NotOneFrame),
     }
 }
 
@@ -106,32 +106,32 @@ fn only_frame(alloc: Global, text: &[u8]) -> Result<Frame, SealError>
 ///
 /// # Errors
 ///
-/// Returns [`SealError::Sum`] if the sum isn't correct, before the encoding is read; [`SealError::Text`] if the encoding is not
+/// Returns [`SealError::Sum`] if the sum isn't correct, before the encoding is read; [`SealError::NotOneFrame`] if the encoding is not
 /// one frame; and [`SealError::Memory`] if memory runs out.
 pub fn open_frame(
     alloc: Global,
     origin: Origin<'_>,
     summing: Option<Summing>,
     sum: &[u8; SUM],
-    text: &[u8],
+    encoding: &[u8],
 ) -> Result<Frame, SealError>
-    requires covers { IfSome summing (λ s. Covers s text.now) }
+    requires covers { IfSome summing (λ s. Covers s encoding.now) }
     // PROMISE: A frame is taken only if its sum is right for the challenge of its connection, its number there, its sender, its addressee and its bytes.
-    ensures right { IfOk result (λ _. IsRight origin.entry.lock origin.entry.sender.now origin.entry.place sum.now text.now) }
-    ensures frame { IfOk result (λ frame. IsOnly text.now frame) }
-    ensures refused { IfErr result (IsUntaken origin.entry.lock origin.entry.sender.now origin.entry.place sum.now text.now) }
+    ensures right { IfOk result (λ _. IsRight origin.entry.lock origin.entry.sender.now origin.entry.place sum.now encoding.now) }
+    ensures frame { IfOk result (λ frame. IsOnly encoding.now frame) }
+    ensures refused { IfErr result (IsUntaken origin.entry.lock origin.entry.sender.now origin.entry.place sum.now encoding.now) }
 {
-    let correct = whole_sum(alloc, summing, origin, text)?;
+    let correct = whole_sum(alloc, summing, origin, encoding)?;
     if !are_same(sum, &correct) {
         return Err(SealError::Sum);
     }
-    only_frame(alloc, text)
+    only_frame(alloc, encoding)
 }
 
 /// The bytes of sealed frames, and the place of the next frame.
 #[derive(Drop)]
 pub struct Sealed {
-    pub text: Vec<u8>,
+    pub encoding: Vec<u8>,
     pub next: Sequence,
 }
 
@@ -150,19 +150,19 @@ pub fn sealed_encoding(
     frames: &[Frame],
 ) -> Result<Sealed, FrameError>
     // PROMISE: Frames go out behind sums of the challenge that was answered, and of their numbers one after the other.
-    ensures text { IfOk result (λ sealed. sealed.text.items ≡ sealed_frames lock.entry addressee.now place frames.now) }
+    ensures encoding { IfOk result (λ sealed. sealed.encoding.items ≡ sealed_frames lock.entry addressee.now place frames.now) }
     ensures next { IfOk result (λ sealed. sealed.next ≡ after (length frames.now) place) }
 {
-    let mut text = Vec::new(alloc);
+    let mut encoding = Vec::new(alloc);
     let mut next = place;
     for frame in frames {
-        append_sealed(alloc, &mut text, lock, addressee, next, frame)?;
+        append_sealed(alloc, &mut encoding, lock, addressee, next, frame)?;
         next = match next.next() {
             Some(behind) => behind,
             None => return Err(FrameError::Length),
         };
     }
-    Ok(Sealed { text, next })
+    Ok(Sealed { encoding, next })
 }
 
 /// Appends one sealed frame to `out`.
@@ -176,12 +176,12 @@ fn append_sealed(
 ) -> Result<(), FrameError>
     ensures { OnOk result (out.new.items ≡ out.old.items ++ sealed_frame lock.entry addressee.now place frame.now) }
 {
-    let text = encode_frame(alloc, frame)?;
-    let Ok(size) = u32::try_from(text.len()) else {
+    let encoding = encode_frame(alloc, frame)?;
+    let Ok(size) = u32::try_from(encoding.len()) else {
         return Err(FrameError::Length);
     };
-    out.extend_from_slice(&sum_of(lock.secret, place, lock.name, addressee, &text))?;
+    out.extend_from_slice(&sum_of(lock.secret, place, lock.name, addressee, &encoding))?;
     out.extend_from_slice(&size.to_be_bytes())?;
-    out.extend_from_slice(&text)?;
+    out.extend_from_slice(&encoding)?;
     Ok(())
 }

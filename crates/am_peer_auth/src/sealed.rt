@@ -1,7 +1,7 @@
 //! A sealed connection: a greeting, the challenge that is sent back, and sealed frames that answer it.
 
 ghost use Rattle.std.specs.Prelude.{◌≡◌, ◌++◌, IfSome};
-ghost use Rattle.am_peer_auth.specs.Authenticators.{Greets, IsFailed, IsGreeted, IsKept, Unseals, greeting, told_by, way_of};
+ghost use Rattle.am_peer_auth.specs.Authenticators.{Greets, IsFailed, IsGreeted, IsKept, Unseals, greeting, told_by, phase_of};
 
 use crate::fault::AuthFault;
 use crate::opening::{Opened, Waiting, open_piece};
@@ -15,7 +15,7 @@ use std::alloc::Global;
 /// Returns the opened frames. If one behind them wasn't accepted, nothing more is heard; otherwise `waiting` waits, and `out`
 /// bytes of the challenge were sent.
 fn keep(session: &mut Session, opened: Opened, out: usize, waiting: Waiting) -> (Heard, AuthState)
-    ensures { IsKept opened.frames.items opened.fault opened.next out waiting session.old (told_by result.0) (way_of result.1) session.new }
+    ensures { IsKept opened.frames.items opened.fault opened.next out waiting session.old (told_by result.0) (phase_of result.1) session.new }
 {
     let Opened {
         frames,
@@ -48,7 +48,7 @@ pub fn unseal(
     sealing: Sealing,
     piece: &[u8],
 ) -> (Heard, AuthState)
-    ensures { Unseals lock.entry sealing.place sealing.out session.old (sealing.waiting ++ piece.now) (told_by result.0) (way_of result.1) session.new }
+    ensures { Unseals lock.entry sealing.place sealing.out session.old (sealing.waiting ++ piece.now) (told_by result.0) (phase_of result.1) session.new }
 {
     let Sealing {
         place,
@@ -76,7 +76,7 @@ fn greeted(
     greeting: &[u8],
     behind: &[u8],
 ) -> (Heard, AuthState)
-    ensures { IsGreeted origin.entry.lock origin.entry.sender.now origin.entry.place session.old greeting.now behind.now (told_by result.0) (way_of result.1) session.new }
+    ensures { IsGreeted origin.entry.lock origin.entry.sender.now origin.entry.place session.old greeting.now behind.now (told_by result.0) (phase_of result.1) session.new }
 {
     let said = session.feed(greeting);
     if said.fault.is_some() {
@@ -89,7 +89,7 @@ fn greeted(
 
 /// Returns the state in which the bytes of a greeting that isn't whole wait.
 fn wait_on(alloc: Global, bytes: &[u8]) -> Option<AuthState>
-    ensures { IfSome result (λ state. way_of state ≡ greeting bytes.now) }
+    ensures { IfSome result (λ state. phase_of state ≡ greeting bytes.now) }
 {
     match bytes.to_vec(alloc) {
         Ok(bytes) => Some(AuthState::Greeting(bytes)),
@@ -105,7 +105,7 @@ fn greet(
     challenge: [u8; CHALLENGE],
     bytes: &[u8],
 ) -> (Heard, AuthState)
-    ensures { Greets lock.entry challenge session.old bytes.now (told_by result.0) (way_of result.1) session.new }
+    ensures { Greets lock.entry challenge session.old bytes.now (told_by result.0) (phase_of result.1) session.new }
 {
     match read_hello(bytes) {
         Ok(Some((name, len))) => {
@@ -127,7 +127,7 @@ fn greet(
 
 /// Stops the session because its greeting is at fault.
 fn fail(alloc: Global, session: &mut Session, error: FrameError) -> (Heard, AuthState)
-    ensures { IsFailed error session.old (told_by result.0) (way_of result.1) session.new }
+    ensures { IsFailed error session.old (told_by result.0) (phase_of result.1) session.new }
 {
     session.stop();
     let heard = Heard {
@@ -146,7 +146,7 @@ pub fn greet_on(
     bytes: Vec<u8>,
     piece: &[u8],
 ) -> (Heard, AuthState)
-    ensures { Greets lock.entry challenge session.old (bytes.items ++ piece.now) (told_by result.0) (way_of result.1) session.new }
+    ensures { Greets lock.entry challenge session.old (bytes.items ++ piece.now) (told_by result.0) (phase_of result.1) session.new }
 {
     let mut bytes = bytes;
     match bytes.extend_from_slice(piece) {

@@ -68,12 +68,12 @@ impl Summing {
     }
 
     /// Takes in the rest of an encoding.
-    fn sum_rest(&mut self, text: &[u8])
-        requires covers { Covers self.old text.now }
-        ensures sum { IsSumOf self.new self.old.secret.items self.old.front.items text.now }
+    fn sum_rest(&mut self, encoding: &[u8])
+        requires covers { Covers self.old encoding.now }
+        ensures sum { IsSumOf self.new self.old.secret.items self.old.front.items encoding.now }
     {
-        self.mac.update(&text[self.count..]);
-        self.count = text.len();
+        self.mac.update(&encoding[self.count..]);
+        self.count = encoding.len();
     }
 }
 
@@ -87,10 +87,10 @@ pub fn sum_so_far(
     alloc: Global,
     summing: Option<Summing>,
     origin: Origin<'_>,
-    text: &[u8],
+    encoding: &[u8],
 ) -> Result<Summing, AllocError>
-    requires covers { IfSome summing (λ s. Covers s text.now) }
-    ensures sum { IfOk result (λ s. IsSumOf s origin.entry.lock.secret.now (message_front origin.entry.place origin.entry.sender.now origin.entry.lock.name.now) text.now) }
+    requires covers { IfSome summing (λ s. Covers s encoding.now) }
+    ensures sum { IfOk result (λ s. IsSumOf s origin.entry.lock.secret.now (message_front origin.entry.place origin.entry.sender.now origin.entry.lock.name.now) encoding.now) }
 {
     let Origin {
         lock,
@@ -99,7 +99,7 @@ pub fn sum_so_far(
     } = origin;
     let front = front_of_message(alloc, place, sender, lock.name)?;
     let mut summing = begun_for(alloc, summing, lock.secret, front)?;
-    summing.sum_rest(text);
+    summing.sum_rest(encoding);
     Ok(summing)
 }
 
@@ -113,7 +113,7 @@ fn begun_for(
 ) -> Result<Summing, AllocError>
     ensures secret { IfOk result (λ s. s.secret.items ≡ secret.now) }
     ensures front { IfOk result (λ s. s.front.items ≡ front.items) }
-    ensures covers { (text : List ℕ) → IfSome summing (λ s. Covers s text) → IfOk result (λ s. Covers s text) }
+    ensures covers { (encoding : List ℕ) → IfSome summing (λ s. Covers s encoding) → IfOk result (λ s. Covers s encoding) }
 {
     match summing {
         Some(summing) if summing.is_of(secret, &front) => Ok(summing),
@@ -132,10 +132,10 @@ pub fn whole_sum(
     alloc: Global,
     summing: Option<Summing>,
     origin: Origin<'_>,
-    text: &[u8],
+    encoding: &[u8],
 ) -> Result<[u8; SUM], AllocError>
-    requires covers { IfSome summing (λ s. Covers s text.now) }
-    ensures sum { IfOk result (λ sum. sum ≡ seal_sum origin.entry.lock.secret.now origin.entry.place origin.entry.sender.now origin.entry.lock.name.now text.now) }
+    requires covers { IfSome summing (λ s. Covers s encoding.now) }
+    ensures sum { IfOk result (λ sum. sum ≡ seal_sum origin.entry.lock.secret.now origin.entry.place origin.entry.sender.now origin.entry.lock.name.now encoding.now) }
 {
     if summing.is_none() {
         let Origin {
@@ -143,8 +143,8 @@ pub fn whole_sum(
             sender,
             place,
         } = origin;
-        return Ok(sum_of(lock.secret, place, sender, lock.name, text));
+        return Ok(sum_of(lock.secret, place, sender, lock.name, encoding));
     }
-    let summing = sum_so_far(alloc, summing, origin, text)?;
+    let summing = sum_so_far(alloc, summing, origin, encoding)?;
     Ok(summing.mac.finalize())
 }

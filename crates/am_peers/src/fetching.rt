@@ -12,7 +12,7 @@ use std::time::{Duration, Instant};
 
 /// A server: its host and port as they are written, the path below which its API stands, and the address at which it listens.
 #[derive(Clone, Copy)]
-pub struct Server<'a> {
+pub struct HttpServer<'a> {
     pub host: &'a str,
     /// The path, which is empty or begins with a slash and doesn't end with one.
     pub path: &'a str,
@@ -44,7 +44,7 @@ fn cut_at_path(place: &str) -> (&str, &str) {
 
 /// Reads a server from its address and port: an address of IPv4, one of IPv6 in brackets, or `localhost`, which is 127.0.0.1, or
 /// else `[::1]`. A path may follow.
-pub fn server_of(place: &str) -> Option<Server<'_>> {
+pub fn server_of(place: &str) -> Option<HttpServer<'_>> {
     let (host, path) = cut_at_path(place);
     if !path.as_bytes().iter().all(|byte| is_of_path(byte)) {
         return None;
@@ -52,7 +52,7 @@ pub fn server_of(place: &str) -> Option<Server<'_>> {
     if let Some((name, digits)) = host.rsplit_once(':') {
         if name == LOCALHOST {
             let port = crate::number::port_of(digits)?;
-            return Some(Server {
+            return Some(HttpServer {
                 host,
                 path,
                 address: SocketAddr::from((Ipv4Addr::LOCALHOST, port)),
@@ -61,7 +61,7 @@ pub fn server_of(place: &str) -> Option<Server<'_>> {
         }
     }
     match host.parse::<SocketAddr>() {
-        Ok(address) => Some(Server {
+        Ok(address) => Some(HttpServer {
             host,
             path,
             address,
@@ -79,7 +79,7 @@ pub fn server_of(place: &str) -> Option<Server<'_>> {
 pub fn fetch<R: Net<Stream = TcpStream> + Clock>(
     alloc: Global,
     rt: &R,
-    server: &Server<'_>,
+    server: &HttpServer<'_>,
     limit: Duration,
 ) -> Result<Vec<u8>, ServerFault> {
     let Ok(request) = request_text(alloc, server.host, server.path) else {
@@ -96,7 +96,7 @@ pub fn fetch<R: Net<Stream = TcpStream> + Clock>(
 pub fn ask<R: Net<Stream = TcpStream> + Clock>(
     alloc: Global,
     rt: &R,
-    server: &Server<'_>,
+    server: &HttpServer<'_>,
     request: &[u8],
     limit: Duration,
 ) -> Result<Vec<u8>, ServerFault> {
@@ -115,7 +115,7 @@ pub fn ask<R: Net<Stream = TcpStream> + Clock>(
 /// Connects to a server.
 fn connect<R: Net<Stream = TcpStream> + Clock>(
     rt: &R,
-    server: &Server<'_>,
+    server: &HttpServer<'_>,
     end: Instant,
 ) -> io::Result<TcpStream> {
     let first = TcpStream::connect_timeout(rt, &server.address, left_until(rt, end)?);

@@ -23,7 +23,7 @@ pub use beside::{name_beside, shown_name};
 pub use clock::{is_behind, later_moment, next_moment};
 pub use error::ServerFault;
 pub use fault::ConnectionFault;
-pub use fetching::{Server, ask, fetch, server_of};
+pub use fetching::{HttpServer, ask, fetch, server_of};
 pub use number::{number_within, port_of};
 pub use peer::{Peer, peer_of};
 pub use queue::{Parted, split_by_peer};

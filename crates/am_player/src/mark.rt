@@ -3,7 +3,7 @@
 use am_cluster::Cluster;
 use am_dedup::Decision;
 use am_instance::Place;
-use am_replay::{LineAnswer, Refusal};
+use am_replay::{LineAnswer, LineRefusal};
 use am_schedule::{Action, Line, LineEvent, Word};
 use am_version_order::Moment;
 
@@ -74,7 +74,7 @@ impl Mark {
     /// Returns the index of the frame that the line names among all that were sent, counted from 0, if that frame is in flight.
     pub fn flying(&self) -> Option<usize> {
         match self.answer {
-            LineAnswer::Refused(Refusal::NoFrame) => None,
+            LineAnswer::Refused(LineRefusal::NoFrame) => None,
             _ => Some(self.frame?.checked_sub(1)? as usize),
         }
     }

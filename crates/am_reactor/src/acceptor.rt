@@ -1,7 +1,7 @@
 //! The place where connections come in.
 
 use crate::entrance::{Entrance, Entrances};
-use crate::source::Source;
+use crate::source::EventSource;
 use mio::net::{TcpListener, TcpStream};
 use mio::{Interest, Registry};
 use std::io::{self, ErrorKind};
@@ -149,7 +149,11 @@ impl Acceptor {
 fn watched(registry: &Registry, listener: net::TcpListener) -> io::Result<TcpListener> {
     listener.set_nonblocking(true)?;
     let mut listener = TcpListener::from_std(listener);
-    registry.register(&mut listener, Source::Listener.token(), Interest::READABLE)?;
+    registry.register(
+        &mut listener,
+        EventSource::Listener.token(),
+        Interest::READABLE,
+    )?;
     Ok(listener)
 }
 

@@ -13,7 +13,7 @@ use crate::peers::{address_of, vacant};
 use crate::queues::PeerQueues;
 use crate::send_buffer::Progress;
 use crate::service::{PeerBytes, Service};
-use crate::source::Source;
+use crate::source::EventSource;
 use crate::stream::Stream;
 use mio::{Interest, Registry};
 use std::alloc::{AllocError, Global};
@@ -190,7 +190,7 @@ impl Exchanges<NotedStream> {
         let Some((address, place)) = address_of(&self.addresses, peer) else {
             return Err(LinkFault::NoPeer);
         };
-        let token = Source::Exchange(place).token();
+        let token = EventSource::Exchange(place).token();
         let mut exchange = Exchange::open(self.alloc, rt, address, request, end)?;
         match registry.register(
             &mut exchange.stream,

@@ -14,10 +14,6 @@ played_append a b c [] ys t u first next =
 played_append a b c (x ∷ xs) ys t u first next =
     (first.0, first.1, first.2 ++ u, first.3, played_append first.0 b c xs ys first.2 u first.4 next, ap (λ v. v ++ u) first.5 ∙ append_assoc first.1 first.2 u)
 
--- nothing was played yet
-pub plays_none : (a : World) (start : List ℕ) → PlaysAll a [] a start start
-plays_none a start = record { text = []; played = (refl, refl); printed = sym (append-nil start) }
-
 -- one line more was played
 pub plays_more : (a b c : World) (lines : List (Line × ℕ)) (i : ℕ) (line : Line) (number : ℕ) (start mid end : List ℕ) →
     i < length lines → (line, number) ≡ get_or lines i (line, number) →

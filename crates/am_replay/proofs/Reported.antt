@@ -9,9 +9,6 @@ pub record HasTold (world : World) (names : List (List ℕ)) (place : ℕ) (befo
   pub printed : after ≡ before ++ text
   pub reports : (others : List ℕ) → AreReportsFrom world place (drop place names) others → AreReportsFrom world 0 names (text ++ others)
 
-pub told_none : (world : World) (names : List (List ℕ)) (start : List ℕ) → HasTold world names 0 start start
-told_none world names start = record { text = []; printed = sym (append-nil start); reports = λ others rest. rest }
-
 pub told_more : (world : World) (names : List (List ℕ)) (place : ℕ) (name : List ℕ) (fault : Option ℕ) (start mid end : List ℕ) →
     place < length names → name ≡ get_or names place name → IsReport world place fault → end ≡ mid ++ report_text name fault →
     HasTold world names place start mid → HasTold world names (place + 1) start end

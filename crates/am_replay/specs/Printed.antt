@@ -10,8 +10,8 @@ use Rattle.am_gossip.specs.declared.kind.FrameKind.TheVariants as kinds
 use Rattle.am_report.specs.Words.{word_of}
 use Rattle.am_report.specs.Lists.{texts_word}
 use Rattle.am_report.specs.Views.{owner_words}
-use Rattle.am_replay.specs.declared.refusal.Refusal.{Refusal}
-use Rattle.am_replay.specs.declared.refusal.Refusal.TheVariants as refusals
+use Rattle.am_replay.specs.declared.refusal.LineRefusal.{LineRefusal}
+use Rattle.am_replay.specs.declared.refusal.LineRefusal.TheVariants as refusals
 use Rattle.am_replay.specs.declared.line.OutputLine.{OutputLine}
 use Rattle.am_replay.specs.declared.line.OutputLine.TheVariants as lines
 
@@ -37,7 +37,7 @@ kind_word kinds.Pull = codes "Pull"
 kind_word kinds.Tick = codes "Tick"
 
 -- the name of a kind of refusal
-abbrev pub refusal_word : Refusal → List ℕ
+abbrev pub refusal_word : LineRefusal → List ℕ
 refusal_word refusals.NotFound = codes "NotFound"
 refusal_word refusals.NoMatcher = codes "NoMatcher"
 refusal_word refusals.EmptyName = codes "EmptyName"

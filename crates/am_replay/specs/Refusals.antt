@@ -1,11 +1,11 @@
 -- The kinds of refusals.
 use Rattle.am_silence.specs.declared.error.SilenceError.{SilenceError}
 use Rattle.am_silence.specs.declared.error.SilenceError.TheVariants as errors
-use Rattle.am_replay.specs.declared.refusal.Refusal.{Refusal}
-use Rattle.am_replay.specs.declared.refusal.Refusal.TheVariants as refusals
+use Rattle.am_replay.specs.declared.refusal.LineRefusal.{LineRefusal}
+use Rattle.am_replay.specs.declared.refusal.LineRefusal.TheVariants as refusals
 
 -- the kind of a refusal to post or end a silence
-abbrev pub kind_of : SilenceError → Refusal
+abbrev pub kind_of : SilenceError → LineRefusal
 kind_of errors.NotFound = refusals.NotFound
 kind_of errors.NoMatcher = refusals.NoMatcher
 kind_of errors.EmptyName = refusals.EmptyName

@@ -19,8 +19,8 @@ use Rattle.am_cluster.specs.Worlds.{World}
 use Rattle.am_report.specs.Views.{shown_text}
 use Rattle.am_replay.specs.declared.line.OutputLine.{OutputLine}
 use Rattle.am_replay.specs.declared.line.OutputLine.TheVariants as lines
-use Rattle.am_replay.specs.declared.refusal.Refusal.{Refusal}
-use Rattle.am_replay.specs.declared.refusal.Refusal.TheVariants as refusals
+use Rattle.am_replay.specs.declared.refusal.LineRefusal.{LineRefusal}
+use Rattle.am_replay.specs.declared.refusal.LineRefusal.TheVariants as refusals
 use Rattle.am_replay.specs.Printed.{line_text}
 use Rattle.am_replay.specs.Refusals.{kind_of as silence_refusal}
 
@@ -75,7 +75,7 @@ owner_of (actions.Deliver at frame) = None
 owner_of (actions.Lose frame) = None
 
 -- the kind of a refused step; none if memory ran out, which ends the playing
-abbrev pub step_refusal : ClusterError → Option Refusal
+abbrev pub step_refusal : ClusterError → Option LineRefusal
 step_refusal errors.NoFrame = Some refusals.NoFrame
 step_refusal errors.Running = Some refusals.Running
 step_refusal errors.Stopped = Some refusals.Stopped
@@ -84,13 +84,13 @@ step_refusal errors.UnknownPeer = Some refusals.UnknownPeer
 step_refusal errors.Memory = None
 
 -- the kind of a refused settle
-abbrev pub settle_refusal : SettleError → Option Refusal
+abbrev pub settle_refusal : SettleError → Option LineRefusal
 settle_refusal settle_errors.Stopped = Some refusals.Stopped
 settle_refusal settle_errors.MomentBack = Some refusals.MomentBack
 settle_refusal settle_errors.Memory = None
 
 -- the text that is printed for a refusal
-abbrev pub refused_text : Option (List ℕ) → Option Refusal → Option (List ℕ)
+abbrev pub refused_text : Option (List ℕ) → Option LineRefusal → Option (List ℕ)
 refused_text owner None = None
 refused_text owner (Some refusal) = Some (told (lines.Refused (option_map lent owner) refusal))
 

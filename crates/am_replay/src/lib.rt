@@ -24,5 +24,5 @@ pub use line::{OutputLine, append_line};
 pub use names::{decision_name, kind_name, refusal_name, yes_or_no};
 pub use observer::{LineAnswer, Observer};
 pub use player::play;
-pub use refusal::Refusal;
+pub use refusal::LineRefusal;
 pub use replay::{run, run_shown};

@@ -4,7 +4,7 @@ ghost use Rattle.std.specs.Prelude.{◌≡◌, ◌++◌, OnOk, codes, string_byt
 ghost use Rattle.am_replay.specs.Printed.{line_text};
 
 use crate::names::{decision_name, kind_name, refusal_name, yes_or_no};
-use crate::refusal::Refusal;
+use crate::refusal::LineRefusal;
 use am_dedup::Decision;
 use am_gossip::FrameKind;
 use am_report::{Owner, Texts, Word};
@@ -57,7 +57,7 @@ pub enum OutputLine<'a> {
     /// A step was refused, by a member or by the cluster.
     Refused {
         name: Option<&'a str>,
-        refusal: Refusal,
+        refusal: LineRefusal,
     },
     /// A member was calm at all of its events.
     Calm {

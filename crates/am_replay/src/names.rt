@@ -3,7 +3,7 @@
 ghost use Rattle.std.specs.Prelude.{◌≡◌};
 ghost use Rattle.am_replay.specs.Printed.{decision_word, kind_word, refusal_word, yes_or_no};
 
-use crate::refusal::Refusal;
+use crate::refusal::LineRefusal;
 use am_dedup::{Decision, Reason};
 use am_gossip::FrameKind;
 
@@ -41,26 +41,26 @@ pub fn kind_name(kind: FrameKind) -> &'static str
 }
 
 /// Returns the name of a kind of refusal.
-pub fn refusal_name(refusal: Refusal) -> &'static str
+pub fn refusal_name(refusal: LineRefusal) -> &'static str
     ensures { result.now ≡ refusal_word refusal }
 {
     match refusal {
-        Refusal::NotFound => "NotFound",
-        Refusal::NoMatcher => "NoMatcher",
-        Refusal::EmptyName => "EmptyName",
-        Refusal::BadPattern => "BadPattern",
-        Refusal::AllMatchEmpty => "AllMatchEmpty",
-        Refusal::EndNotAfterStart => "EndNotAfterStart",
-        Refusal::EndInPast => "EndInPast",
-        Refusal::AlreadyExpired => "AlreadyExpired",
-        Refusal::Newer => "Newer",
-        Refusal::IdInUse => "IdInUse",
-        Refusal::TooLarge => "TooLarge",
-        Refusal::Memory => "Memory",
-        Refusal::MomentBack => "MomentBack",
-        Refusal::UnknownPeer => "UnknownPeer",
-        Refusal::Stopped => "Stopped",
-        Refusal::Running => "Running",
-        Refusal::NoFrame => "NoFrame",
+        LineRefusal::NotFound => "NotFound",
+        LineRefusal::NoMatcher => "NoMatcher",
+        LineRefusal::EmptyName => "EmptyName",
+        LineRefusal::BadPattern => "BadPattern",
+        LineRefusal::AllMatchEmpty => "AllMatchEmpty",
+        LineRefusal::EndNotAfterStart => "EndNotAfterStart",
+        LineRefusal::EndInPast => "EndInPast",
+        LineRefusal::AlreadyExpired => "AlreadyExpired",
+        LineRefusal::Newer => "Newer",
+        LineRefusal::IdInUse => "IdInUse",
+        LineRefusal::TooLarge => "TooLarge",
+        LineRefusal::Memory => "Memory",
+        LineRefusal::MomentBack => "MomentBack",
+        LineRefusal::UnknownPeer => "UnknownPeer",
+        LineRefusal::Stopped => "Stopped",
+        LineRefusal::Running => "Running",
+        LineRefusal::NoFrame => "NoFrame",
     }
 }

@@ -1,6 +1,6 @@
 //! Observers, which watch while a schedule is played.
 
-use crate::refusal::Refusal;
+use crate::refusal::LineRefusal;
 use am_cluster::Cluster;
 use am_dedup::Decision;
 use am_instance::Reply;
@@ -15,7 +15,7 @@ pub enum LineAnswer {
     /// True if a notification changed the log, a silence mutes, or the run is timely.
     Is(bool),
     Decided(Decision),
-    Refused(Refusal),
+    Refused(LineRefusal),
 }
 
 impl LineAnswer {
@@ -24,7 +24,7 @@ impl LineAnswer {
             Reply::Logged(changed) => LineAnswer::Is(*changed),
             Reply::Muted(mutes) => LineAnswer::Is(!mutes.ids.as_slice().is_empty()),
             Reply::Decided(decision) => LineAnswer::Decided(*decision),
-            Reply::Refused(error) => LineAnswer::Refused(Refusal::from(*error)),
+            Reply::Refused(error) => LineAnswer::Refused(LineRefusal::from(*error)),
             _ => LineAnswer::Nothing,
         }
     }

@@ -6,7 +6,7 @@ ghost use Rattle.am_replay.specs.Texts.{Prints, refused_text, told};
 
 use crate::line::{OutputLine, append_line};
 use crate::observer::LineAnswer;
-use crate::refusal::Refusal;
+use crate::refusal::LineRefusal;
 use std::alloc::AllocError;
 
 /// Appends a line and its line end.
@@ -22,7 +22,7 @@ pub fn tell(out: &mut String, line: &OutputLine<'_>) -> Result<(), AllocError>
 pub fn tell_refusal(
     out: &mut String,
     name: Option<&str>,
-    refusal: Option<Refusal>,
+    refusal: Option<LineRefusal>,
 ) -> Result<LineAnswer, AllocError>
     ensures { OnOk result (Prints (refused_text (option_copied name.entry) refusal) (string_bytes out.old) (string_bytes out.new)) }
 {

@@ -8,7 +8,7 @@ use am_silence::SilenceError;
 
 /// The kind of a refusal.
 #[derive(Clone, Copy)]
-pub enum Refusal {
+pub enum LineRefusal {
     // The reasons why a silence isn't posted, or isn't ended.
     NotFound,
     NoMatcher,
@@ -34,50 +34,50 @@ pub enum Refusal {
     NoFrame,
 }
 
-impl From<SilenceError> for Refusal {
+impl From<SilenceError> for LineRefusal {
     ghost use Rattle.am_replay.specs.Refusals.{kind_of};
 
     ghost from_gives = { λ error refusal. refusal ≡ kind_of error };
 
-    fn from(error: SilenceError) -> Refusal {
+    fn from(error: SilenceError) -> LineRefusal {
         match error {
-            SilenceError::NotFound => Refusal::NotFound,
-            SilenceError::NoMatcher => Refusal::NoMatcher,
-            SilenceError::EmptyName => Refusal::EmptyName,
-            SilenceError::BadPattern => Refusal::BadPattern,
-            SilenceError::AllMatchEmpty => Refusal::AllMatchEmpty,
-            SilenceError::EndNotAfterStart => Refusal::EndNotAfterStart,
-            SilenceError::EndInPast => Refusal::EndInPast,
-            SilenceError::AlreadyExpired => Refusal::AlreadyExpired,
-            SilenceError::Newer { .. } => Refusal::Newer,
-            SilenceError::IdInUse => Refusal::IdInUse,
-            SilenceError::TooLarge => Refusal::TooLarge,
-            SilenceError::Memory => Refusal::Memory,
+            SilenceError::NotFound => LineRefusal::NotFound,
+            SilenceError::NoMatcher => LineRefusal::NoMatcher,
+            SilenceError::EmptyName => LineRefusal::EmptyName,
+            SilenceError::BadPattern => LineRefusal::BadPattern,
+            SilenceError::AllMatchEmpty => LineRefusal::AllMatchEmpty,
+            SilenceError::EndNotAfterStart => LineRefusal::EndNotAfterStart,
+            SilenceError::EndInPast => LineRefusal::EndInPast,
+            SilenceError::AlreadyExpired => LineRefusal::AlreadyExpired,
+            SilenceError::Newer { .. } => LineRefusal::Newer,
+            SilenceError::IdInUse => LineRefusal::IdInUse,
+            SilenceError::TooLarge => LineRefusal::TooLarge,
+            SilenceError::Memory => LineRefusal::Memory,
         }
     }
 }
 
 /// Returns the kind of a step's refusal, or `None` if memory ran out.
-pub fn step_refusal(error: ClusterError) -> Option<Refusal>
+pub fn step_refusal(error: ClusterError) -> Option<LineRefusal>
     ensures { result ≡ step_refusal error }
 {
     match error {
-        ClusterError::NoFrame => Some(Refusal::NoFrame),
-        ClusterError::Running => Some(Refusal::Running),
-        ClusterError::Stopped => Some(Refusal::Stopped),
-        ClusterError::MomentBack { .. } => Some(Refusal::MomentBack),
-        ClusterError::UnknownPeer => Some(Refusal::UnknownPeer),
+        ClusterError::NoFrame => Some(LineRefusal::NoFrame),
+        ClusterError::Running => Some(LineRefusal::Running),
+        ClusterError::Stopped => Some(LineRefusal::Stopped),
+        ClusterError::MomentBack { .. } => Some(LineRefusal::MomentBack),
+        ClusterError::UnknownPeer => Some(LineRefusal::UnknownPeer),
         ClusterError::Memory => None,
     }
 }
 
 /// Returns the kind of a settle's refusal, or `None` if memory ran out.
-pub fn settle_refusal(error: SettleError) -> Option<Refusal>
+pub fn settle_refusal(error: SettleError) -> Option<LineRefusal>
     ensures { result ≡ settle_refusal error }
 {
     match error {
-        SettleError::Stopped => Some(Refusal::Stopped),
-        SettleError::MomentBack => Some(Refusal::MomentBack),
+        SettleError::Stopped => Some(LineRefusal::Stopped),
+        SettleError::MomentBack => Some(LineRefusal::MomentBack),
         SettleError::Memory => None,
     }
 }

@@ -6,7 +6,7 @@ ghost use Rattle.am_replay.specs.Texts.{answer_text, ended_text, owner_of, reply
 
 use crate::line::OutputLine;
 use crate::output::tell;
-use crate::refusal::Refusal;
+use crate::refusal::LineRefusal;
 use am_instance::Reply;
 use am_report::append_shown;
 use am_schedule::{Action, LineEvent};
@@ -47,7 +47,7 @@ fn tell_reply(
         Reply::Deleted => return tell_ended(out, name, event),
         Reply::Refused(error) => OutputLine::Refused {
             name: Some(name),
-            refusal: Refusal::from(*error),
+            refusal: LineRefusal::from(*error),
         },
         Reply::Logged(changed) => OutputLine::Logged {
             name,

@@ -5,9 +5,7 @@ use Rattle.std.specs.List.{AllByRecursion}
 use Rattle.std.proofs.lemmas.Bool.{cases_Bool}
 use Rattle.std.proofs.lemmas.List.{take_more, map-append}
 use Rattle.std.proofs.lemmas.List.Sums.{fold_push}
-use Rattle.std.proofs.lemmas.List.Elements.{All-nil, All-cons, All-head, All-push, All-contains, All-from_recursion, Contains-append_left, Contains-append_right, Contains-push}
-use Rattle.std.proofs.lemmas.List.Kept.{AllPairs-cons}
-use Rattle.std.proofs.lemmas.List.Quantifiers.{all_pairs_push}
+use Rattle.std.proofs.lemmas.List.Elements.{All-from_recursion, Contains-append_left, Contains-append_right, Contains-push}
 use Rattle.std.specs.declared.cmp.Ordering.{Ordering}
 use Rattle.std.specs.declared.cmp.Ordering.TheVariants.{Less, Equal, Greater}
 use Rattle.std.specs.Ordering.{is_lt, is_eq, ordering_reverse}
@@ -16,7 +14,7 @@ use Rattle.am_version_order.proofs.Ranks.{rank_total, below_itself, below_past, 
 use Rattle.am_merge.specs.Maps.{greater_of}
 use Rattle.am_report.specs.Sources.{Holding, MergeCursor, holding_of}
 use Rattle.am_report.specs.Differences.{is_same}
-use Rattle.am_report.specs.Groups.{within, greatest_within, AreRanked}
+use Rattle.am_report.specs.Groups.{within, greatest_within}
 
 module _ {K X : Type 0} (seen : X → Version K) where
   same_by : (v w : X) (r : Ordering) → rank_cmp (seen v) (seen w) ≡ r → is_below (seen v) (seen w) ≡ false → is_below (seen w) (seen v) ≡ false → is_eq r ≡ true
@@ -115,9 +113,6 @@ module _ {K X : Type 0} (seen : X → Version K) where
           | inr here ↦ here
         ]
 
-    pub none_greater : (holdings : List (Holding X)) (v : X) → greatest_within seen bound holdings ≡ Some v → All (λ holding. NotAbove (within seen bound holding.here) v) holdings
-    none_greater holdings v e = All-from_recursion (λ holding. NotAbove (within seen bound holding.here) v) holdings (some_within None holdings v e).2
-
     -- one side more
     pub greatest_more : (sides : List (MergeCursor X)) (i : ℕ) (d : MergeCursor X) → i < length sides
         → greater_of seen (greatest_within seen bound (map holding_of (take i sides))) (within seen bound (get_or sides i d).here) ≡ greatest_within seen bound (map holding_of (take (i + 1) sides))
@@ -143,9 +138,6 @@ module _ {K X : Type 0} (seen : X → Version K) where
       let parts = below_or (is_below (seen w) (seen above)) w v e in
       (ap Some parts.0, subst (λ x. is_below (seen x) (seen above) ≡ true) parts.0 parts.1)
 
-  within_itself : (above w : X) (o : Option X) → o ≡ Some w → is_below (seen w) (seen above) ≡ true → within seen (Some above) o ≡ Some w
-  within_itself above w o e below = rw (e, below) refl
-
   -- ---- the versions found so far, of which the last is the least
 
   pub record IsChain (holdings : List (Holding X)) (versions : List X) (last : X) : Type 0 where
@@ -154,29 +146,6 @@ module _ {K X : Type 0} (seen : X → Version K) where
     pub bottom : All (λ w. (w ≡ last) ⊎ (is_below (seen last) (seen w) ≡ true)) versions
     pub rest : (holding : Holding X) (v : X) → Contains holdings holding → holding.here ≡ Some v
         → ((w : X) × Contains versions w × (is_same seen (Some v) (Some w) ≡ true)) ⊎ (is_below (seen v) (seen last) ≡ true)
-
-  tied_or_below : (versions : List X) (v w : X) → Contains versions v → is_below (seen v) (seen w) ≡ false
-      → ((x : X) × Contains versions x × (is_same seen (Some w) (Some x) ≡ true)) ⊎ (is_below (seen w) (seen v) ≡ true)
-  tied_or_below versions v w among not_above =
-      elim (cases_Bool (is_below (seen w) (seen v))) [
-        | inl below ↦ inr below
-        | inr other ↦ inl (v, among, same w v other not_above)
-      ]
-
-  no_pairs : AllPairs (λ (one : X) (other : X). is_below (seen other) (seen one) ≡ true) []
-  no_pairs i j d less within = absurd (omega (arith, within))
-
-  pub chain_first : (holdings : List (Holding X)) (v : X) → greatest_within seen None holdings ≡ Some v → IsChain holdings (v ∷ []) v
-  chain_first holdings v e =
-      let here = greatest_here None holdings v e in
-      record {
-        order = AllPairs-cons (λ one other. is_below (seen other) (seen one) ≡ true) v [] (All-nil _) no_pairs;
-        held = All-cons (λ w. (holding : Holding X) × Contains holdings holding × (holding.here ≡ Some w)) v [] (here.0, here.1, sym (unbounded here.0.here) ∙ here.2) (All-nil _);
-        bottom = All-cons (λ w. (w ≡ v) ⊎ (is_below (seen v) (seen w) ≡ true)) v [] (inl refl) (All-nil _);
-        rest = λ holding w among is.
-            let not_above = All-contains (λ h. NotAbove (within seen None h.here) v) holdings holding (none_greater None holdings v e) among in
-            tied_or_below (v ∷ []) v w (Contains-push [] v) (subst (λ o. NotAbove o v) (unbounded holding.here ∙ is) not_above);
-      }
 
   further : (v last w : X) → is_below (seen v) (seen last) ≡ true → (w ≡ last) ⊎ (is_below (seen last) (seen w) ≡ true) → is_below (seen v) (seen w) ≡ true
   further v last w below which =
@@ -187,52 +156,6 @@ module _ {K X : Type 0} (seen : X → Version K) where
 
   pub chain_below : (holdings : List (Holding X)) (last v : X) → greatest_within seen (Some last) holdings ≡ Some v → is_below (seen v) (seen last) ≡ true
   chain_below holdings last v e = let here = greatest_here (Some last) holdings v e in (is_within last here.0.here v here.2).1
-
-  -- what is below the last is below the first
-  pub chain_under : (holdings : List (Holding X)) (first : X) (others : List X) (last v : X) → IsChain holdings (first ∷ others) last → greatest_within seen (Some last) holdings ≡ Some v → is_below (seen v) (seen first) ≡ true
-  chain_under holdings first others last v chain e =
-      further v last first (chain_below holdings last v e) (All-head (λ w. (w ≡ last) ⊎ (is_below (seen last) (seen w) ≡ true)) first others chain.bottom)
-
-  pub chain_more : (holdings : List (Holding X)) (versions : List X) (last v : X) → IsChain holdings versions last → greatest_within seen (Some last) holdings ≡ Some v → IsChain holdings (versions ++ v ∷ []) v
-  chain_more holdings versions last v chain e =
-      let here = greatest_here (Some last) holdings v e in
-      let inside = is_within last here.0.here v here.2 in
-      record {
-        order = all_pairs_push (λ one other. is_below (seen other) (seen one) ≡ true) versions v chain.order (λ k d less. further v last (get_or versions k d) inside.1 (chain.bottom k d less));
-        held = All-push (λ w. (holding : Holding X) × Contains holdings holding × (holding.here ≡ Some w)) versions v chain.held (here.0, here.1, inside.0);
-        bottom = All-push (λ w. (w ≡ v) ⊎ (is_below (seen v) (seen w) ≡ true)) versions v (λ k d less. inr (further v last (get_or versions k d) inside.1 (chain.bottom k d less))) (inl refl);
-        rest = λ holding w among is.
-            elim (chain.rest holding w among is) [
-              | inl tied ↦ inl (tied.0, Contains-append_left versions (v ∷ []) tied.0 tied.1, tied.2)
-              | inr below ↦
-                  let not_above = All-contains (λ h. NotAbove (within seen (Some last) h.here) v) holdings holding (none_greater (Some last) holdings v e) among in
-                  tied_or_below (versions ++ v ∷ []) v w (Contains-push versions v) (subst (λ o. NotAbove o v) (within_itself last w holding.here is below) not_above)
-            ];
-      }
-
-  pub chain_end : (holdings : List (Holding X)) (versions : List X) (last : X) → IsChain holdings versions last → greatest_within seen (Some last) holdings ≡ None → AreRanked seen holdings versions
-  chain_end holdings versions last chain e = record {
-    order = chain.order;
-    held = chain.held;
-    whole = λ holding w among is.
-        elim (chain.rest holding w among is) [
-          | inl tied ↦ tied
-          | inr below ↦
-              let none = All-contains (λ h. within seen (Some last) h.here ≡ None) holdings holding (nothing_within (Some last) holdings e) among in
-              let some = within_itself last w holding.here is below in
-              absurd cc
-        ];
-  }
-
-  pub no_chain : (holdings : List (Holding X)) → greatest_within seen None holdings ≡ None → AreRanked seen holdings []
-  no_chain holdings e = record {
-    order = no_pairs;
-    held = All-nil _;
-    whole = λ holding w among is.
-        let none = All-contains (λ h. within seen None h.here ≡ None) holdings holding (nothing_within None holdings e) among in
-        let same_as = unbounded holding.here in
-        absurd cc;
-  }
 
   -- ---- how many are below the last
 

@@ -7,7 +7,7 @@ ghost use Rattle.am_report.specs.ReportLine.{IsKeyOf, behind_line, difference_li
 ghost use Rattle.am_report.specs.Ranked.{ranked};
 ghost use Rattle.am_report.specs.Less.{less_word};
 
-use crate::format::Format;
+use crate::format::LineFormat;
 use crate::group_lines::{append_behind, append_greatest, append_missing};
 use crate::groups::{greatest_of, next_below};
 use crate::merge_cursor::MergeCursor;
@@ -19,7 +19,7 @@ fn append_others<V: ReportLine>(
     out: &mut String,
     sides: &[MergeCursor<'_, V>],
     greatest: &V,
-    format: &Format,
+    format: &LineFormat,
 ) -> Result<(), AllocError>
     requires { greatest_within V.seen None (map holding_of sides.now) ≡ Some greatest.now }
     ensures { OnOk result (string_bytes out.new ≡ string_bytes out.old
@@ -42,7 +42,7 @@ fn append_others<V: ReportLine>(
 pub fn append_difference<V: ReportLine>(
     out: &mut String,
     sides: &[MergeCursor<'_, V>],
-    format: &Format,
+    format: &LineFormat,
 ) -> Result<(), AllocError>
     ensures { OnOk result ((key : V.Key) → IsKeyOf V.seen (map holding_of sides.now) key →
         string_bytes out.new ≡ string_bytes out.old

@@ -4,7 +4,7 @@ use am_version_order::Moment;
 
 /// The format in which the lines of differences tell versions.
 #[derive(Clone, Copy)]
-pub struct Format {
+pub struct LineFormat {
     /// The moment of the states that are shown.
     pub moment: Moment,
     /// True if the sources say when a version may be forgotten, which is then `gone`. API v2 doesn't: whatever has ended is

@@ -6,7 +6,7 @@ ghost use Rattle.am_report.specs.Sources.{holding_of};
 ghost use Rattle.am_report.specs.ReportLine.{behind_line, greatest_line, group_words, missing_line};
 ghost use Rattle.am_report.specs.Less.{less_word};
 
-use crate::format::Format;
+use crate::format::LineFormat;
 use crate::less::less_by;
 use crate::merge_cursor::MergeCursor;
 use crate::names::{append_names, is_held, nothing};
@@ -20,7 +20,7 @@ fn append_group<V: ReportLine>(
     sides: &[MergeCursor<'_, V>],
     relation: &str,
     version: &V,
-    format: &Format,
+    format: &LineFormat,
 ) -> Result<(), AllocError>
     ensures { OnOk result (string_bytes out.new ≡ string_bytes out.old
         ++ group_words V.seen (V.told format.now) relation.now (map holding_of sides.now) version.now) }
@@ -36,7 +36,7 @@ pub fn append_greatest<V: ReportLine>(
     out: &mut String,
     sides: &[MergeCursor<'_, V>],
     greatest: &V,
-    format: &Format,
+    format: &LineFormat,
 ) -> Result<(), AllocError>
     ensures { OnOk result (string_bytes out.new ≡ string_bytes out.old
         ++ greatest_line V.seen V.begins (V.told format.now) (V.more format.now) (V.seen greatest.now).key (map holding_of sides.now) greatest.now) }
@@ -53,7 +53,7 @@ pub fn append_behind<V: ReportLine>(
     sides: &[MergeCursor<'_, V>],
     version: &V,
     greatest: &V,
-    format: &Format,
+    format: &LineFormat,
 ) -> Result<(), AllocError>
     requires { is_below (V.seen version.now) (V.seen greatest.now) ≡ true }
     ensures { OnOk result (string_bytes out.new ≡ string_bytes out.old

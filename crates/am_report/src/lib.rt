@@ -34,7 +34,7 @@ pub use compared::Compared;
 pub use diff_field::DiffField;
 pub use differences::next_difference;
 pub use field_numbers::{add_unknown_numbers, least_numbers};
-pub use format::Format;
+pub use format::LineFormat;
 pub use groups::{greatest_of, is_behind_by, next_below};
 pub use json_lines::{InJson, write_differences_json, write_view_json};
 pub use later::{has_later, has_later_source};

@@ -6,7 +6,7 @@ ghost use Rattle.am_report.specs.Differences.{AreDifferences, Difference};
 ghost use Rattle.am_report.specs.Groups.{AreRanked, IsLessBy, part_between};
 ghost use Rattle.am_report.specs.Sources.{Holding, Source};
 ghost use Rattle.am_report.specs.declared.compared.Compared.{Compared};
-ghost use Rattle.am_report.specs.declared.format.Format.{Format};
+ghost use Rattle.am_report.specs.declared.format.LineFormat.{LineFormat};
 ghost use Rattle.am_report.specs.Texts.{moment_text};
 ghost use Rattle.am_report.specs.Ranked.{ranked};
 ghost use Rattle.am_report.specs.Written.{AreLines};
@@ -21,7 +21,7 @@ pub fn lines_are_one_text<V: ReportLine>()
     ensures list { (sources : List (Source V)) (compared : Compared) (now : ℕ) (differences others : List (Difference V.Key V)) →
         AreDifferences V.seen V.Key.cmp compared now sources differences →
         AreDifferences V.seen V.Key.cmp compared now sources others → differences ≡ others }
-    ensures text { (sources : List (Source V)) (compared : Compared) (format : Format) (found other_found : Bool) (lines others : List ℕ) →
+    ensures text { (sources : List (Source V)) (compared : Compared) (format : LineFormat) (found other_found : Bool) (lines others : List ℕ) →
         AreLines V.seen V.Key.cmp V.begins (V.told format) (V.more format) (less_word V.seen V.unknown_of V.known_of) compared format.moment sources found lines →
         AreLines V.seen V.Key.cmp V.begins (V.told format) (V.more format) (less_word V.seen V.unknown_of V.known_of) compared format.moment sources other_found others →
         (found ≡ other_found) × (lines ≡ others) }

@@ -2,13 +2,13 @@
 
 ghost use Rattle.std.specs.Prelude.{◌≡◌, ℕ, List, ◌++◌, OnOk, string_bytes};
 ghost use Rattle.am_report.specs.Versions.{shown_state};
-ghost use Rattle.am_report.specs.declared.format.Format.{Format};
+ghost use Rattle.am_report.specs.declared.format.LineFormat.{LineFormat};
 
-use crate::format::Format;
+use crate::format::LineFormat;
 use crate::lists::Numbers;
 use crate::long::{append_fields_change, append_long_key, append_long_silence};
 use crate::moments::shown_moment;
-use crate::view_lines::{Key, state_name};
+use crate::view_lines::{LogKeyWords, state_name};
 use crate::with_unknown::WithUnknown;
 use crate::words::Word;
 use am_nflog::{LogKey, MeshEntry};
@@ -23,10 +23,10 @@ pub trait ReportLine: WithUnknown {
     ghost begins: { Self.Key → List ℕ };
 
     /// The words of a version.
-    ghost told: { Format → Self → List ℕ };
+    ghost told: { LineFormat → Self → List ℕ };
 
     /// The text below the line of a version that is compared with the greatest of its key.
-    ghost more: { Format → Self → Self → List ℕ };
+    ghost more: { LineFormat → Self → Self → List ℕ };
 
     /// Appends the words with which each line of a key begins.
     ///
@@ -41,7 +41,7 @@ pub trait ReportLine: WithUnknown {
     /// # Errors
     ///
     /// [`AllocError`] if memory runs out. A part of the words may be left.
-    fn append_told(&self, out: &mut String, format: &Format) -> Result<(), AllocError>
+    fn append_told(&self, out: &mut String, format: &LineFormat) -> Result<(), AllocError>
         ensures { OnOk result (string_bytes out.new ≡ string_bytes out.old ++ told format.now self.now) };
 
     /// Appends the text below the line of a version, with what changed from it to the greatest of its key.
@@ -53,13 +53,13 @@ pub trait ReportLine: WithUnknown {
         &self,
         out: &mut String,
         greatest: &Self,
-        format: &Format,
+        format: &LineFormat,
     ) -> Result<(), AllocError>
         ensures { OnOk result (string_bytes out.new ≡ string_bytes out.old ++ more format.now self.now greatest.now) };
 }
 
 /// Returns the state of a silence, or `gone` if its version isn't live.
-fn shown_state(silence: &MeshSilence, format: &Format) -> &'static str
+fn shown_state(silence: &MeshSilence, format: &LineFormat) -> &'static str
     ensures { result.now ≡ shown_state format.now silence.now }
 {
     if format.has_expiries && format.moment >= silence.expires() {
@@ -83,7 +83,7 @@ impl ReportLine for MeshSilence {
     }
 
     #[tactic(auto, unfolding(crate::specs::Versions::told_silence))]
-    fn append_told(&self, out: &mut String, format: &Format) -> Result<(), AllocError> {
+    fn append_told(&self, out: &mut String, format: &LineFormat) -> Result<(), AllocError> {
         let state = shown_state(self, format);
         let updated = shown_moment(self.updated_at());
         let ends = shown_moment(self.ends_at());
@@ -95,7 +95,7 @@ impl ReportLine for MeshSilence {
         &self,
         out: &mut String,
         greatest: &Self,
-        format: &Format,
+        format: &LineFormat,
     ) -> Result<(), AllocError> {
         if !format.is_long {
             return Ok(());
@@ -114,12 +114,12 @@ impl ReportLine for MeshEntry {
     ghost more = { more_of_entry };
 
     fn append_key(out: &mut String, key: &LogKey) -> Result<(), AllocError> {
-        let key = Key(key);
+        let key = LogKeyWords(key);
         write!(out, "nfl {key}")
     }
 
     #[tactic(auto, unfolding(crate::specs::Versions::told_entry))]
-    fn append_told(&self, out: &mut String, _manner: &Format) -> Result<(), AllocError> {
+    fn append_told(&self, out: &mut String, _manner: &LineFormat) -> Result<(), AllocError> {
         let updated = shown_moment(self.timestamp());
         let expires = shown_moment(self.expires_at());
         let (updated, expires) = (updated.as_str(), expires.as_str());
@@ -132,7 +132,7 @@ impl ReportLine for MeshEntry {
         &self,
         out: &mut String,
         greatest: &Self,
-        format: &Format,
+        format: &LineFormat,
     ) -> Result<(), AllocError> {
         if !format.is_long {
             return Ok(());

@@ -32,9 +32,9 @@ impl Display for Owner<'_> {
 
 /// The key of an entry, displayed as words: the group key, the group name, the integration and the index.
 #[derive(Clone, Copy)]
-pub struct Key<'a>(pub &'a LogKey);
+pub struct LogKeyWords<'a>(pub &'a LogKey);
 
-impl Display for Key<'_> {
+impl Display for LogKeyWords<'_> {
     ghost use Rattle.std.specs.Prelude.{Some};
     ghost use Rattle.am_report.specs.Views.{key_words};
 
@@ -101,7 +101,7 @@ pub fn append_entry(
 ) -> Result<(), AllocError>
     ensures { OnOk result (string_bytes out.new ≡ string_bytes out.old ++ entry_line (option_copied owner.entry.0) version.now) }
 {
-    let key = Key(version.key());
+    let key = LogKeyWords(version.key());
     let firing = Numbers(version.firing_alerts());
     let resolved = Numbers(version.resolved_alerts());
     writeln!(out, "{owner}nfl {key} {firing} {resolved}")

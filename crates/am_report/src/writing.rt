@@ -10,7 +10,7 @@ ghost use Rattle.am_report.specs.Less.{less_word};
 use crate::compared::Compared;
 use crate::difference::append_difference;
 use crate::differences::next_difference;
-use crate::format::Format;
+use crate::format::LineFormat;
 use crate::merge_cursor::MergeCursor;
 use crate::replica::{Replica, sides_of};
 use crate::report_line::ReportLine;
@@ -24,7 +24,7 @@ fn append_left<V: ReportLine>(
     out: &mut String,
     sides: &mut [MergeCursor<'_, V>],
     compared: Compared,
-    format: &Format,
+    format: &LineFormat,
 ) -> Result<bool, AllocError>
     requires order { All (λ cursor. IsMap V.seen V.Key.cmp cursor.left) sides.old }
     ensures { IfOk result (λ found. (lines : List ℕ) ×
@@ -51,7 +51,7 @@ pub fn append_differences<V: ReportLine>(
     out: &mut String,
     replicas: &[Replica<'_, V>],
     compared: Compared,
-    format: &Format,
+    format: &LineFormat,
 ) -> Result<bool, AllocError>
     ensures { IfOk result (λ found. (lines : List ℕ) ×
         AreLines V.seen V.Key.cmp V.begins (V.told format.now) (V.more format.now) (less_word V.seen V.unknown_of V.known_of) compared format.now.moment replicas.now found lines ×
@@ -72,7 +72,7 @@ pub fn write_differences<V: ReportLine, W: Write>(
     alloc: Global,
     replicas: &[Replica<'_, V>],
     compared: Compared,
-    format: &Format,
+    format: &LineFormat,
     writer: &mut W,
 ) -> Result<bool, SnapshotError>
     ensures lines { IfOk result (λ found. (lines : List ℕ) ×

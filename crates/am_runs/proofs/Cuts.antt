@@ -1,7 +1,6 @@
 -- What holds of each element of a list, with those before it.
-use Rattle.std.proofs.Common.{◌≡◌, ℕ, ◌<◌, ◌+◌, List, [], ◌∷◌, ◌++◌, suc, ◌≤◌, drop-cons, length-take-le, refl, sym, ap, ◌∙◌, subst, arith, map, take, drop, get_or, length, append_assoc, append-nil, slice_get, option_map, Some}
+use Rattle.std.proofs.Common.{◌≡◌, ℕ, ◌<◌, ◌+◌, List, [], ◌∷◌, ◌++◌, suc, ◌≤◌, drop-cons, length-take-le, refl, sym, ap, ◌∙◌, subst, arith, map, take, drop, get_or, length, append_assoc, append-nil}
 use Rattle.std.proofs.lemmas.List.{length-map, take_more, take_all, take-append-drop, map-append}
-use Rattle.std.proofs.lemmas.Option.{slice_get-map, slice_get_read}
 use Rattle.am_runs.specs.Steps.{EachStep, IsFirstWithout}
 
 module _ {A : Type 0} where
@@ -119,8 +118,3 @@ first_same P Q xs n same first =
       holds = both.0 first.holds;
       fails = λ q. first.fails (both.1 q);
     }
-
--- the image of an element that is read
-pub image_at : {A B : Type 0} (f : A → B) (xs : List A) (n : ℕ) (x : A) → n < length xs → x ≡ get_or xs n x
-    → slice_get (map f xs) n ≡ Some (f x)
-image_at f xs n x within is = slice_get-map f xs n ∙ ap (option_map f) (slice_get_read xs (length xs) n x refl within is)

@@ -12,8 +12,8 @@ use Rattle.am_merge.proofs.Keys.{IsKeyOrder}
 use Rattle.am_collect.specs.Events.{Events, taken, collections, last_moment}
 use Rattle.am_collect.specs.Events.MapEvent.{Delivered, Collected, Passed}
 use Rattle.am_collect.specs.Calm.{IsCalm, IsInTime}
-use Rattle.am_runs.specs.declared.step.Source.{Source}
-use Rattle.am_runs.specs.declared.step.Source.TheVariants.{Made, Written, Arrived, Lent}
+use Rattle.am_runs.specs.declared.step.DeliverySource.{DeliverySource}
+use Rattle.am_runs.specs.declared.step.DeliverySource.TheVariants.{Made, Written, Arrived, Lent}
 use Rattle.am_runs.specs.Steps.{RunStep, EachStep, SentFrame, moment, clock_after, clock_from, delivered_by, delivered_in, flights_by, flights_of, is_at, is_back_at}
 use Rattle.am_runs.specs.Steps.RunStep.{Took, Ticked, Back, Refused, Saved, Stopped, Started}
 use Rattle.am_runs.specs.Members.{Member, passes, stepped, member_after, member_of, set_of, last_of, map_of}
@@ -156,7 +156,7 @@ module _ {K X : Type 0} (seen : X → Version K) (cmp : K → K → Ordering) (k
     arrived number vs None e from swift v has = absurd from
     arrived number vs (Some f) e from swift v has = safe_arrived f v (got_there (flights_of before) number f e) (All-contains (Contains f.versions) vs v from has) swift
 
-    safe_from : (source : Source) (vs : List X) → AreFrom seen cmp members before now source vs → IsSwiftFrom flight (flights_of before) now source → (v : X) → Contains vs v → IsSafe now v
+    safe_from : (source : DeliverySource) (vs : List X) → AreFrom seen cmp members before now source vs → IsSwiftFrom flight (flights_of before) now source → (v : X) → Contains vs v → IsSafe now v
     safe_from Made vs from swift v has = safe_made v (All-contains (λ w. (seen w).updated ≡ now) vs v from has)
     safe_from (Written sent) vs from swift v has = safe_written sent v (All-contains (λ w. sent ≤ (seen w).updated) vs v from has) swift
     safe_from (Arrived number) vs from swift v has = arrived number vs (slice_get (flights_of before) number) refl from swift v has
@@ -210,7 +210,7 @@ module _ {K X : Type 0} (seen : X → Version K) (cmp : K → K → Ordering) (k
       (member_next m clock s (good.each_member q) b.onward b.known (safe_step before s good b))
 
   -- what a member that acts has done is calm
-  took_calm : (before : List (RunStep X)) (place now : ℕ) (source : Source) (versions : List X) (frames : List (List X)) → IsGood before → HasBegun before (Took place now source versions frames) → IsCalm seen [] 0 ((member_of members place before).past ++ passes now versions)
+  took_calm : (before : List (RunStep X)) (place now : ℕ) (source : DeliverySource) (versions : List X) (frames : List (List X)) → IsGood before → HasBegun before (Took place now source versions frames) → IsCalm seen [] 0 ((member_of members place before).past ++ passes now versions)
   took_calm before place now source versions frames good b = (member_next (member_of members place before) (clock_from 0 before) (Took place now source versions frames) (good.each_member place) b.onward b.known (safe_step before (Took place now source versions frames) good b)).fit.past
 
   flight_new : (before : List (RunStep X)) (s : RunStep X) → IsGood before → HasBegun before s → (f : SentFrame X) → Contains (flights_by s) f → IsGoodFlight (clock_after (clock_from 0 before) (moment s)) f

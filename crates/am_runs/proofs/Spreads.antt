@@ -11,7 +11,7 @@ use Rattle.std.proofs.lemmas.List.Elements.{All-contains, Contains-append_left, 
 use Rattle.am_version_order.specs.Versions.{Version, is_below}
 use Rattle.am_merge.proofs.Keys.{IsKeyOrder, eq_itself, same_key}
 use Rattle.am_collect.specs.Events.{taken}
-use Rattle.am_runs.specs.declared.step.Source.TheVariants.{Made, Written, Arrived, Lent}
+use Rattle.am_runs.specs.declared.step.DeliverySource.TheVariants.{Made, Written, Arrived, Lent}
 use Rattle.am_runs.specs.Steps.{RunStep, EachStep, SentFrame, moment, clock_after, clock_from, delivered_in, flights_by, flights_of, is_at}
 use Rattle.am_runs.specs.Steps.RunStep.{Took, Ticked, Back, Refused, Saved, Stopped, Started}
 use Rattle.am_runs.specs.Members.{Member, stepped, member_after, member_from, member_of, set_of}

@@ -7,8 +7,8 @@ use Rattle.std.proofs.lemmas.List.{take_more}
 use Rattle.am_version_order.specs.Versions.{Version}
 use Rattle.am_merge.specs.Maps.{IsJoin, at, greater_of}
 use Rattle.am_runs.specs.declared.member_index.MemberIndex.{MemberIndex}
-use Rattle.am_runs.specs.declared.step.Source.{Source}
-use Rattle.am_runs.specs.Standings.{IsJudged}
+use Rattle.am_runs.specs.declared.step.DeliverySource.{DeliverySource}
+use Rattle.am_runs.specs.MemberIndexes.{IsJudged}
 use Rattle.am_runs.specs.Steps.{EachStep}
 use Rattle.am_runs.specs.Steps.RunStep.{Took}
 use Rattle.am_runs.specs.Tests.{top_among, in_time}
@@ -44,16 +44,16 @@ module _ {K X : Type 0} (seen : X → Version K) (cmp : K → K → Ordering) wh
       )
 
   -- an event of a member
-  pub judged_took : (standing : MemberIndex X K) (taken : List X) (place now : ℕ) (source : Source) (versions : List X) (frames : List (List X)) (lent : List X) → lent ≡ versions → {E : Type 0} → (result : Result Bool E)
-      → IfOk result (λ calm. IsTrue calm ↔ EachStep lent (λ done v. in_time seen (top_among seen cmp (seen v).key (at seen cmp standing.taken (seen v).key) done) standing.lasts.last now v ≡ true))
-      → OnOk result ((key : K) → at seen cmp taken key ≡ top_among seen cmp key (at seen cmp standing.taken key) lent)
-      → IfOk result (IsJudged seen cmp standing (record { runs = standing.runs; acted = standing.acted; lasts = standing.lasts; fault = standing.fault; taken = taken; saved = standing.saved }) (Took place now source versions frames))
-  judged_took standing taken place now source versions frames lent same (Ok calm) told tops = record {
-    calm = subst (λ vs. IsTrue calm ↔ EachStep vs (λ done v. in_time seen (top_among seen cmp (seen v).key (at seen cmp standing.taken (seen v).key) done) standing.lasts.last now v ≡ true)) same told;
-    tops = λ key. ap (λ (top : Option X). record { top = top; saved = at seen cmp standing.saved key }) (tops key ∙ ap (top_among seen cmp key (at seen cmp standing.taken key)) same);
+  pub judged_took : (index : MemberIndex X K) (taken : List X) (place now : ℕ) (source : DeliverySource) (versions : List X) (frames : List (List X)) (lent : List X) → lent ≡ versions → {E : Type 0} → (result : Result Bool E)
+      → IfOk result (λ calm. IsTrue calm ↔ EachStep lent (λ done v. in_time seen (top_among seen cmp (seen v).key (at seen cmp index.taken (seen v).key) done) index.lasts.last now v ≡ true))
+      → OnOk result ((key : K) → at seen cmp taken key ≡ top_among seen cmp key (at seen cmp index.taken key) lent)
+      → IfOk result (IsJudged seen cmp index (record { runs = index.runs; acted = index.acted; lasts = index.lasts; fault = index.fault; taken = taken; saved = index.saved }) (Took place now source versions frames))
+  judged_took index taken place now source versions frames lent same (Ok calm) told tops = record {
+    calm = subst (λ vs. IsTrue calm ↔ EachStep vs (λ done v. in_time seen (top_among seen cmp (seen v).key (at seen cmp index.taken (seen v).key) done) index.lasts.last now v ≡ true)) same told;
+    tops = λ key. ap (λ (top : Option X). record { top = top; saved = at seen cmp index.saved key }) (tops key ∙ ap (top_among seen cmp key (at seen cmp index.taken key)) same);
     runs = refl;
     acted = refl;
     lasts = refl;
     fault = refl;
   }
-  judged_took standing taken place now source versions frames lent same (Err e) told tops = tt
+  judged_took index taken place now source versions frames lent same (Err e) told tops = tt

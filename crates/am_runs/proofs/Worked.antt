@@ -11,7 +11,7 @@ use Rattle.am_version_order.proofs.Ranks.{below_itself}
 use Rattle.am_merge.specs.Maps.{if_live}
 use Rattle.am_merge.proofs.Keys.{IsKeyOrder, key_order}
 use Rattle.am_collect.specs.Events.MapEvent.{Delivered, Collected, Passed}
-use Rattle.am_runs.specs.declared.step.Source.TheVariants.{Made, Written, Arrived}
+use Rattle.am_runs.specs.declared.step.DeliverySource.TheVariants.{Made, Written, Arrived}
 use Rattle.am_runs.specs.Steps.{RunStep}
 use Rattle.am_runs.specs.Steps.RunStep.{Took, Ticked, Stopped, Started}
 use Rattle.am_runs.specs.Members.{member_of, map_of, passes}

@@ -1,7 +1,7 @@
 -- Worked runs, which show the meaning of the definitions. There is one key, and moments are whole numbers.
 use Rattle.std.specs.Prelude.{ℕ, List, [], ◌∷◌}
 use Rattle.am_version_order.specs.Versions.{Version}
-use Rattle.am_runs.specs.declared.step.Source.TheVariants.{Made, Written, Arrived}
+use Rattle.am_runs.specs.declared.step.DeliverySource.TheVariants.{Made, Written, Arrived}
 use Rattle.am_runs.specs.Steps.{RunStep}
 use Rattle.am_runs.specs.Steps.RunStep.{Took, Ticked, Stopped, Started}
 

@@ -6,5 +6,5 @@ pub mod Timely
 pub mod Tests
 pub mod Examples
 pub mod Settles
-pub mod Standings
+pub mod MemberIndexes
 pub mod Accounts

@@ -8,8 +8,8 @@ use Rattle.am_merge.specs.Maps.{is_above}
 use Rattle.am_collect.specs.Events.{after}
 use Rattle.am_collect.specs.Events.MapEvent.{Delivered}
 use Rattle.am_collect.specs.Calm.{IsCalm}
-use Rattle.am_runs.specs.declared.step.Source.{Source}
-use Rattle.am_runs.specs.declared.step.Source.TheVariants.{Made, Written, Arrived, Lent}
+use Rattle.am_runs.specs.declared.step.DeliverySource.{DeliverySource}
+use Rattle.am_runs.specs.declared.step.DeliverySource.TheVariants.{Made, Written, Arrived, Lent}
 use Rattle.am_runs.specs.Steps.{RunStep, EachStep, IsFirstWithout, flights_of, is_back_at}
 use Rattle.am_runs.specs.Steps.RunStep.{Took, Ticked, Back, Refused, Saved, Stopped, Started}
 use Rattle.am_runs.specs.Members.{passes, member_of, last_of, map_of}
@@ -24,7 +24,7 @@ module _ {K X : Type 0} (seen : X → Version K) (cmp : K → K → Ordering) wh
 
   -- the versions come from their source: they were made now; or they were written in a frame that counts as sent no later than
   -- any of them was made; or they stand in the frame with that number; or a running member lent them from its map
-  abbrev pub AreFrom : ℕ → List (RunStep X) → ℕ → Source → List X → Type 0
+  abbrev pub AreFrom : ℕ → List (RunStep X) → ℕ → DeliverySource → List X → Type 0
   AreFrom members before now Made versions = All (λ v. (seen v).updated ≡ now) versions
   AreFrom members before now (Written sent) versions = All (λ v. sent ≤ (seen v).updated) versions
   AreFrom members before now (Arrived number) versions =
@@ -46,7 +46,7 @@ module _ {K X : Type 0} (seen : X → Version K) (cmp : K → K → Ordering) wh
     pub forward : last_of (member_of members place before) ≤ now
 
   -- an event can have delivered these versions and sent these frames
-  pub record CanTake (members : ℕ) (before : List (RunStep X)) (place now : ℕ) (source : Source) (versions : List X)
+  pub record CanTake (members : ℕ) (before : List (RunStep X)) (place now : ℕ) (source : DeliverySource) (versions : List X)
       (frames : List (List X)) : Type 0 where
     pub acts : CanAct members before place now
     pub from : AreFrom members before now source versions

@@ -2,12 +2,12 @@
 -- X is the type of versions.
 use Rattle.std.specs.Prelude.{◌≡◌, ℕ, List, [], ◌∷◌, ◌++◌, Bool, false, ◌==◌, Option, Some, None, map, length}
 use Rattle.std.specs.List.{flat_map}
-use Rattle.am_runs.specs.declared.step.Source.{Source}
+use Rattle.am_runs.specs.declared.step.DeliverySource.{DeliverySource}
 
 -- Members are numbered from 0. A frame that is sent and lost is one that no later step delivers.
 pub data RunStep (X : Type 0) : Type 0 where
   -- an event of a member: the versions that it delivered, in order, and the versions in each frame that it sent
-  Took : (place now : ℕ) (source : Source) (versions : List X) (frames : List (List X)) → RunStep X
+  Took : (place now : ℕ) (source : DeliverySource) (versions : List X) (frames : List (List X)) → RunStep X
   -- a member collected
   Ticked : (place now : ℕ) → RunStep X
   -- a step was refused to a member, because its moment is before that member's last one

@@ -7,8 +7,8 @@ use Rattle.std.specs.declared.cmp.Ordering.{Ordering}
 use Rattle.std.specs.Ordering.{eq_by_cmp}
 use Rattle.am_version_order.specs.Versions.{Version, is_below, is_live}
 use Rattle.am_merge.specs.Maps.{greater_of, at}
-use Rattle.am_runs.specs.declared.step.Source.{Source}
-use Rattle.am_runs.specs.declared.step.Source.TheVariants.{Made, Written, Arrived, Lent}
+use Rattle.am_runs.specs.declared.step.DeliverySource.{DeliverySource}
+use Rattle.am_runs.specs.declared.step.DeliverySource.TheVariants.{Made, Written, Arrived, Lent}
 use Rattle.am_runs.specs.Steps.{RunStep, EachStep, clock_after, is_at, flights_by, moment}
 use Rattle.am_runs.specs.Steps.RunStep.{Took, Ticked, Back, Refused, Saved, Stopped, Started}
 
@@ -169,7 +169,7 @@ flies_short flight now None = true
 flies_short flight now (Some sent) = nat_le now (sent + flight)
 
 -- the moment when the versions of a source were sent, if they were
-abbrev pub sent_at : {X : Type 0} → List (RunStep X) → Source → Option ℕ
+abbrev pub sent_at : {X : Type 0} → List (RunStep X) → DeliverySource → Option ℕ
 sent_at steps Made = None
 sent_at steps (Written sent) = Some sent
 sent_at steps (Arrived number) = sent_in number steps

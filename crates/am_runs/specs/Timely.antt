@@ -3,8 +3,8 @@
 -- X is the type of versions, and `seen` is what the merge sees of one.
 use Rattle.std.specs.Prelude.{◌≡◌, ℕ, ◌+◌, ◌≤◌, List, true, false, IfSome, slice_get, All, Contains}
 use Rattle.am_version_order.specs.Versions.{Version, is_below}
-use Rattle.am_runs.specs.declared.step.Source.{Source}
-use Rattle.am_runs.specs.declared.step.Source.TheVariants.{Made, Written, Arrived, Lent}
+use Rattle.am_runs.specs.declared.step.DeliverySource.{DeliverySource}
+use Rattle.am_runs.specs.declared.step.DeliverySource.TheVariants.{Made, Written, Arrived, Lent}
 use Rattle.am_runs.specs.Steps.{RunStep, SentFrame, EachStep, moment, clock_from, delivered_in, flights_of}
 use Rattle.am_runs.specs.Steps.RunStep.{Took, Ticked, Back, Refused, Saved, Stopped, Started}
 use Rattle.am_runs.specs.Members.{member_of, set_of}
@@ -15,7 +15,7 @@ module _ {X : Type 0} where
   IsOnward before step = IfSome (moment step) (λ now. clock_from 0 before ≤ now)
 
   -- versions in a frame came in time; versions made now, or lent in a settle, take no time
-  abbrev pub IsSwiftFrom : ℕ → List (SentFrame X) → ℕ → Source → Type 0
+  abbrev pub IsSwiftFrom : ℕ → List (SentFrame X) → ℕ → DeliverySource → Type 0
   IsSwiftFrom flight flights now Made = Unit {0}
   IsSwiftFrom flight flights now (Written sent) = now ≤ sent + flight
   IsSwiftFrom flight flights now (Arrived number) = IfSome (slice_get flights number) (λ f. now ≤ f.sent + flight)

@@ -13,4 +13,4 @@ mod step;
 mod timely;
 
 pub use run::Run;
-pub use step::{RunStep, Source};
+pub use step::{DeliverySource, RunStep};

@@ -1,11 +1,11 @@
-//! A member's standing: the versions that it took, its last collection, and the first step after which it isn't calm.
+//! What a run remembers of a member: the versions that it took, its last collection, and the first step after which it isn't calm.
 
 ghost use Rattle.std.specs.Prelude.{◌≡◌, ℕ, ◌++◌, ◌∷◌, [], ◌↔◌, IsTrue, true, map, IfOk, OnOk};
 ghost use Rattle.am_merge.specs.Maps.{at};
 ghost use Rattle.am_runs.specs.Records.{step_of, lasts_seen};
 ghost use Rattle.am_runs.specs.Steps.{EachStep, is_at};
 ghost use Rattle.am_runs.specs.Tests.{last_after, lasts_after, runs_after, top_among, in_time};
-ghost use Rattle.am_runs.specs.Standings.{AreStandings, IsStanding, IsJudged, fault_after};
+ghost use Rattle.am_runs.specs.MemberIndexes.{AreMemberIndexes, IsMemberIndex, IsJudged, fault_after};
 
 use crate::calm::{LastCollection, in_time, lasts_after};
 use crate::running::{last_after, runs_after};
@@ -14,7 +14,7 @@ use am_merge::Held;
 use am_version_order::{Moment, Version};
 use std::alloc::{AllocError, Global};
 
-/// The standing of a member.
+/// What a run remembers of a member.
 #[derive(Drop)]
 pub struct MemberIndex<V: Version> {
     pub runs: bool,
@@ -29,36 +29,36 @@ pub struct MemberIndex<V: Version> {
     pub saved: Held<V>,
 }
 
-/// Creates the standings of members before the first step.
+/// Creates the indexes of members before the first step.
 ///
 /// # Errors
 ///
-/// Returns [`AllocError`] if memory runs out. The standings created so far are kept.
+/// Returns [`AllocError`] if memory runs out. The indexes created so far are kept.
 pub fn fill_first<V: Version>(
     alloc: Global,
-    standings: &mut Vec<MemberIndex<V>>,
+    indexes: &mut Vec<MemberIndex<V>>,
     members: usize,
     steps: &[RunStep<V>],
 ) -> Result<(), AllocError>
-    ensures { AreStandings V.seen V.Key.cmp standings.old.items (map step_of steps.now)
-        → AreStandings V.seen V.Key.cmp standings.new.items (map step_of steps.now) }
+    ensures { AreMemberIndexes V.seen V.Key.cmp indexes.old.items (map step_of steps.now)
+        → AreMemberIndexes V.seen V.Key.cmp indexes.new.items (map step_of steps.now) }
 {
     if !steps.is_empty() {
         return Ok(());
     }
-    fill(alloc, standings, members)
+    fill(alloc, indexes, members)
 }
 
-/// Creates the missing standings of `members` members, of which nothing is known yet.
+/// Creates the missing indexes of `members` members, of which nothing is known yet.
 fn fill<V: Version>(
     alloc: Global,
-    standings: &mut Vec<MemberIndex<V>>,
+    indexes: &mut Vec<MemberIndex<V>>,
     members: usize,
 ) -> Result<(), AllocError>
-    ensures { AreStandings V.seen V.Key.cmp standings.old.items [] → AreStandings V.seen V.Key.cmp standings.new.items [] }
+    ensures { AreMemberIndexes V.seen V.Key.cmp indexes.old.items [] → AreMemberIndexes V.seen V.Key.cmp indexes.new.items [] }
 {
-    for _member in standings.len()..members {
-        standings.push(MemberIndex {
+    for _member in indexes.len()..members {
+        indexes.push(MemberIndex {
             runs: true,
             acted: Moment::LEAST,
             lasts: LastCollection {
@@ -97,20 +97,20 @@ fn take_all<V: Version>(
 }
 
 /// Updates a member's taken and saved versions by a step of its own, and returns whether it stays calm.
-fn judge<V: Version>(standing: &mut MemberIndex<V>, step: &RunStep<V>) -> Result<bool, AllocError>
-    ensures { IfOk result (IsJudged V.seen V.Key.cmp standing.old standing.new (step_of step.now)) }
+fn judge<V: Version>(index: &mut MemberIndex<V>, step: &RunStep<V>) -> Result<bool, AllocError>
+    ensures { IfOk result (IsJudged V.seen V.Key.cmp index.old index.new (step_of step.now)) }
 {
     match step {
         RunStep::Took { now, versions, .. } => {
-            take_all(&mut standing.taken, standing.lasts.last, *now, versions)
+            take_all(&mut index.taken, index.lasts.last, *now, versions)
         }
         RunStep::Back { .. } => Ok(false),
         RunStep::Saved { .. } => {
-            standing.saved = standing.taken.try_clone()?;
+            index.saved = index.taken.try_clone()?;
             Ok(true)
         }
         RunStep::Started { .. } => {
-            standing.taken = standing.saved.try_clone()?;
+            index.taken = index.saved.try_clone()?;
             Ok(true)
         }
         _ => Ok(true),
@@ -128,36 +128,32 @@ fn fault_after(fault: Option<usize>, stays: bool, number: usize) -> Option<usize
 
 /// Notes the step with this number, which is one of the member.
 fn update_indexes<V: Version>(
-    standing: &mut MemberIndex<V>,
+    index: &mut MemberIndex<V>,
     member: usize,
     before: &[RunStep<V>],
     step: &RunStep<V>,
 ) -> Result<(), AllocError>
     requires at { is_at member (step_of step.now) ≡ true }
-    ensures { OnOk result (IsStanding V.seen V.Key.cmp member standing.old (map step_of before.now)
-        → IsStanding V.seen V.Key.cmp member standing.new (map step_of before.now ++ step_of step.now ∷ [])) }
+    ensures { OnOk result (IsMemberIndex V.seen V.Key.cmp member index.old (map step_of before.now)
+        → IsMemberIndex V.seen V.Key.cmp member index.new (map step_of before.now ++ step_of step.now ∷ [])) }
 {
-    let stays = judge(standing, step)?;
-    standing.runs = runs_after(member, standing.runs, step);
-    standing.acted = last_after(member, standing.acted, step);
-    standing.lasts = lasts_after(member, standing.lasts, step);
-    standing.fault = fault_after(standing.fault, stays, before.len());
+    let stays = judge(index, step)?;
+    index.runs = runs_after(member, index.runs, step);
+    index.acted = last_after(member, index.acted, step);
+    index.lasts = lasts_after(member, index.lasts, step);
+    index.fault = fault_after(index.fault, stays, before.len());
     Ok(())
 }
 
-/// Notes a step after those before it. If memory runs out, all standings are dropped.
-pub fn note<V: Version>(
-    standings: &mut Vec<MemberIndex<V>>,
-    before: &[RunStep<V>],
-    step: &RunStep<V>,
-)
-    ensures { AreStandings V.seen V.Key.cmp standings.old.items (map step_of before.now)
-        → AreStandings V.seen V.Key.cmp standings.new.items (map step_of before.now ++ step_of step.now ∷ []) }
+/// Notes a step after those before it. If memory runs out, all indexes are dropped.
+pub fn note<V: Version>(indexes: &mut Vec<MemberIndex<V>>, before: &[RunStep<V>], step: &RunStep<V>)
+    ensures { AreMemberIndexes V.seen V.Key.cmp indexes.old.items (map step_of before.now)
+        → AreMemberIndexes V.seen V.Key.cmp indexes.new.items (map step_of before.now ++ step_of step.now ∷ []) }
 {
     if let Some(member) = step.place() {
-        if member < standings.len() {
-            if update_indexes(&mut standings[member], member, before, step).is_err() {
-                standings.clear();
+        if member < indexes.len() {
+            if update_indexes(&mut indexes[member], member, before, step).is_err() {
+                indexes.clear();
             }
         }
     }

@@ -25,7 +25,7 @@ pub struct Run<V: Version> {
     members: usize,
     steps: Vec<RunStep<V>>,
     // Empty if memory ran out in noting a step; the plain loops answer then.
-    standings: Vec<MemberIndex<V>>,
+    indexes: Vec<MemberIndex<V>>,
     alloc: Global,
 }
 
@@ -35,7 +35,7 @@ impl<V: Version> Drop for Run<V> {
         let Run {
             members: _,
             steps: _,
-            standings: _,
+            indexes: _,
             alloc: _,
         } = self;
     }
@@ -55,7 +55,7 @@ impl<V: Version> Model for Run<V> {
     } };
 
     ghost invariant = { λ run. IsAccount V.seen V.Key.cmp V.is_value run.members
-        (map step_of run.steps.items) run.standings.items };
+        (map step_of run.steps.items) run.indexes.items };
 }
 
 impl<V: Version> Run<V> {
@@ -67,7 +67,7 @@ impl<V: Version> Run<V> {
         Run {
             members,
             steps: Vec::new(alloc),
-            standings: Vec::new(alloc),
+            indexes: Vec::new(alloc),
             alloc,
         }
     }
@@ -105,7 +105,7 @@ impl<V: Version> Run<V> {
         ensures room { OnOk result (steps ≤ self.new.room) }
         ensures kept_room { self.old.room ≤ self.new.room }
     {
-        fill_first(self.alloc, &mut self.standings, self.members, &self.steps)?;
+        fill_first(self.alloc, &mut self.indexes, self.members, &self.steps)?;
         self.steps.reserve(steps)
     }
 
@@ -119,7 +119,7 @@ impl<V: Version> Run<V> {
     {
         one_step_more::<V>();
         versions_are_values(step.versions());
-        note(&mut self.standings, &self.steps, &step);
+        note(&mut self.indexes, &self.steps, &step);
         self.steps.push_reserved(step);
     }
 
@@ -127,8 +127,8 @@ impl<V: Version> Run<V> {
     pub fn runs(&self, place: usize) -> bool
         ensures { result ≡ (member_of self.now.members place self.now.steps).runs }
     {
-        match self.standings.get(place) {
-            Some(standing) if place < self.members => standing.runs,
+        match self.indexes.get(place) {
+            Some(index) if place < self.members => index.runs,
             _ => runs_from(place, place < self.members, &self.steps),
         }
     }
@@ -137,8 +137,8 @@ impl<V: Version> Run<V> {
     pub fn last(&self, place: usize) -> Moment
         ensures { result ≡ last_of (member_of self.now.members place self.now.steps) }
     {
-        match self.standings.get(place) {
-            Some(standing) => standing.acted,
+        match self.indexes.get(place) {
+            Some(index) => index.acted,
             None => last_from(place, &self.steps),
         }
     }
@@ -149,8 +149,8 @@ impl<V: Version> Run<V> {
         ensures { MatchOption result (IsCalmAt V.seen self.now.members place self.now.steps)
             (IsFirstFault V.seen self.now.members place self.now.steps) }
     {
-        match self.standings.get(place) {
-            Some(standing) => standing.fault,
+        match self.indexes.get(place) {
+            Some(index) => index.fault,
             None => first_fault(place, &self.steps),
         }
     }

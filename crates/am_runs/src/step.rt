@@ -8,7 +8,7 @@ use am_version_order::Moment;
 
 /// The source of the versions that a step delivers.
 #[derive(Clone, Copy, PartialEq, Eq)]
-pub enum Source {
+pub enum DeliverySource {
     /// The step made them.
     Made,
     /// They were written into a frame that counts as sent at this moment, the least update moment of all its versions, including
@@ -27,7 +27,7 @@ pub enum RunStep<V> {
     Took {
         place: usize,
         now: Moment,
-        source: Source,
+        source: DeliverySource,
         versions: Vec<V>,
         frames: Vec<Vec<V>>,
     },

@@ -11,7 +11,7 @@ ghost use Rattle.am_runs.specs.Timely.{IsTimely};
 
 use crate::calm::{has_key, is_below};
 use crate::spans::{both_end_by, ends_by, is_within};
-use crate::step::{RunStep, Source};
+use crate::step::{DeliverySource, RunStep};
 use am_version_order::{Interval, Moment, Version};
 
 fn is_monotone(clock: Moment, now: Option<Moment>) -> bool
@@ -85,13 +85,13 @@ fn sent_in<V>(number: usize, steps: &[RunStep<V>]) -> Option<Moment>
 }
 
 /// Returns the moment when the versions of a source were sent, if they were.
-fn sent_at<V>(steps: &[RunStep<V>], source: Source) -> Option<Moment>
+fn sent_at<V>(steps: &[RunStep<V>], source: DeliverySource) -> Option<Moment>
     ensures { result ≡ sent_at (map step_of steps.now) source }
 {
     match source {
-        Source::Written(sent) => Some(sent),
-        Source::Arrived(number) => sent_in(number, steps),
-        Source::Made | Source::Lent(_) => None,
+        DeliverySource::Written(sent) => Some(sent),
+        DeliverySource::Arrived(number) => sent_in(number, steps),
+        DeliverySource::Made | DeliverySource::Lent(_) => None,
     }
 }
 

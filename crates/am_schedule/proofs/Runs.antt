@@ -1,5 +1,5 @@
 -- What is left of a text behind some lines.
-use Rattle.std.proofs.Common.{◌≡◌, ℕ, ◌+◌, true, List, [], ◌∷◌, ◌++◌, length, Option, Some, None, Result, Ok, Err, refl, sym, ap, ◌<◌, ◌≤◌, arith, ◌∙◌, append_assoc, length-append}
+use Rattle.std.proofs.Common.{◌≡◌, ℕ, ◌+◌, List, [], ◌∷◌, ◌++◌, length, Option, Some, None, Result, Ok, Err, refl, sym, ap, ◌<◌, ◌≤◌, arith, ◌∙◌, append_assoc, length-append}
 use Rattle.std.proofs.lemmas.List.{append-nil}
 use Rattle.am_schedule.specs.declared.error.FaultKind.{FaultKind}
 use Rattle.am_schedule.specs.declared.error.ScheduleError.{ScheduleError}
@@ -7,7 +7,7 @@ use Rattle.am_schedule.specs.declared.step.Line.{Line}
 use Rattle.am_schedule.specs.declared.schedule.Schedule.{Schedule}
 use Rattle.am_schedule.specs.declared.reader.Reader.{Reader}
 use Rattle.am_schedule.specs.Readers.{Stands}
-use Rattle.am_schedule.specs.Schedules.{meaning, meanings, first_fault, AreSound, IsReached, is_formed, IsFormedAt, numbered, whole, cluster_of, schedule_by, schedule_in, schedule_of, lines_of}
+use Rattle.am_schedule.specs.Schedules.{meaning, meanings, first_fault, AreSound, numbered, whole, cluster_of, schedule_by, schedule_in, schedule_of, lines_of}
 
 -- the schedule of lines behind others
 abbrev pub left_of : List (List ℕ) → List (Line × ℕ) → List (List ℕ) → Result Schedule ScheduleError
@@ -85,29 +85,6 @@ behind_line text rest line behind number old new x reading is shorter says stand
   parts = reading.parts ∙ rw (is, append_assoc) refl;
   sound = sound_more 1 [] reading.before line x says reading.sound;
   room = omega (arith, reading.room);
-}
-
--- the next line is reached
-pub line_reached : (text rest line behind : List ℕ) (number : ℕ) (reader : Reader) (reading : IsReading text rest number reader) → lines_of rest ≡ line ∷ lines_of behind → IsReached text (number + 1)
-line_reached text rest line behind number reader reading is = record {
-  before = reading.before;
-  line = line;
-  behind = lines_of behind;
-  parts = reading.parts ∙ rw is refl;
-  counted = ap (λ n. n + 1) reading.count;
-  sound = reading.sound;
-}
-
--- and memory is taken for it
-pub line_formed : (text rest line behind : List ℕ) (number : ℕ) (reader : Reader) (reading : IsReading text rest number reader) → lines_of rest ≡ line ∷ lines_of behind
-    → is_formed reading.before line ≡ true → IsFormedAt text (number + 1)
-line_formed text rest line behind number reader reading is formed = record {
-  before = reading.before;
-  line = line;
-  behind = lines_of behind;
-  parts = reading.parts ∙ rw is refl;
-  counted = ap (λ n. n + 1) reading.count;
-  formed = formed;
 }
 
 pub at_end : (text rest : List ℕ) (number : ℕ) (reader : Reader) → IsReading text rest number reader → lines_of rest ≡ [] → schedule_of text ≡ whole reader.cluster number reader.lines.items

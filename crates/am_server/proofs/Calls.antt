@@ -1,16 +1,16 @@
 -- The answers to calls, one stretch after the other.
-use Rattle.std.proofs.Common.{◌≡◌, ◌∙◌, ℕ, List, [], ◌∷◌, ◌++◌, map, Some, Ok, Err, inl, inr, refl, sym, subst, ap, append_assoc}
+use Rattle.std.proofs.Common.{◌≡◌, ◌∙◌, ℕ, List, [], ◌∷◌, ◌++◌, map, Some, Ok, inl, inr, refl, sym, subst, ap, append_assoc}
 use Rattle.std.proofs.lemmas.List.{map-append}
 use Rattle.std.specs.List.{AllByRecursion}
 use Rattle.am_api_decisions.proofs.AskedMore.{counted_more, counted_none}
-use Rattle.am_api_decisions.specs.Asked.{IsAsked}
+use Rattle.am_api_decisions.specs.ParsedCalls.{IsAsked}
 use Rattle.am_api_decisions.specs.Asking.{AreAsked, AskedAlert, Counted, HoldsSame, IsStopped, counted_with, nothing_counted}
 use Rattle.am_api_decisions.specs.Deciding.{GoesOn, Underway, underway_of}
 use Rattle.am_api_decisions.specs.Entries.{Telling, log_bytes}
 use Rattle.am_api_decisions.specs.Noticing.{IsNoticed}
 use Rattle.am_api_decisions.specs.Settling.{IsBrokenOff, IsDecided}
-use Rattle.am_api_decisions.specs.declared.asked.Asked.TheVariants as asks
-use Rattle.am_api_decisions.specs.declared.asked.Question.{Question}
+use Rattle.am_api_decisions.specs.declared.parsed_call.ParsedCall.TheVariants as asks
+use Rattle.am_api_decisions.specs.declared.parsed_call.Question.{Question}
 use Rattle.am_api_decisions.specs.declared.timing.Timing.{Timing}
 use Rattle.am_api_silences.specs.Answers.{WhenMade}
 use Rattle.am_api_silences.specs.ReplyBuilder.{Makes}
@@ -22,9 +22,8 @@ use Rattle.am_api_silences.specs.declared.replies.ResponseBytes.{ResponseBytes}
 use Rattle.am_api_silences.specs.declared.replies.ResponseBytes.TheVariants.{Own, Fixed}
 use Rattle.am_api_decisions.specs.declared.message.Alert.{Alert}
 use Rattle.am_api_decisions.specs.declared.notice.Notice.{Notice}
-use Rattle.am_http.specs.Lines.{RefusalLine, line_seen}
+use Rattle.am_http.specs.Lines.{RefusalLine}
 use Rattle.am_http.specs.Sessions.{Spoken}
-use Rattle.am_http.specs.declared.refusal.Refusal.{Refusal}
 use Rattle.am_http.specs.declared.request.Read.{Read}
 use Rattle.am_http.specs.declared.request.Read.TheVariants.{More, Whole, Refused}
 use Rattle.am_http.specs.declared.request.Request.{Request}
@@ -32,7 +31,7 @@ use Rattle.am_instance.specs.InstanceStates.{InstanceState}
 use Rattle.am_server.proofs.Sayings.{other_owed, says_line}
 use Rattle.am_server.specs.Answered.{ForPages, IsAnswered, IsGivenFor}
 use Rattle.am_server.specs.Calls.{AnswersQuestion, CallCause, IsProgressOf, IsUnderway, WasAsked, WhenTold, call_line}
-use Rattle.am_server.specs.Talks.{AsksElsewhere, Closes, IsCallReply, IsElsewhere, IsGiven, IsGivenOn, IsOwed, IsOwnLine, IsReplyTo, KeepsBy, KeepsGone, KeepsIf, Owed, Owes, Saying, Talk, put_next, said_next}
+use Rattle.am_server.specs.Talks.{AsksElsewhere, Closes, IsCallReply, IsElsewhere, IsGiven, IsOwed, IsOwnLine, IsReplyTo, KeepsBy, KeepsGone, KeepsIf, Owed, Owes, Saying, Talk, put_next, said_next}
 use Rattle.am_server.specs.Talks.Owed.{Line, Reply, Answer, Given, Other}
 use Rattle.am_server.specs.Talks.Saying.{Silent, Making, Elsewhere, Held, Out}
 use Rattle.am_server.specs.Talks.OwnCause.{OutOfMemory}
@@ -111,11 +110,6 @@ pub alerts_replied : (request : Request) (making : ReplyBuilder) (old new : Inst
 alerts_replied request making old new asked reply made = inl (Ok asks.Alerts, asked, tt)
 
 -- ---- lines
-
--- the line of a request's fault
-pub fault_replied : (request : Request) (refusal : Refusal) (old new : InstanceState) → IsAsked request (Err refusal) →
-    WhenTold (λ reply. IsCallReply request old reply new) (line_seen refusal)
-fault_replied request refusal old new asked reply says = inl (Err refusal, asked, says)
 
 -- a line of the member's own
 pub own_replied : (request : Request) (told : RefusalLine) (old new : InstanceState) → IsOwnLine told → WhenTold (λ reply. IsCallReply request old reply new) told
@@ -198,14 +192,6 @@ owes_owed said (Reply begun) old new saying owes given = absurd owes
 owes_owed said (Answer request) old new saying owes given = given_owed request old new saying given
 owes_owed said (Given request start end) old new saying owes given = absurd owes
 owes_owed said Other old new saying owes given = other_owed saying
-
--- an answer that has come no further
-pub given_same : (old new : InstanceState) (saying saying' : Saying) → saying' ≡ saying → IsGivenOn old saying new saying'
-given_same old new Silent saying' same = tt
-given_same old new (Making making) saying' same = tt
-given_same old new (Elsewhere call) saying' same = λ request came. subst (IsGiven request old new) (sym same) came
-given_same old new (Held reply) saying' same = tt
-given_same old new (Out reply written) saying' same = tt
 
 -- ---- what a request that isn't about silences is owed
 

@@ -12,13 +12,13 @@ use Rattle.am_server.specs.Talks.{Saying, Talk, gone_of, pending_in, pending_of,
 use Rattle.am_server.specs.Talks.Saying.{Silent, Making, Elsewhere, Held as HeldBack, Out}
 use Rattle.am_peer_auth.specs.declared.passing.AcceptedProtocols.{AcceptedProtocols}
 use Rattle.am_peer_auth.specs.declared.passing.AcceptedProtocols.TheVariants.{Requests, Frames, Both}
-use Rattle.am_peer_auth.specs.Authenticators.{Asks as AsksAtGate, Begins as BeginsAtGate, Greets as GreetsSealed, GoesOn as SealedGoesOn, GreetsBy, IsGreeted as IsGreetedSealed, Knocks, Passes, Sends, TakesSealed, Told, UnsealsFrom, Way, challenge_left, challenge_sent}
-use Rattle.am_peer_auth.specs.Authenticators.Way.{before, passing, greeting, sealed, shut}
+use Rattle.am_peer_auth.specs.Authenticators.{Asks as AsksAtGate, Begins as BeginsAtGate, Greets as GreetsSealed, GoesOn as SealedGoesOn, GreetsBy, IsGreeted as IsGreetedSealed, Knocks, Passes, Sends, TakesSealed, AuthOutput, UnsealsFrom, AuthPhase, challenge_left, challenge_sent}
+use Rattle.am_peer_auth.specs.Authenticators.AuthPhase.{before, passing, greeting, sealed, shut}
 use Rattle.am_gossip.specs.declared.error.FrameError.{FrameError}
 use Rattle.am_gossip.specs.Hellos.{hello_of}
 use Rattle.am_http.specs.declared.session.fault.SessionFault.{SessionFault}
-use Rattle.am_http.specs.Sessions.{Standing, name_of}
-use Rattle.am_http.specs.Sessions.Standing.{over}
+use Rattle.am_http.specs.Sessions.{SessionPhase, name_of}
+use Rattle.am_http.specs.Sessions.SessionPhase.{over}
 use Rattle.am_reactor.specs.Sending.{IsFirstPart}
 use Rattle.am_peer_auth.specs.declared.seal.Lock.{Lock}
 use Rattle.am_peer_auth.specs.declared.seal.SealError.{SealError}
@@ -29,12 +29,12 @@ use Rattle.am_server.specs.Talking.{BeginsSealed, IsAskedBack, IsFront}
 -- ---- where nothing comes
 
 -- it is the same in a session that is the same or over
-front_stays : (way : Way) (session session' : Standing) (fed front : List ℕ) → ((session' ≡ session) ⊎ (session' ≡ over (name_of session'))) →
-    IsFront way session fed front → IsFront way session' fed front
+front_stays : (auth_phase : AuthPhase) (session session' : SessionPhase) (fed front : List ℕ) → ((session' ≡ session) ⊎ (session' ≡ over (name_of session'))) →
+    IsFront auth_phase session fed front → IsFront auth_phase session' fed front
 front_stays before session session' fed front on f = (
   f.0,
   λ still. elim on [
-    | inl same ↦ f.1 (λ ended. still (subst (λ (s : Standing). s ≡ over (name_of s)) (sym same) ended))
+    | inl same ↦ f.1 (λ ended. still (subst (λ (s : SessionPhase). s ≡ over (name_of s)) (sym same) ended))
     | inr ends ↦ absurd (still ends)
   ],
 )
@@ -43,12 +43,12 @@ front_stays (greeting bytes) session session' fed front on f = f
 front_stays (sealed place out bytes) session session' fed front on f = f
 front_stays shut session session' fed front on f = f
 
-pub front_on : (way way' : Way) (session session' : Standing) (fed front : List ℕ) → way' ≡ way → ((session' ≡ session) ⊎ (session' ≡ over (name_of session'))) →
-    IsFront way session fed front → IsFront way' session' fed front
-front_on way way' session session' fed front same on f = subst (λ (w : Way). IsFront w session' fed front) (sym same) (front_stays way session session' fed front on f)
+pub front_on : (auth_phase auth_phase' : AuthPhase) (session session' : SessionPhase) (fed front : List ℕ) → auth_phase' ≡ auth_phase → ((session' ≡ session) ⊎ (session' ≡ over (name_of session'))) →
+    IsFront auth_phase session fed front → IsFront auth_phase' session' fed front
+front_on auth_phase auth_phase' session session' fed front same on f = subst (λ (w : AuthPhase). IsFront w session' fed front) (sym same) (front_stays auth_phase session session' fed front on f)
 
 -- at most 32 bytes went out
-pub front_bound : (way : Way) (session : Standing) (fed front : List ℕ) → IsFront way session fed front → IsAskedBack fed front
+pub front_bound : (auth_phase : AuthPhase) (session : SessionPhase) (fed front : List ℕ) → IsFront auth_phase session fed front → IsAskedBack fed front
 front_bound before session fed front f = inl f.0
 front_bound passing session fed front f = inl f
 front_bound (greeting bytes) session fed front f = inl f.0
@@ -65,103 +65,103 @@ asked_on fed piece front (inl none) = inl none
 asked_on fed piece front (inr some) = inr (some.0, begins_on fed piece some.1)
 
 -- and no more is heard
-pub front_ends : (way way' : Way) (session session' : Standing) (fed piece front : List ℕ) → way' ≡ way → session' ≡ over (name_of session') →
-    IsFront way session fed front → IsFront way' session' (fed ++ piece) front
-front_ends before way' session session' fed piece front same ends f =
-    subst (λ (w : Way). IsFront w session' (fed ++ piece) front) (sym same) (f.0, λ still. absurd (still ends))
-front_ends passing way' session session' fed piece front same ends f = subst (λ (w : Way). IsFront w session' (fed ++ piece) front) (sym same) f
-front_ends (greeting bytes) way' session session' fed piece front same ends f =
-    subst (λ (w : Way). IsFront w session' (fed ++ piece) front) (sym same) (f.0, begins_on fed piece f.1)
-front_ends (sealed place out bytes) way' session session' fed piece front same ends f =
-    subst (λ (w : Way). IsFront w session' (fed ++ piece) front) (sym same) (f.0, f.1, begins_on fed piece f.2)
-front_ends shut way' session session' fed piece front same ends f =
-    subst (λ (w : Way). IsFront w session' (fed ++ piece) front) (sym same) (asked_on fed piece front f)
+pub front_ends : (auth_phase auth_phase' : AuthPhase) (session session' : SessionPhase) (fed piece front : List ℕ) → auth_phase' ≡ auth_phase → session' ≡ over (name_of session') →
+    IsFront auth_phase session fed front → IsFront auth_phase' session' (fed ++ piece) front
+front_ends before auth_phase' session session' fed piece front same ends f =
+    subst (λ (w : AuthPhase). IsFront w session' (fed ++ piece) front) (sym same) (f.0, λ still. absurd (still ends))
+front_ends passing auth_phase' session session' fed piece front same ends f = subst (λ (w : AuthPhase). IsFront w session' (fed ++ piece) front) (sym same) f
+front_ends (greeting bytes) auth_phase' session session' fed piece front same ends f =
+    subst (λ (w : AuthPhase). IsFront w session' (fed ++ piece) front) (sym same) (f.0, begins_on fed piece f.1)
+front_ends (sealed place out bytes) auth_phase' session session' fed piece front same ends f =
+    subst (λ (w : AuthPhase). IsFront w session' (fed ++ piece) front) (sym same) (f.0, f.1, begins_on fed piece f.2)
+front_ends shut auth_phase' session session' fed piece front same ends f =
+    subst (λ (w : AuthPhase). IsFront w session' (fed ++ piece) front) (sym same) (asked_on fed piece front f)
 
 -- all that was fed, with the piece, and what went out
-module _ (fed front : List ℕ) (told : Told) (way' : Way) (session' : Standing) where
+module _ (fed front : List ℕ) (told : AuthOutput) (auth_phase' : AuthPhase) (session' : SessionPhase) where
   abbrev Fronts : Type 0
-  Fronts = IsFront way' session' fed front
+  Fronts = IsFront auth_phase' session' fed front
 
-  fronts : (way : Way) → way' ≡ way → IsFront way session' fed front → Fronts
-  fronts way same f = subst (λ (w : Way). IsFront w session' fed front) (sym same) f
+  fronts : (auth_phase : AuthPhase) → auth_phase' ≡ auth_phase → IsFront auth_phase session' fed front → Fronts
+  fronts auth_phase same f = subst (λ (w : AuthPhase). IsFront w session' fed front) (sym same) f
 
-  goes_on_fronts : (error : Option SealError) (next : Sequence) (out : ℕ) (rest : List ℕ) (mid : Standing) → front ≡ take out next.challenge → length next.challenge ≡ 32 →
-      BeginsSealed fed → SealedGoesOn error next out rest mid way' session' → Fronts
+  goes_on_fronts : (error : Option SealError) (next : Sequence) (out : ℕ) (rest : List ℕ) (mid : SessionPhase) → front ≡ take out next.challenge → length next.challenge ≡ 32 →
+      BeginsSealed fed → SealedGoesOn error next out rest mid auth_phase' session' → Fronts
   goes_on_fronts None next out rest mid is long begins on = fronts (sealed next out rest) on.0 (is, long, begins)
   goes_on_fronts (Some error) next out rest mid is long begins on =
       fronts shut on.0 (inr (omega (arith, ap length is, length-take out next.challenge, long), begins))
 
-  takes_fronts : (lock : Lock) (sender : List ℕ) (place : Sequence) (out : ℕ) (mid : Standing) (bytes : List ℕ) → front ≡ take out place.challenge →
-      length place.challenge ≡ 32 → BeginsSealed fed → TakesSealed lock sender place out mid bytes told way' session' → Fronts
+  takes_fronts : (lock : Lock) (sender : List ℕ) (place : Sequence) (out : ℕ) (mid : SessionPhase) (bytes : List ℕ) → front ≡ take out place.challenge →
+      length place.challenge ≡ 32 → BeginsSealed fed → TakesSealed lock sender place out mid bytes told auth_phase' session' → Fronts
   takes_fronts lock sender place out mid bytes is long begins takes =
       goes_on_fronts takes.1 (after (length takes.0) place) out takes.2 mid is long begins takes.4.goes_on
 
-  module _ (lock : Lock) (challenge : List ℕ) (session : Standing) (long : length challenge ≡ 32) (none : front ≡ []) (begins : BeginsSealed fed) where
-    greeted_fronts : (name text behind : List ℕ) (is : IsGreetedSealed lock name (first_in challenge) session text behind told way' session') (fault : Option SessionFault) →
+  module _ (lock : Lock) (challenge : List ℕ) (session : SessionPhase) (long : length challenge ≡ 32) (none : front ≡ []) (begins : BeginsSealed fed) where
+    greeted_fronts : (name text behind : List ℕ) (is : IsGreetedSealed lock name (first_in challenge) session text behind told auth_phase' session') (fault : Option SessionFault) →
         is.said.fault ≡ fault → Fronts
     greeted_fronts name text behind is None e = takes_fronts lock name (first_in challenge) 0 is.mid behind none long begins (is.frames e)
     greeted_fronts name text behind is (Some fault) e = fronts shut (is.lacks fault e).1 (inl none)
 
-    hello_fronts : (bytes : List ℕ) (hello : Result (Option (List ℕ × ℕ)) FrameError) → GreetsBy hello lock challenge session bytes told way' session' → Fronts
+    hello_fronts : (bytes : List ℕ) (hello : Result (Option (List ℕ × ℕ)) FrameError) → GreetsBy hello lock challenge session bytes told auth_phase' session' → Fronts
     hello_fronts bytes (Ok None) waits = fronts (greeting bytes) waits.1 (none, begins)
     hello_fronts bytes (Ok (Some hello)) is = greeted_fronts hello.0 (take hello.1 bytes) (drop hello.1 bytes) is is.said.fault refl
     hello_fronts bytes (Err error) failed = fronts shut failed.1 (inl none)
 
-    greets_fronts : (bytes : List ℕ) → GreetsSealed lock challenge session bytes told way' session' → Fronts
+    greets_fronts : (bytes : List ℕ) → GreetsSealed lock challenge session bytes told auth_phase' session' → Fronts
     greets_fronts bytes (inl by) = hello_fronts bytes (hello_of bytes) by
     greets_fronts bytes (inr failed) = fronts shut failed.1 (inl none)
 
-  unseals_fronts : (lock : Lock) (place : Sequence) (out : ℕ) (session : Standing) (bytes : List ℕ) (name : Option (List ℕ)) → front ≡ take out place.challenge →
-      length place.challenge ≡ 32 → BeginsSealed fed → UnsealsFrom name lock place out session bytes told way' session' → Fronts
+  unseals_fronts : (lock : Lock) (place : Sequence) (out : ℕ) (session : SessionPhase) (bytes : List ℕ) (name : Option (List ℕ)) → front ≡ take out place.challenge →
+      length place.challenge ≡ 32 → BeginsSealed fed → UnsealsFrom name lock place out session bytes told auth_phase' session' → Fronts
   unseals_fronts lock place out session bytes None is long begins back =
       fronts shut back.1 (inr (omega (arith, ap length is, length-take out place.challenge, long), begins))
   unseals_fronts lock place out session bytes (Some sender) is long begins takes = takes_fronts lock sender place out session bytes is long begins takes
 
   -- the first byte of a connection
-  module _ (challenge : List ℕ) (session : Standing) (first : ℕ) (behind : List ℕ) (long : length challenge ≡ 32) (none : front ≡ []) (came : fed ≡ first ∷ behind) where
-    asks_fronts : (kind : AcceptedProtocols) → AsksAtGate kind session (first ∷ behind) told way' session' → Fronts
+  module _ (challenge : List ℕ) (session : SessionPhase) (first : ℕ) (behind : List ℕ) (long : length challenge ≡ 32) (none : front ≡ []) (came : fed ≡ first ∷ behind) where
+    asks_fronts : (kind : AcceptedProtocols) → AsksAtGate kind session (first ∷ behind) told auth_phase' session' → Fronts
     asks_fronts Frames turned = fronts shut turned.1 (inl none)
     asks_fronts Requests passes = fronts passing passes.2 none
     asks_fronts Both passes = fronts passing passes.2 none
 
-    knocks_fronts : (lock : Lock) → Knocks lock challenge first behind session told way' session' → Fronts
+    knocks_fronts : (lock : Lock) → Knocks lock challenge first behind session told auth_phase' session' → Fronts
     knocks_fronts lock knocks = elim (cases_order first 1) [
       | inl is ↦ greets_fronts lock challenge session long none (behind, came ∙ ap (λ (n : ℕ). n ∷ behind) is) behind (knocks.sealed_ is)
       | inr (inl below) ↦ fronts shut (knocks.open_ (λ is. absurd (omega (arith, is, below)))).1 (inl none)
       | inr (inr above) ↦ fronts shut (knocks.open_ (λ is. absurd (omega (arith, is, above)))).1 (inl none)
     ]
 
-    sends_fronts : (kind : AcceptedProtocols) (lock : Option Lock) → Sends kind lock challenge first behind session told way' session' → Fronts
+    sends_fronts : (kind : AcceptedProtocols) (lock : Option Lock) → Sends kind lock challenge first behind session told auth_phase' session' → Fronts
     sends_fronts Requests lock turned = fronts shut turned.1 (inl none)
     sends_fronts Frames None passes = fronts passing passes.2 none
     sends_fronts Both None passes = fronts passing passes.2 none
     sends_fronts Frames (Some lock) knocks = knocks_fronts lock knocks
     sends_fronts Both (Some lock) knocks = knocks_fronts lock knocks
 
-    begins_fronts : (kind : AcceptedProtocols) (lock : Option Lock) → BeginsAtGate kind lock challenge first behind session told way' session' → Fronts
+    begins_fronts : (kind : AcceptedProtocols) (lock : Option Lock) → BeginsAtGate kind lock challenge first behind session told auth_phase' session' → Fronts
     begins_fronts kind lock begins = elim (cases_lt first 32) [
       | inl below ↦ sends_fronts kind lock (begins.peer below)
       | inr from ↦ asks_fronts kind (begins.request from)
     ]
 
 -- what comes of a piece with a byte
-pub gate_fronts : (kind : AcceptedProtocols) (lock : Option Lock) (challenge : List ℕ) (way : Way) (session : Standing) (piece : List ℕ) (told : Told) (way' : Way) (session' : Standing)
-    (fed front : List ℕ) → length challenge ≡ 32 → piece ≢ [] → session ≢ over (name_of session) → Passes kind lock challenge way session piece told way' session' →
-    IsFront way session fed front → IsFront way' session' (fed ++ piece) front
-gate_fronts kind lock challenge before session [] told way' session' fed front long some still passes f = absurd (some refl)
-gate_fronts kind lock challenge before session (first ∷ behind) told way' session' fed front long some still passes f =
-    begins_fronts (fed ++ first ∷ behind) front told way' session' challenge session first behind long f.0 (ap (λ (l : List ℕ). l ++ first ∷ behind) (f.1 still)) kind lock passes
-gate_fronts kind None challenge passing session piece told way' session' fed front long some still passes f = fronts (fed ++ piece) front told way' session' passing passes.2 f
-gate_fronts kind (Some lock) challenge passing session piece told way' session' fed front long some still passes f = fronts (fed ++ piece) front told way' session' passing passes.2 f
-gate_fronts kind None challenge (greeting bytes) session piece told way' session' fed front long some still passes f = fronts (fed ++ piece) front told way' session' shut passes.1 (inl f.0)
-gate_fronts kind (Some lock) challenge (greeting bytes) session piece told way' session' fed front long some still passes f =
-    greets_fronts (fed ++ piece) front told way' session' lock challenge session long f.0 (begins_on fed piece f.1) (bytes ++ piece) passes
-gate_fronts kind None challenge (sealed place out bytes) session piece told way' session' fed front long some still passes f =
-    fronts (fed ++ piece) front told way' session' shut passes.1 (asked_on fed piece front (front_bound (sealed place out bytes) session fed front f))
-gate_fronts kind (Some lock) challenge (sealed place out bytes) session piece told way' session' fed front long some still passes f =
-    unseals_fronts (fed ++ piece) front told way' session' lock place out session (bytes ++ piece) (name_of session) f.0 f.1 (begins_on fed piece f.2) passes
-gate_fronts kind None challenge shut session piece told way' session' fed front long some still passes f = fronts (fed ++ piece) front told way' session' shut passes.1 (asked_on fed piece front f)
-gate_fronts kind (Some lock) challenge shut session piece told way' session' fed front long some still passes f = fronts (fed ++ piece) front told way' session' shut passes.1 (asked_on fed piece front f)
+pub gate_fronts : (kind : AcceptedProtocols) (lock : Option Lock) (challenge : List ℕ) (auth_phase : AuthPhase) (session : SessionPhase) (piece : List ℕ) (told : AuthOutput) (auth_phase' : AuthPhase) (session' : SessionPhase)
+    (fed front : List ℕ) → length challenge ≡ 32 → piece ≢ [] → session ≢ over (name_of session) → Passes kind lock challenge auth_phase session piece told auth_phase' session' →
+    IsFront auth_phase session fed front → IsFront auth_phase' session' (fed ++ piece) front
+gate_fronts kind lock challenge before session [] told auth_phase' session' fed front long some still passes f = absurd (some refl)
+gate_fronts kind lock challenge before session (first ∷ behind) told auth_phase' session' fed front long some still passes f =
+    begins_fronts (fed ++ first ∷ behind) front told auth_phase' session' challenge session first behind long f.0 (ap (λ (l : List ℕ). l ++ first ∷ behind) (f.1 still)) kind lock passes
+gate_fronts kind None challenge passing session piece told auth_phase' session' fed front long some still passes f = fronts (fed ++ piece) front told auth_phase' session' passing passes.2 f
+gate_fronts kind (Some lock) challenge passing session piece told auth_phase' session' fed front long some still passes f = fronts (fed ++ piece) front told auth_phase' session' passing passes.2 f
+gate_fronts kind None challenge (greeting bytes) session piece told auth_phase' session' fed front long some still passes f = fronts (fed ++ piece) front told auth_phase' session' shut passes.1 (inl f.0)
+gate_fronts kind (Some lock) challenge (greeting bytes) session piece told auth_phase' session' fed front long some still passes f =
+    greets_fronts (fed ++ piece) front told auth_phase' session' lock challenge session long f.0 (begins_on fed piece f.1) (bytes ++ piece) passes
+gate_fronts kind None challenge (sealed place out bytes) session piece told auth_phase' session' fed front long some still passes f =
+    fronts (fed ++ piece) front told auth_phase' session' shut passes.1 (asked_on fed piece front (front_bound (sealed place out bytes) session fed front f))
+gate_fronts kind (Some lock) challenge (sealed place out bytes) session piece told auth_phase' session' fed front long some still passes f =
+    unseals_fronts (fed ++ piece) front told auth_phase' session' lock place out session (bytes ++ piece) (name_of session) f.0 f.1 (begins_on fed piece f.2) passes
+gate_fronts kind None challenge shut session piece told auth_phase' session' fed front long some still passes f = fronts (fed ++ piece) front told auth_phase' session' shut passes.1 (asked_on fed piece front f)
+gate_fronts kind (Some lock) challenge shut session piece told auth_phase' session' fed front long some still passes f = fronts (fed ++ piece) front told auth_phase' session' shut passes.1 (asked_on fed piece front f)
 
 -- ---- where bytes go out
 
@@ -195,8 +195,8 @@ take_both count xs ys = elim (cases_lt (length xs) count) [
 no_more : (front : List ℕ) (count : ℕ) → front ≡ front ++ take count []
 no_more front count = sym (append-nil front) ∙ ap (λ (l : List ℕ). front ++ l) (sym (take_none count))
 
-front_sent : (count : ℕ) (way : Way) (session : Standing) (fed front : List ℕ) → IsFront way session fed front →
-    IsFront (challenge_sent count way) session fed (front ++ take count (challenge_left way))
+front_sent : (count : ℕ) (auth_phase : AuthPhase) (session : SessionPhase) (fed front : List ℕ) → IsFront auth_phase session fed front →
+    IsFront (challenge_sent count auth_phase) session fed (front ++ take count (challenge_left auth_phase))
 front_sent count before session fed front f = (sym (no_more front count) ∙ f.0, f.1)
 front_sent count passing session fed front f = sym (no_more front count) ∙ f
 front_sent count (greeting bytes) session fed front f = (sym (no_more front count) ∙ f.0, f.1)
@@ -222,10 +222,10 @@ in_order front one other more order =
     ∙ ap (λ (l : List ℕ). front ++ l) (sym (append_assoc one other more) ∙ ap (λ (l : List ℕ). l ++ more) swap ∙ append_assoc other one more)
     ∙ sym (append_assoc front other (one ++ more))
 
-module _ (bytes : List ℕ) (talk : Talk) (fed front gone : List ℕ) (was : gone ≡ front ++ gone_of talk.saying) (f : IsFront talk.way talk.session fed front)
-    (order : (challenge_left talk.way ≡ []) ⊎ (gone_of talk.saying ≡ [])) (first : IsFirstPart bytes (pending_in talk)) where
+module _ (bytes : List ℕ) (talk : Talk) (fed front gone : List ℕ) (was : gone ≡ front ++ gone_of talk.saying) (f : IsFront talk.auth_phase talk.session fed front)
+    (order : (challenge_left talk.auth_phase ≡ []) ⊎ (gone_of talk.saying ≡ [])) (first : IsFirstPart bytes (pending_in talk)) where
   abbrev left : List ℕ
-  left = challenge_left talk.way
+  left = challenge_left talk.auth_phase
 
   abbrev of_challenge : ℕ
   of_challenge = min (length bytes) (length left)
@@ -248,13 +248,13 @@ module _ (bytes : List ℕ) (talk : Talk) (fed front gone : List ℕ) (was : gon
       ∙ in_order front (gone_of talk.saying) (take of_challenge left) (take of_reply (pending_of talk.saying)) (no_challenge order)
       ∙ ap (λ (l : List ℕ). front_then ++ l) (sym (reply_gone of_reply talk.saying))
 
-  pub asked_then : IsFront (sent_in (length bytes) talk).way talk.session fed front_then
-  asked_then = front_sent of_challenge talk.way talk.session fed front f
+  pub asked_then : IsFront (sent_in (length bytes) talk).auth_phase talk.session fed front_then
+  asked_then = front_sent of_challenge talk.auth_phase talk.session fed front f
 
-  left_then : challenge_left (sent_in (length bytes) talk).way ≡ drop of_challenge left
-  left_then = challenge_rest of_challenge talk.way
+  left_then : challenge_left (sent_in (length bytes) talk).auth_phase ≡ drop of_challenge left
+  left_then = challenge_rest of_challenge talk.auth_phase
 
-  order_by : (left ≡ []) ⊎ (gone_of talk.saying ≡ []) → (challenge_left (sent_in (length bytes) talk).way ≡ []) ⊎ (gone_of (sent_in (length bytes) talk).saying ≡ [])
+  order_by : (left ≡ []) ⊎ (gone_of talk.saying ≡ []) → (challenge_left (sent_in (length bytes) talk).auth_phase ≡ []) ⊎ (gone_of (sent_in (length bytes) talk).saying ≡ [])
   order_by (inl none) = inl (left_then ∙ ap (drop of_challenge) none ∙ sym (drop_none of_challenge))
   order_by (inr none) = elim (cases_lt (length bytes) (length left)) [
     | inl within ↦
@@ -265,5 +265,5 @@ module _ (bytes : List ℕ) (talk : Talk) (fed front gone : List ℕ) (was : gon
         inl (left_then ∙ drop_all of_challenge left all)
   ]
 
-  pub order_then : (challenge_left (sent_in (length bytes) talk).way ≡ []) ⊎ (gone_of (sent_in (length bytes) talk).saying ≡ [])
+  pub order_then : (challenge_left (sent_in (length bytes) talk).auth_phase ≡ []) ⊎ (gone_of (sent_in (length bytes) talk).saying ≡ [])
   order_then = order_by order

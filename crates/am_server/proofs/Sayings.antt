@@ -20,7 +20,6 @@ use Rattle.am_instance.specs.InstanceStates.{InstanceState}
 use Rattle.am_server.specs.declared.connection_state.UncommittedReply.{UncommittedReply}
 use Rattle.am_server.specs.declared.connection_state.ConnectionWork.{ConnectionWork}
 use Rattle.am_server.specs.declared.connection_state.ConnectionWork.TheVariants.{Uncommitted as HeldBackAs}
-use Rattle.am_server.proofs.Resting.{stays_same}
 use Rattle.am_server.specs.Calls.{IsProgressOf, WhenTold}
 use Rattle.am_server.specs.Talks.{IsClosed, IsComing, IsLine, IsOwed, IsOwnLine, IsReleased, OwnCause, IsReplyTo, Keeps, KeepsBy, KeepsGone, KeepsIf, Lasts, Owed, Rests, Saying, Stays, Talk, TellsLine, WaitsNoMore, gone_of, own_line, said_next}
 use Rattle.am_server.specs.Talks.Owed.{Line, Reply, Answer, Given, Other}
@@ -128,10 +127,6 @@ pub by_reply : (making : ReplyBuilder) (reply : ResponseBytes) (old new : Saying
 by_reply making reply old new is made = by_on making old (said_next reply old) new
     (record { owed = λ owed was makes. next_owed owed reply old was (makes reply made); gone = next_gone reply old }) (keeps_same _ new is)
 
--- a reply that waited for a commit goes out
-pub keeps_held : (reply : ResponseBytes) (new : Saying) → new ≡ Out reply 0 → Keeps (Held reply) new
-keeps_held reply new is = keeps_on (Held reply) (Out reply 0) new (record { owed = λ owed was. was; gone = refl }) (keeps_same (Out reply 0) new is)
-
 -- one that goes on is finished with what it would be finished with
 pub by_more : (making more : ReplyBuilder) (old new : Saying) → Makes (IsMadeOf making) more → KeepsBy more old new → KeepsBy making old new
 by_more making more old new same by =
@@ -181,13 +176,6 @@ making_keeps making new by = record { owed = λ owed was. by.owed owed tt was; g
 
 -- ---- a connection that lasts
 
-pub lasts_same : (old new : Talk) → new ≡ old → Lasts old new
-lasts_same old new same = inl (record {
-  stays = stays_same old new same;
-  silent = λ none. ap (λ (t : Talk). t.saying) same ∙ none;
-  saying = keeps_same old.saying new.saying (ap (λ (t : Talk). t.saying) same);
-})
-
 -- something is replied, so that it isn't silent
 pub lasts_by : (old new : Talk) → Stays old new → ¬ (old.saying ≡ Silent) → Keeps old.saying new.saying → Lasts old new
 lasts_by old new stays loud keeps = inl (record { stays = stays; silent = λ none. absurd (loud none); saying = keeps })
@@ -195,7 +183,7 @@ lasts_by old new stays loud keeps = inl (record { stays = stays; silent = λ non
 -- what is closed from silence is closed, where nothing went out
 pub silent_closes : (old new : Talk) → gone_of old.saying ≡ [] → IsClosed (record old { waiting = None; saying = Silent }) new → IsClosed old new
 silent_closes old new none closed = record {
-  way = closed.way;
+  auth_phase = closed.auth_phase;
   session = closed.session;
   waiting = closed.waiting;
   saying = record { owed = λ owed was. closed.saying.owed owed tt; gone = closed.saying.gone ∙ sym none };
@@ -205,11 +193,11 @@ silent_closes old new none closed = record {
 pub elsewhere_lasts : (call : CallProgress) (old new : Talk) → old.saying ≡ Elsewhere call → old.waiting ≡ None → Rests (record old { saying = Silent }) new →
     KeepsGone Silent new.saying → ((request : Request) → IsProgressOf request call → IsOwed (Answer request) new.saying) → Lasts old new
 elsewhere_lasts call old new here none (inl stays) gone answered = lasts_by old new
-    (record { way = stays.way; session = stays.session; waiting = stays.waiting })
+    (record { auth_phase = stays.auth_phase; session = stays.session; waiting = stays.waiting })
     (λ e. absurd (elsewhere_loud call (sym here ∙ e)))
     (subst (λ (s : Saying). Keeps s new.saying) (sym here) (elsewhere_keeps call new.saying answered gone))
 elsewhere_lasts call old new here none (inr closes) gone answered = inr (record {
-  way = closes.way;
+  auth_phase = closes.auth_phase;
   session = closes.session;
   waiting = none_waits old new none closes.waiting;
   saying = subst (λ (s : Saying). Keeps s new.saying) (sym here) (elsewhere_keeps call new.saying answered gone);
@@ -218,7 +206,7 @@ elsewhere_lasts call old new here none (inr closes) gone answered = inr (record 
 -- a list goes on being made
 pub making_lasts : (making : ReplyBuilder) (old new : Talk) → old.saying ≡ Making making → Stays (record old { saying = Silent }) new → KeepsBy making Silent new.saying → Lasts old new
 making_lasts making old new here stays by = lasts_by old new
-    (record { way = stays.way; session = stays.session; waiting = stays.waiting })
+    (record { auth_phase = stays.auth_phase; session = stays.session; waiting = stays.waiting })
     (λ e. absurd (making_loud making (sym here ∙ e)))
     (subst (λ (s : Saying). Keeps s new.saying) (sym here) (making_keeps making new.saying by))
 

@@ -4,8 +4,8 @@ use Rattle.std.proofs.Math.Seq.{drop-append-add}
 use Rattle.std.proofs.lemmas.Bool.{cases_lt}
 use Rattle.std.proofs.lemmas.List.{drop-append-le, drop-drop, drop_all}
 use Rattle.am_api_silences.specs.Replies.{bytes_of}
-use Rattle.am_peer_auth.specs.Authenticators.{Way, challenge_left, challenge_sent}
-use Rattle.am_peer_auth.specs.Authenticators.Way.{before, passing, greeting, sealed, shut}
+use Rattle.am_peer_auth.specs.Authenticators.{AuthPhase, challenge_left, challenge_sent}
+use Rattle.am_peer_auth.specs.Authenticators.AuthPhase.{before, passing, greeting, sealed, shut}
 use Rattle.am_server.specs.Talks.{Saying, Talk, pending_in, pending_of, sent_in, sent_on}
 use Rattle.am_server.specs.Talks.Saying.{Silent, Making, Elsewhere, Held, Out}
 
@@ -33,7 +33,7 @@ drop_both count xs ys = elim (cases_lt (length xs) count) [
       ap (λ (n : ℕ). drop n xs ++ drop (count - length xs) ys) all ∙ ap (λ (n : ℕ). drop count xs ++ drop n ys) nothing ∙ sym (drop-append-le count xs ys within)
 ]
 
-pub challenge_rest : (count : ℕ) (way : Way) → challenge_left (challenge_sent count way) ≡ drop count (challenge_left way)
+pub challenge_rest : (count : ℕ) (auth_phase : AuthPhase) → challenge_left (challenge_sent count auth_phase) ≡ drop count (challenge_left auth_phase)
 challenge_rest count before = drop_none count
 challenge_rest count passing = drop_none count
 challenge_rest count (greeting bytes) = drop_none count
@@ -50,9 +50,9 @@ reply_rest count (Out reply written) = sym (drop-drop count written (bytes_of re
 -- what went out waits no more
 pub pending_rest : (count : ℕ) (talk : Talk) → pending_in (sent_in count talk) ≡ drop count (pending_in talk)
 pending_rest count talk =
-    let left : List ℕ = challenge_left talk.way in
+    let left : List ℕ = challenge_left talk.auth_phase in
     let first : ℕ = min count (length left) in
     let then : ℕ = count - length left in
-    ap (λ (l : List ℕ). l ++ pending_of (sent_on then talk.saying)) (challenge_rest first talk.way)
+    ap (λ (l : List ℕ). l ++ pending_of (sent_on then talk.saying)) (challenge_rest first talk.auth_phase)
     ∙ ap (λ (l : List ℕ). drop first left ++ l) (reply_rest then talk.saying)
     ∙ drop_both count left (pending_of talk.saying)

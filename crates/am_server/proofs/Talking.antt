@@ -15,8 +15,8 @@ use Rattle.am_server.specs.Talks.Saying.{Silent, Making, Elsewhere, Held as Held
 use Rattle.am_peer_auth.specs.declared.fault.AuthFault.{AuthFault}
 use Rattle.am_peer_auth.specs.declared.passing.AcceptedProtocols.{AcceptedProtocols}
 use Rattle.am_peer_auth.specs.declared.passing.AcceptedProtocols.TheVariants.{Requests, Frames, Both}
-use Rattle.am_peer_auth.specs.Authenticators.{Asks as AsksAtGate, Begins as BeginsAtGate, Greets as GreetsSealed, GoesOn as SealedGoesOn, GreetsBy, IsFailed, IsGreeted as IsGreetedSealed, IsTurnedBack, Knocks, Passes, PassesOn, Sends, TakesSealed, Told, UnsealsFrom, Waits, Way, challenge_left, challenge_sent}
-use Rattle.am_peer_auth.specs.Authenticators.Way.{before, passing, greeting, sealed, shut}
+use Rattle.am_peer_auth.specs.Authenticators.{Asks as AsksAtGate, Begins as BeginsAtGate, Greets as GreetsSealed, GoesOn as SealedGoesOn, GreetsBy, IsFailed, IsGreeted as IsGreetedSealed, IsTurnedBack, Knocks, Passes, PassesOn, Sends, TakesSealed, AuthOutput, UnsealsFrom, Waits, AuthPhase, challenge_left, challenge_sent}
+use Rattle.am_peer_auth.specs.Authenticators.AuthPhase.{before, passing, greeting, sealed, shut}
 use Rattle.am_gossip.specs.declared.error.FrameError.{FrameError}
 use Rattle.am_gossip.specs.declared.frame.Frame.{Frame}
 use Rattle.am_gossip.specs.Hellos.{hello_of}
@@ -24,8 +24,8 @@ use Rattle.am_http.specs.declared.request.Read.{Read}
 use Rattle.am_http.specs.declared.refusal.Refusal.{Refusal}
 use Rattle.am_http.specs.declared.request.Read.TheVariants.{More, Whole, Refused}
 use Rattle.am_http.specs.declared.session.fault.SessionFault.{SessionFault}
-use Rattle.am_http.specs.Sessions.{Feeds, Greets, Hears as HearsPiece, IsAsked, IsGreeted, IsHeard as IsHeardStream, LacksMemory, Says, SaysEnd, Spoken, Standing, heard, name_of, nothing}
-use Rattle.am_http.specs.Sessions.Standing.{fresh, InRequest, InGreeting, InFrames, over}
+use Rattle.am_http.specs.Sessions.{Feeds, Greets, Hears as HearsPiece, IsAsked, IsGreeted, IsHeard as IsHeardStream, LacksMemory, Says, SaysEnd, Spoken, SessionPhase, heard, name_of, nothing}
+use Rattle.am_http.specs.Sessions.SessionPhase.{fresh, InRequest, InGreeting, InFrames, over}
 use Rattle.am_instance.specs.declared.event.Event.{Event}
 use Rattle.am_instance.specs.InstanceStates.{InstanceState}
 use Rattle.am_instance.specs.Laws.{Happened}
@@ -35,7 +35,7 @@ use Rattle.am_api_silences.specs.declared.replies.ResponseBytes.{ResponseBytes}
 use Rattle.am_member.specs.declared.session_answer.SessionAnswer.{SessionAnswer}
 use Rattle.am_member.specs.Exchanging.{AreStepped, IsSessionAnswer, left_at}
 use Rattle.am_member.specs.Incoming.{SoFar, no_effects, so_far}
-use Rattle.am_member.specs.Lives.{Came, Deed as LifeDeed, IsGreetedBy, IsLife, IsOwnEvent, IsPagingEvent, Tells, Turn, bytes_in, bytes_of, standings_in, turns_of}
+use Rattle.am_member.specs.Lives.{Came, Deed as LifeDeed, IsGreetedBy, IsLife, IsOwnEvent, IsPagingEvent, Tells, Turn, bytes_in, bytes_of, session_phases_in, turns_of}
 use Rattle.am_member.specs.Lives.Came.{Heard, Fed as FedAnyhow, AtEnd, Opened}
 use Rattle.am_member.specs.Lives.Deed.{Served, Own}
 use Rattle.am_member.specs.Sparing.{deferred}
@@ -59,8 +59,8 @@ use Rattle.am_server.proofs.Lived.{chosen_is}
 -- ---- a request ends what is heard
 
 -- nothing more is heard, by whatever name
-over_name : (new : Standing) (name : Option (List ℕ)) → new ≡ over name → new ≡ over (name_of new)
-over_name new name e = e ∙ sym (ap (λ (s : Standing). over (name_of s)) e)
+over_name : (new : SessionPhase) (name : Option (List ℕ)) → new ≡ over name → new ≡ over (name_of new)
+over_name new name e = e ∙ sym (ap (λ (s : SessionPhase). over (name_of s)) e)
 
 -- no request is among frames
 no_request : (A : Type 0) (said : Spoken) → said.request ≡ None → IsRequest said → A
@@ -69,29 +69,29 @@ no_request A said none some = absurd (none-some some.0 (sym none ∙ some.1))
 request_of : (one other : Spoken) → one ≡ other → one.request ≡ other.request
 request_of one other e = ap (λ (s : Spoken). s.request) e
 
-asked_over : (read : Read) (bytes : List ℕ) (said : Spoken) (new : Standing) → IsAsked bytes read said new → IsRequest said → new ≡ over (name_of new)
+asked_over : (read : Read) (bytes : List ℕ) (said : Spoken) (new : SessionPhase) → IsAsked bytes read said new → IsRequest said → new ≡ over (name_of new)
 asked_over More bytes said new is request = no_request _ said (request_of said nothing is.0) request
 asked_over (Whole whole) bytes said new is request = over_name new None is.1
 asked_over (Refused refusal) bytes said new is request = over_name new None is.1
 
-heard_frames : (name : List ℕ) (count : ℕ) (frames : List Frame) (ending : Result (List ℕ) FrameError) (lost : List ℕ) (said : Spoken) (new : Standing) →
+heard_frames : (name : List ℕ) (count : ℕ) (frames : List Frame) (ending : Result (List ℕ) FrameError) (lost : List ℕ) (said : Spoken) (new : SessionPhase) →
     IsHeardStream name count frames ending lost said new → said.request ≡ None
 heard_frames name count frames (Ok rest) [] said new is = request_of said _ is.0
 heard_frames name count frames (Ok rest) (byte ∷ lost) said new is = request_of said _ is.0
 heard_frames name count frames (Err error) lost said new is = request_of said _ is.0
 
-hears_frames : (name : List ℕ) (count : ℕ) (rest piece : List ℕ) (said : Spoken) (new : Standing) → HearsPiece name count rest piece said new → said.request ≡ None
+hears_frames : (name : List ℕ) (count : ℕ) (rest piece : List ℕ) (said : Spoken) (new : SessionPhase) → HearsPiece name count rest piece said new → said.request ≡ None
 hears_frames name count rest piece said new is = heard_frames name _ _ _ _ said new is
 
-greeted_frames : (bytes : List ℕ) (hello : Result (Option (List ℕ × ℕ)) FrameError) (said : Spoken) (new : Standing) → IsGreeted bytes hello said new → said.request ≡ None
+greeted_frames : (bytes : List ℕ) (hello : Result (Option (List ℕ × ℕ)) FrameError) (said : Spoken) (new : SessionPhase) → IsGreeted bytes hello said new → said.request ≡ None
 greeted_frames bytes (Ok None) said new is = request_of said _ is.0
 greeted_frames bytes (Ok (Some hello)) said new is = hears_frames hello.0 hello.1 [] (drop hello.1 bytes) said new is
 greeted_frames bytes (Err error) said new is = request_of said _ is.0
 
-greets_frames : (bytes : List ℕ) (said : Spoken) (new : Standing) → Greets bytes said new → said.request ≡ None
+greets_frames : (bytes : List ℕ) (said : Spoken) (new : SessionPhase) → Greets bytes said new → said.request ≡ None
 greets_frames bytes said new is = greeted_frames bytes (hello_of bytes) said new is
 
-says_over : (old : Standing) (piece : List ℕ) (said : Spoken) (new : Standing) → Says old piece said new → IsRequest said → new ≡ over (name_of new)
+says_over : (old : SessionPhase) (piece : List ℕ) (said : Spoken) (new : SessionPhase) → Says old piece said new → IsRequest said → new ≡ over (name_of new)
 says_over fresh [] said new says request = no_request _ said (request_of said nothing says.0) request
 says_over fresh (first ∷ bytes) said new says request = elim (cases_lt first 32) [
   | inl below ↦ no_request _ said (greets_frames (first ∷ bytes) said new (says.peer below)) request
@@ -102,7 +102,7 @@ says_over (InGreeting bytes) piece said new says request = no_request _ said (gr
 says_over (InFrames name count rest) piece said new says request = no_request _ said (hears_frames name count rest piece said new says) request
 says_over (over name) piece said new says request = no_request _ said (request_of said nothing says.0) request
 
-lacks_over : (old : Standing) (piece : List ℕ) (said : Spoken) (new : Standing) → LacksMemory old piece said new → new ≡ over (name_of new)
+lacks_over : (old : SessionPhase) (piece : List ℕ) (said : Spoken) (new : SessionPhase) → LacksMemory old piece said new → new ≡ over (name_of new)
 lacks_over fresh [] said new lacks = absurd lacks
 lacks_over fresh (first ∷ bytes) said new lacks = elim (cases_lt first 32) [
   | inl below ↦ let greet = lacks.peer below in over_name new greet.1.0 greet.1.1
@@ -113,7 +113,7 @@ lacks_over (InGreeting bytes) piece said new lacks = over_name new lacks.1.0 lac
 lacks_over (InFrames name count rest) piece said new lacks = over_name new (Some name) lacks.1
 lacks_over (over name) piece said new lacks = absurd lacks
 
-told_over : (old : Standing) (came : Came) (said : Spoken) (new : Standing) → Tells old came said new → IsRequest said → new ≡ over (name_of new)
+told_over : (old : SessionPhase) (came : Came) (said : Spoken) (new : SessionPhase) → Tells old came said new → IsRequest said → new ≡ over (name_of new)
 told_over old (Heard piece) said new tells request = says_over old piece said new tells request
 told_over old (FedAnyhow piece) said new (inl says) request = says_over old piece said new says request
 told_over old (FedAnyhow piece) said new (inr lacks) request = lacks_over old piece said new lacks
@@ -124,12 +124,12 @@ told_over old (Opened greeting_ frames) said new tells request = no_request _ sa
 fault_of : (one other : Spoken) → one ≡ other → one.fault ≡ other.fault
 fault_of one other e = ap (λ (s : Spoken). s.fault) e
 
-asked_sound : (read : Read) (bytes : List ℕ) (said : Spoken) (new : Standing) → IsAsked bytes read said new → said.fault ≡ None
+asked_sound : (read : Read) (bytes : List ℕ) (said : Spoken) (new : SessionPhase) → IsAsked bytes read said new → said.fault ≡ None
 asked_sound More bytes said new is = fault_of said nothing is.0
 asked_sound (Whole whole) bytes said new is = fault_of said _ is.0
 asked_sound (Refused refusal) bytes said new is = fault_of said _ is.0
 
-says_sound : (old : Standing) (piece : List ℕ) (said : Spoken) (new : Standing) → Says old piece said new → IsRequest said → said.fault ≡ None
+says_sound : (old : SessionPhase) (piece : List ℕ) (said : Spoken) (new : SessionPhase) → Says old piece said new → IsRequest said → said.fault ≡ None
 says_sound fresh [] said new says request = no_request _ said (request_of said nothing says.0) request
 says_sound fresh (first ∷ bytes) said new says request = elim (cases_lt first 32) [
   | inl below ↦ no_request _ said (greets_frames (first ∷ bytes) said new (says.peer below)) request
@@ -140,7 +140,7 @@ says_sound (InGreeting bytes) piece said new says request = no_request _ said (g
 says_sound (InFrames name count rest) piece said new says request = no_request _ said (hears_frames name count rest piece said new says) request
 says_sound (over name) piece said new says request = no_request _ said (request_of said nothing says.0) request
 
-lacks_sound : (old : Standing) (piece : List ℕ) (said : Spoken) (new : Standing) → LacksMemory old piece said new → IsRequest said → said.fault ≡ None
+lacks_sound : (old : SessionPhase) (piece : List ℕ) (said : Spoken) (new : SessionPhase) → LacksMemory old piece said new → IsRequest said → said.fault ≡ None
 lacks_sound fresh [] said new lacks request = absurd lacks
 lacks_sound fresh (first ∷ bytes) said new lacks request = elim (cases_lt first 32) [
   | inl below ↦ no_request _ said (request_of said _ (lacks.peer below).0) request
@@ -151,7 +151,7 @@ lacks_sound (InGreeting bytes) piece said new lacks request = no_request _ said 
 lacks_sound (InFrames name count rest) piece said new lacks request = no_request _ said (request_of said _ lacks.0) request
 lacks_sound (over name) piece said new lacks request = absurd lacks
 
-feeds_sound : (old : Standing) (piece : List ℕ) (said : Spoken) (new : Standing) → Feeds old piece said new → IsRequest said → said.fault ≡ None
+feeds_sound : (old : SessionPhase) (piece : List ℕ) (said : Spoken) (new : SessionPhase) → Feeds old piece said new → IsRequest said → said.fault ≡ None
 feeds_sound old piece said new (inl says) request = says_sound old piece said new says request
 feeds_sound old piece said new (inr lacks) request = lacks_sound old piece said new lacks request
 
@@ -166,7 +166,7 @@ one_read one other e = cc
 not_cut : (A : Type 0) (said : Spoken) (refusal : Refusal) → said.request ≡ Some (Refused refusal) → IsElsewhere said → A
 not_cut A said refusal is elsewhere = absurd (subst AsksElsewhere (one_read elsewhere.0 (Refused refusal) (sym elsewhere.1 ∙ is)) elsewhere.2)
 
-end_elsewhere : (A : Type 0) (old : Standing) (said : Spoken) → SaysEnd old said → IsElsewhere said → A
+end_elsewhere : (A : Type 0) (old : SessionPhase) (said : Spoken) → SaysEnd old said → IsElsewhere said → A
 end_elsewhere A fresh said says elsewhere = no_request A said (request_of said nothing says) (elsewhere_asked said elsewhere)
 end_elsewhere A (InRequest bytes) said says elsewhere = not_cut A said says.refusal (request_of said _ says.is) elsewhere
 end_elsewhere A (InGreeting bytes) said says elsewhere = no_request A said (request_of said nothing says) (elsewhere_asked said elsewhere)
@@ -195,7 +195,7 @@ exchanged_nothing name bits now fault old new answer done =
     ap (λ (s : SoFar). s.instance) (stepped_nothing name now (so_far old no_effects) (so_far new answer.effects) said.steps said.stepped)
 
 -- it is heard on, or no more
-left_rests : (fault : Option ConnectionFault) (s : Standing) → (left_at fault s ≡ s) ⊎ (left_at fault s ≡ over (name_of s))
+left_rests : (fault : Option ConnectionFault) (s : SessionPhase) → (left_at fault s ≡ s) ⊎ (left_at fault s ≡ over (name_of s))
 left_rests None s = inl refl
 left_rests (Some UnknownName) s = inr refl
 left_rests (Some (Step error)) s = inr refl
@@ -217,12 +217,12 @@ taken_lasts said old new talk talk' silent none taken =
     let same = unsaid taken.answer.reply talk.saying talk'.saying (taken.exchanged.heard silent).silent taken.saying in
     elim (left_rests taken.answer.fault talk.session) [
       | inl on ↦ inl (record {
-        stays = record { way = taken.way; session = taken.session ∙ on; waiting = taken.waiting };
+        stays = record { auth_phase = taken.auth_phase; session = taken.session ∙ on; waiting = taken.waiting };
         silent = λ was. same ∙ was;
         saying = keeps_same talk.saying talk'.saying same;
       })
       | inr ends ↦ inr (record {
-        way = taken.way;
+        auth_phase = taken.auth_phase;
         session = taken.session ∙ ends;
         waiting = no_more talk talk' none taken.waiting;
         saying = keeps_same talk.saying talk'.saying same;
@@ -249,7 +249,7 @@ silent_alone fault said old new talk talk' says none (inr (inl kept)) = no_reque
 silent_alone fault said old new talk talk' says none (inr (inr left)) = record {
   steps = left_own said old new talk talk' left;
   lasts = inr (record {
-    way = left.closes.way;
+    auth_phase = left.closes.auth_phase;
     session = left.closes.session;
     waiting = no_more talk talk' none left.closes.waiting;
     saying = left_keeps said old new talk talk' (request_of said _ says) left;
@@ -271,31 +271,31 @@ own_are : (old : InstanceState) (steps : List Happened) (new : InstanceState) �
 own_are old [] new made = tt
 own_are old (step ∷ steps) new made = (made.0, own_are step.left steps new made.2)
 
-own_life : (Is : Event → Type 0) (standings : ℕ → Standing) (old : InstanceState) (steps : List Happened) (new : InstanceState) → AreStepsOf Is old steps new →
-    IsLife standings old (own_deeds steps) new
-own_life Is standings old [] new same = same
-own_life Is standings old (step ∷ steps) new made = (made.1, own_life Is standings step.left steps new made.2)
+own_life : (Is : Event → Type 0) (session_phases : ℕ → SessionPhase) (old : InstanceState) (steps : List Happened) (new : InstanceState) → AreStepsOf Is old steps new →
+    IsLife session_phases old (own_deeds steps) new
+own_life Is session_phases old [] new same = same
+own_life Is session_phases old (step ∷ steps) new made = (made.1, own_life Is session_phases step.left steps new made.2)
 
-steps_stay : (m : ℕ) (steps : List Happened) (standings : ℕ → Standing) → (standings_in standings (own_deeds steps) m ≡ standings m) × (turns_of m (own_deeds steps) ≡ [])
-steps_stay m [] standings = (refl, refl)
-steps_stay m (step ∷ steps) standings = steps_stay m steps standings
+steps_stay : (m : ℕ) (steps : List Happened) (session_phases : ℕ → SessionPhase) → (session_phases_in session_phases (own_deeds steps) m ≡ session_phases m) × (turns_of m (own_deeds steps) ≡ [])
+steps_stay m [] session_phases = (refl, refl)
+steps_stay m (step ∷ steps) session_phases = steps_stay m steps session_phases
 
 -- what a member does by itself is for no connection
-pub acts_alone : (old new : InstanceState) → ByItself old new → (deeds : List LifeDeed) × AreOwn deeds × ((standings : ℕ → Standing) → IsLife standings old deeds new)
+pub acts_alone : (old new : InstanceState) → ByItself old new → (deeds : List LifeDeed) × AreOwn deeds × ((session_phases : ℕ → SessionPhase) → IsLife session_phases old deeds new)
 acts_alone old new own =
-    (own_deeds own.steps, own_are old own.steps new own.made, λ standings. own_life IsOwnEvent standings old own.steps new own.made)
+    (own_deeds own.steps, own_are old own.steps new own.made, λ session_phases. own_life IsOwnEvent session_phases old own.steps new own.made)
 
 -- a part of a life, behind which this is in accord
-module _ (connection : ℕ) (standings : ℕ → Standing) (old new : InstanceState) (turns : List Turn) where
-  alone : ForPages old new → (P : Standing → List Turn → Type 0) → P (standings connection) turns → LivesOn connection standings old new turns P
+module _ (connection : ℕ) (session_phases : ℕ → SessionPhase) (old new : InstanceState) (turns : List Turn) where
+  alone : ForPages old new → (P : SessionPhase → List Turn → Type 0) → P (session_phases connection) turns → LivesOn connection session_phases old new turns P
   alone own P accord =
-      let stay = steps_stay connection own.steps standings in
+      let stay = steps_stay connection own.steps session_phases in
       record {
         deeds = own_deeds own.steps;
         of = own_of connection old own.steps new own.made;
-        life = own_life IsPagingEvent standings old own.steps new own.made;
-        accord = subst (λ (s : Standing). P s (turns ++ turns_of connection (own_deeds own.steps))) (sym stay.0)
-            (subst (λ (l : List Turn). P (standings connection) l) (sym (ap (λ (l : List Turn). turns ++ l) stay.1 ∙ append-nil turns)) accord);
+        life = own_life IsPagingEvent session_phases old own.steps new own.made;
+        accord = subst (λ (s : SessionPhase). P s (turns ++ turns_of connection (own_deeds own.steps))) (sym stay.0)
+            (subst (λ (l : List Turn). P (session_phases connection) l) (sym (ap (λ (l : List Turn). turns ++ l) stay.1 ∙ append-nil turns)) accord);
       }
 
 -- ---- what was fed
@@ -309,7 +309,7 @@ bytes_more (first ∷ turns) turn =
 fed_by_turn : (fed : List ℕ) (turns : List Turn) (turn : Turn) → fed ≡ bytes_in turns ++ bytes_of turn.came → fed ≡ bytes_in (turns ++ turn ∷ []) ++ []
 fed_by_turn fed turns turn e = e ∙ (sym (bytes_more turns turn) ∙ sym (append-nil (bytes_in (turns ++ turn ∷ []))))
 
-are_fed_by_turn : (way : Way) (fed : List ℕ) (turns : List Turn) (turn : Turn) → AreFed way fed turns (bytes_of turn.came) → AreFed way fed (turns ++ turn ∷ []) []
+are_fed_by_turn : (auth_phase : AuthPhase) (fed : List ℕ) (turns : List Turn) (turn : Turn) → AreFed auth_phase fed turns (bytes_of turn.came) → AreFed auth_phase fed (turns ++ turn ∷ []) []
 are_fed_by_turn before fed turns turn e = fed_by_turn fed turns turn e
 are_fed_by_turn passing fed turns turn e = fed_by_turn fed turns turn e
 are_fed_by_turn (greeting bytes) fed turns turn e = tt
@@ -319,7 +319,7 @@ are_fed_by_turn shut fed turns turn e = tt
 fed_piece : (fed piece : List ℕ) (turns : List Turn) → fed ≡ bytes_in turns ++ [] → fed ++ piece ≡ bytes_in turns ++ piece
 fed_piece fed piece turns e = ap (λ (l : List ℕ). l ++ piece) (e ∙ append-nil (bytes_in turns))
 
-are_fed_piece : (way : Way) (fed piece : List ℕ) (turns : List Turn) → AreFed way fed turns [] → AreFed way (fed ++ piece) turns piece
+are_fed_piece : (auth_phase : AuthPhase) (fed piece : List ℕ) (turns : List Turn) → AreFed auth_phase fed turns [] → AreFed auth_phase (fed ++ piece) turns piece
 are_fed_piece before fed piece turns e = fed_piece fed piece turns e
 are_fed_piece passing fed piece turns e = fed_piece fed piece turns e
 are_fed_piece (greeting bytes) fed piece turns e = tt
@@ -327,8 +327,8 @@ are_fed_piece (sealed place out bytes) fed piece turns e = tt
 are_fed_piece shut fed piece turns e = tt
 
 -- the same, between what is the same
-along : (way way' : Way) (fed : List ℕ) (turns : List Turn) (more : List ℕ) → way' ≡ way → AreFed way fed turns more → AreFed way' fed turns more
-along way way' fed turns more same e = subst (λ (w : Way). AreFed w fed turns more) (sym same) e
+along : (auth_phase auth_phase' : AuthPhase) (fed : List ℕ) (turns : List Turn) (more : List ℕ) → auth_phase' ≡ auth_phase → AreFed auth_phase fed turns more → AreFed auth_phase' fed turns more
+along auth_phase auth_phase' fed turns more same e = subst (λ (w : AuthPhase). AreFed w fed turns more) (sym same) e
 
 -- ---- accord
 
@@ -336,9 +336,9 @@ same_session : (talk talk' : Talk) → talk.session ≡ over (name_of talk.sessi
 same_session talk talk' ended (inl idles) = idles.stays.session
 same_session talk talk' ended (inr closes) = closes.session ∙ sym ended
 
-same_way : (talk talk' : Talk) → Lasts talk talk' → talk'.way ≡ talk.way
-same_way talk talk' (inl idles) = idles.stays.way
-same_way talk talk' (inr closes) = closes.way
+same_way : (talk talk' : Talk) → Lasts talk talk' → talk'.auth_phase ≡ talk.auth_phase
+same_way talk talk' (inl idles) = idles.stays.auth_phase
+same_way talk talk' (inr closes) = closes.auth_phase
 
 no_more_waits : (talk talk' : Talk) → talk.waiting ≡ None → Lasts talk talk' → talk'.waiting ≡ None
 no_more_waits talk talk' none (inl idles) = no_more talk talk' none idles.stays.waiting
@@ -356,9 +356,9 @@ silent_owed : (owed : Owed) (saying : Saying) → saying ≡ Silent → IsOwed o
 silent_owed owed saying silent = subst (IsOwed owed) (sym silent) tt
 
 -- what is owed elsewhere stays so
-still_elsewhere : (fed : List ℕ) (standing : Standing) (turns : List Turn) (Is Then : Owed → Type 0) → ((owed : Owed) → Is owed → Then owed) →
-    HasAskedElsewhere fed standing turns Is → HasAskedElsewhere fed standing turns Then
-still_elsewhere fed standing turns Is Then on asks = record {
+still_elsewhere : (fed : List ℕ) (session_phase : SessionPhase) (turns : List Turn) (Is Then : Owed → Type 0) → ((owed : Owed) → Is owed → Then owed) →
+    HasAskedElsewhere fed session_phase turns Is → HasAskedElsewhere fed session_phase turns Then
+still_elsewhere fed session_phase turns Is Then on asks = record {
   came = asks.came;
   said = asks.said;
   left = asks.left;
@@ -371,59 +371,59 @@ still_elsewhere fed standing turns Is Then on asks = record {
 }
 
 -- where it stands
-abbrev Stands : List ℕ → Standing → List Turn → Talk → Type 0
-Stands fed standing turns talk = IsHeard talk fed standing turns ⊎ (HasAsked talk fed standing turns ⊎ IsDone talk fed standing turns)
+abbrev Stands : List ℕ → SessionPhase → List Turn → Talk → Type 0
+Stands fed session_phase turns talk = IsHeard talk fed session_phase turns ⊎ (HasAsked talk fed session_phase turns ⊎ IsDone talk fed session_phase turns)
 
-module _ (fed : List ℕ) (standing : Standing) (turns : List Turn) (talk talk' : Talk) where
-  asked_done : (asked : HasAsked talk fed standing turns) → Lasts talk talk' → talk'.waiting ≡ None → IsDone talk' fed standing turns
+module _ (fed : List ℕ) (session_phase : SessionPhase) (turns : List Turn) (talk talk' : Talk) where
+  asked_done : (asked : HasAsked talk fed session_phase turns) → Lasts talk talk' → talk'.waiting ≡ None → IsDone talk' fed session_phase turns
   asked_done asked lasts none = record {
     rest = bytes_of asked.came;
     waiting = none;
     ended = ended_on talk talk' asked.ended lasts;
-    bytes = along talk.way talk'.way fed turns (bytes_of asked.came) (same_way talk talk' lasts) asked.bytes;
+    bytes = along talk.auth_phase talk'.auth_phase fed turns (bytes_of asked.came) (same_way talk talk' lasts) asked.bytes;
     owed = inl ((keeps_saying talk talk' lasts).owed (owed_by turns) (silent_owed (owed_by turns) talk.saying asked.silent));
   }
 
-  asked_idles : (asked : HasAsked talk fed standing turns) (idles : Idles talk talk') → WaitsNoMore talk talk' → HasAsked talk' fed standing turns ⊎ IsDone talk' fed standing turns
+  asked_idles : (asked : HasAsked talk fed session_phase turns) (idles : Idles talk talk') → WaitsNoMore talk talk' → HasAsked talk' fed session_phase turns ⊎ IsDone talk' fed session_phase turns
   asked_idles asked idles (inl same) = inl (record {
     said = asked.said;
     came = asked.came;
     waiting = same ∙ asked.waiting;
     request = asked.request;
-    tells = subst (λ (s : Standing). Tells standing asked.came asked.said s) (sym idles.stays.session) asked.tells;
+    tells = subst (λ (s : SessionPhase). Tells session_phase asked.came asked.said s) (sym idles.stays.session) asked.tells;
     ended = ended_on talk talk' asked.ended (inl idles);
-    bytes = along talk.way talk'.way fed turns (bytes_of asked.came) idles.stays.way asked.bytes;
+    bytes = along talk.auth_phase talk'.auth_phase fed turns (bytes_of asked.came) idles.stays.auth_phase asked.bytes;
     plain = asked.plain;
     silent = idles.silent asked.silent;
   })
   asked_idles asked idles (inr none) = inr (asked_done asked (inl idles) none)
 
   -- what lasts stands where it stood
-  lasts_standing : Stands fed standing turns talk → Lasts talk talk' → Stands fed standing turns talk'
-  lasts_standing (inl is) (inl idles) = inl (record {
+  lasts_as_said : Stands fed session_phase turns talk → Lasts talk talk' → Stands fed session_phase turns talk'
+  lasts_as_said (inl is) (inl idles) = inl (record {
     waiting = no_more talk talk' is.waiting idles.stays.waiting;
     session = idles.stays.session ∙ is.session;
-    bytes = along talk.way talk'.way fed turns [] idles.stays.way is.bytes;
+    bytes = along talk.auth_phase talk'.auth_phase fed turns [] idles.stays.auth_phase is.bytes;
     silent = λ still. idles.silent (is.silent (λ e. still (over_name talk'.session (name_of talk.session) (idles.stays.session ∙ e))));
     owed = idles.saying.owed (owed_by turns) is.owed;
   })
-  lasts_standing (inl is) (inr closes) = inr (inr (record {
+  lasts_as_said (inl is) (inr closes) = inr (inr (record {
     rest = [];
     waiting = closes.waiting;
     ended = over_name talk'.session (name_of talk.session) closes.session;
-    bytes = along talk.way talk'.way fed turns [] closes.way is.bytes;
+    bytes = along talk.auth_phase talk'.auth_phase fed turns [] closes.auth_phase is.bytes;
     owed = inl (closes.saying.owed (owed_by turns) is.owed);
   }))
-  lasts_standing (inr (inl asked)) (inl idles) = inr (asked_idles asked idles idles.stays.waiting)
-  lasts_standing (inr (inl asked)) (inr closes) = inr (inr (asked_done asked (inr closes) closes.waiting))
-  lasts_standing (inr (inr done)) lasts = inr (inr (record {
+  lasts_as_said (inr (inl asked)) (inl idles) = inr (asked_idles asked idles idles.stays.waiting)
+  lasts_as_said (inr (inl asked)) (inr closes) = inr (inr (asked_done asked (inr closes) closes.waiting))
+  lasts_as_said (inr (inr done)) lasts = inr (inr (record {
     rest = done.rest;
     waiting = no_more_waits talk talk' done.waiting lasts;
     ended = ended_on talk talk' done.ended lasts;
-    bytes = along talk.way talk'.way fed turns done.rest (same_way talk talk' lasts) done.bytes;
+    bytes = along talk.auth_phase talk'.auth_phase fed turns done.rest (same_way talk talk' lasts) done.bytes;
     owed = elim done.owed [
       | inl owed ↦ inl ((keeps_saying talk talk' lasts).owed (owed_by turns) owed)
-      | inr asks ↦ inr (still_elsewhere fed standing turns (λ o. IsOwed o talk.saying) (λ o. IsOwed o talk'.saying) (keeps_saying talk talk' lasts).owed asks)
+      | inr asks ↦ inr (still_elsewhere fed session_phase turns (λ o. IsOwed o talk.saying) (λ o. IsOwed o talk'.saying) (keeps_saying talk talk' lasts).owed asks)
     ];
   }))
 
@@ -433,20 +433,20 @@ lasts_session talk talk' (inl idles) = inl idles.stays.session
 lasts_session talk talk' (inr closes) = inr (over_name talk'.session (name_of talk.session) closes.session)
 
 -- what went out stays in order
-same_order : (talk talk' : Talk) → talk'.way ≡ talk.way → gone_of talk'.saying ≡ gone_of talk.saying → (challenge_left talk.way ≡ []) ⊎ (gone_of talk.saying ≡ []) →
-    (challenge_left talk'.way ≡ []) ⊎ (gone_of talk'.saying ≡ [])
-same_order talk talk' way gone (inl left) = inl (ap challenge_left way ∙ left)
-same_order talk talk' way gone (inr none) = inr (gone ∙ none)
+same_order : (talk talk' : Talk) → talk'.auth_phase ≡ talk.auth_phase → gone_of talk'.saying ≡ gone_of talk.saying → (challenge_left talk.auth_phase ≡ []) ⊎ (gone_of talk.saying ≡ []) →
+    (challenge_left talk'.auth_phase ≡ []) ⊎ (gone_of talk'.saying ≡ [])
+same_order talk talk' auth_phase gone (inl left) = inl (ap challenge_left auth_phase ∙ left)
+same_order talk talk' auth_phase gone (inr none) = inr (gone ∙ none)
 
 -- what lasts stays in accord
-lasts_in_accord : (passed : Passed) (standing : Standing) (turns : List Turn) (talk talk' : Talk) → IsInAccord talk passed standing turns → Lasts talk talk' →
-    IsInAccord talk' passed standing turns
-lasts_in_accord passed standing turns talk talk' accord lasts = record {
+lasts_in_accord : (passed : Passed) (session_phase : SessionPhase) (turns : List Turn) (talk talk' : Talk) → IsInAccord talk passed session_phase turns → Lasts talk talk' →
+    IsInAccord talk' passed session_phase turns
+lasts_in_accord passed session_phase turns talk talk' accord lasts = record {
   front = accord.front;
   gone = accord.gone ∙ ap (λ (l : List ℕ). accord.front ++ l) (sym (keeps_saying talk talk' lasts).gone);
-  asked = front_on talk.way talk'.way talk.session talk'.session passed.fed accord.front (same_way talk talk' lasts) (lasts_session talk talk' lasts) accord.asked;
+  asked = front_on talk.auth_phase talk'.auth_phase talk.session talk'.session passed.fed accord.front (same_way talk talk' lasts) (lasts_session talk talk' lasts) accord.asked;
   order = same_order talk talk' (same_way talk talk' lasts) (keeps_saying talk talk' lasts).gone accord.order;
-  stands = lasts_standing passed.fed standing turns talk talk' accord.stands lasts;
+  stands = lasts_as_said passed.fed session_phase turns talk talk' accord.stands lasts;
 }
 
 -- ---- what is owed
@@ -468,7 +468,7 @@ request_where : (A : Type 0) (request : Option Read) (said : Spoken) → said.re
 request_where A None said e none some = none e
 request_where A (Some read) said e none some = some (read, e)
 
-left_over : (fault : Option ConnectionFault) (s : Standing) → s ≡ over (name_of s) → left_at fault s ≡ over (name_of (left_at fault s))
+left_over : (fault : Option ConnectionFault) (s : SessionPhase) → s ≡ over (name_of s) → left_at fault s ≡ over (name_of (left_at fault s))
 left_over fault s ended = elim (left_rests fault s) [
   | inl on ↦ over_name (left_at fault s) (name_of s) (on ∙ ended)
   | inr ends ↦ over_name (left_at fault s) (name_of s) ends
@@ -476,7 +476,7 @@ left_over fault s ended = elim (left_rests fault s) [
 
 -- ---- what is said is answered
 
-module _ (connection : ℕ) (standings : ℕ → Standing) (old new : InstanceState) (turns : List Turn) (passed : Passed) (said : Spoken) (came : Came) (talk talk' : Talk) where
+module _ (connection : ℕ) (session_phases : ℕ → SessionPhase) (old new : InstanceState) (turns : List Turn) (passed : Passed) (said : Spoken) (came : Came) (talk talk' : Talk) where
   -- the turn that it is
   abbrev turn_of : IsTaken said old talk new talk' → Turn
   turn_of taken =
@@ -488,18 +488,18 @@ module _ (connection : ℕ) (standings : ℕ → Standing) (old new : InstanceSt
     silent : talk.saying ≡ Silent
     front : List ℕ
     gone : passed.gone ≡ front ++ gone_of talk.saying
-    asked : IsFront talk.way talk.session passed.fed front
-    tells : Tells (standings connection) came said talk.session
-    are : AreFed talk.way passed.fed turns (bytes_of came)
+    asked : IsFront talk.auth_phase talk.session passed.fed front
+    tells : Tells (session_phases connection) came said talk.session
+    are : AreFed talk.auth_phase passed.fed turns (bytes_of came)
     plain : IsElsewhere said → passed.fed ≡ bytes_in turns ++ bytes_of came
 
   asked_ends : Comes → IsRequest said → talk.session ≡ over (name_of talk.session)
-  asked_ends comes request = told_over (standings connection) came said talk.session comes.tells request
+  asked_ends comes request = told_over (session_phases connection) came said talk.session comes.tells request
 
   taken_silent : (comes : Comes) (taken : IsTaken said old talk new talk') → talk'.session ≢ over (name_of talk'.session) → talk'.saying ≡ Silent
   taken_silent comes taken still = request_where (talk'.saying ≡ Silent) said.request said refl
       (λ none. unsaid taken.answer.reply talk.saying talk'.saying (taken.exchanged.heard none).silent taken.saying ∙ comes.silent)
-      (λ request. absurd (still (subst (λ (s : Standing). s ≡ over (name_of s)) (sym taken.session) (left_over taken.answer.fault talk.session (asked_ends comes request)))))
+      (λ request. absurd (still (subst (λ (s : SessionPhase). s ≡ over (name_of s)) (sym taken.session) (left_over taken.answer.fault talk.session (asked_ends comes request)))))
 
   taken_session : (taken : IsTaken said old talk new talk') → (talk'.session ≡ talk.session) ⊎ (talk'.session ≡ over (name_of talk'.session))
   taken_session taken = elim (left_rests taken.answer.fault talk.session) [
@@ -507,25 +507,25 @@ module _ (connection : ℕ) (standings : ℕ → Standing) (old new : InstanceSt
     | inr ends ↦ inr (over_name talk'.session (name_of talk.session) (taken.session ∙ ends))
   ]
 
-  taken_lives : Comes → IsTaken said old talk new talk' → LivesOn connection standings old new turns (IsInAccord talk' passed)
+  taken_lives : Comes → IsTaken said old talk new talk' → LivesOn connection session_phases old new turns (IsInAccord talk' passed)
   taken_lives comes taken =
       let turn : Turn = turn_of taken in
       record {
         deeds = Served turn ∷ [];
         of = (refl, tt);
         life = (record { tells = comes.tells; answered = taken.exchanged }, refl);
-        accord = subst (λ (s : Standing). IsInAccord talk' passed s (turns ++ turns_of connection (Served turn ∷ [])))
-            (sym (chosen_is connection connection (left_at taken.answer.fault talk.session) (standings connection) refl))
+        accord = subst (λ (s : SessionPhase). IsInAccord talk' passed s (turns ++ turns_of connection (Served turn ∷ [])))
+            (sym (chosen_is connection connection (left_at taken.answer.fault talk.session) (session_phases connection) refl))
             (subst (λ (l : List Turn). IsInAccord talk' passed (left_at taken.answer.fault talk.session) (turns ++ l)) (sym (chosen_is connection connection (turn ∷ []) [] refl))
             (record {
               front = comes.front;
               gone = comes.gone ∙ ap (λ (l : List ℕ). comes.front ++ l) (sym (begun_gone taken.answer.reply talk.saying talk'.saying taken.saying));
-              asked = front_on talk.way talk'.way talk.session talk'.session passed.fed comes.front taken.way (taken_session taken) comes.asked;
+              asked = front_on talk.auth_phase talk'.auth_phase talk.session talk'.session passed.fed comes.front taken.auth_phase (taken_session taken) comes.asked;
               order = inr (begun_gone taken.answer.reply talk.saying talk'.saying taken.saying ∙ ap gone_of comes.silent);
               stands = inl (record {
                 waiting = no_more talk talk' comes.none taken.waiting;
                 session = taken.session;
-                bytes = along talk.way talk'.way passed.fed (turns ++ turn ∷ []) [] taken.way (are_fed_by_turn talk.way passed.fed turns turn comes.are);
+                bytes = along talk.auth_phase talk'.auth_phase passed.fed (turns ++ turn ∷ []) [] taken.auth_phase (are_fed_by_turn talk.auth_phase passed.fed turns turn comes.are);
                 silent = taken_silent comes taken;
                 owed = subst (λ (o : Owed). IsOwed o talk'.saying) (sym (owed_append Line turns turn))
                     (begun_owed (owed_by turns) taken.answer.reply talk.saying talk'.saying comes.silent taken.saying);
@@ -533,30 +533,30 @@ module _ (connection : ℕ) (standings : ℕ → Standing) (old new : InstanceSt
             }));
       }
 
-  kept_lives : Comes → IsKept said old talk new talk' → LivesOn connection standings old new turns (IsInAccord talk' passed)
+  kept_lives : Comes → IsKept said old talk new talk' → LivesOn connection session_phases old new turns (IsInAccord talk' passed)
   kept_lives comes kept =
       let session : talk'.session ≡ talk.session = ap (λ (t : Talk). t.session) kept.waits in
       let silent : talk'.saying ≡ Silent = ap (λ (t : Talk). t.saying) kept.waits in
-      alone connection standings old new turns (nothing_made IsPagingEvent old new kept.same) (IsInAccord talk' passed) (record {
+      alone connection session_phases old new turns (nothing_made IsPagingEvent old new kept.same) (IsInAccord talk' passed) (record {
         front = comes.front;
         gone = comes.gone ∙ ap (λ (s : Saying). comes.front ++ gone_of s) (comes.silent ∙ sym silent);
-        asked = front_on talk.way talk'.way talk.session talk'.session passed.fed comes.front (ap (λ (t : Talk). t.way) kept.waits) (inl session) comes.asked;
+        asked = front_on talk.auth_phase talk'.auth_phase talk.session talk'.session passed.fed comes.front (ap (λ (t : Talk). t.auth_phase) kept.waits) (inl session) comes.asked;
         order = inr (ap gone_of silent);
         stands = inr (inl (record {
           said = said;
           came = came;
           waiting = ap (λ (t : Talk). t.waiting) kept.waits;
           request = kept.request;
-          tells = subst (λ (s : Standing). Tells (standings connection) came said s) (sym session) comes.tells;
+          tells = subst (λ (s : SessionPhase). Tells (session_phases connection) came said s) (sym session) comes.tells;
           ended = over_name talk'.session (name_of talk.session) (session ∙ asked_ends comes kept.request);
-          bytes = along talk.way talk'.way passed.fed turns (bytes_of came) (ap (λ (t : Talk). t.way) kept.waits) comes.are;
+          bytes = along talk.auth_phase talk'.auth_phase passed.fed turns (bytes_of came) (ap (λ (t : Talk). t.auth_phase) kept.waits) comes.are;
           plain = comes.plain;
           silent = silent;
         }));
       })
 
   left_owed : Comes → IsLeft said old talk new talk' →
-      IsOwed (owed_by turns) talk'.saying ⊎ HasAskedElsewhere passed.fed (standings connection) turns (λ o. IsOwed o talk'.saying)
+      IsOwed (owed_by turns) talk'.saying ⊎ HasAskedElsewhere passed.fed (session_phases connection) turns (λ o. IsOwed o talk'.saying)
   left_owed comes left = elim left.done [
     | inl refused ↦ inl (refused.line.owed (owed_by turns) (silent_owed (owed_by turns) talk.saying comes.silent))
     | inr done ↦ inr (record {
@@ -575,23 +575,23 @@ module _ (connection : ℕ) (standings : ℕ → Standing) (old new : InstanceSt
   left_gone : IsLeft said old talk new talk' → gone_of talk'.saying ≡ gone_of talk.saying
   left_gone left = elim left.done [ inl refused ↦ refused.line.gone | inr done ↦ done.gone ]
 
-  left_lives : Comes → IsLeft said old talk new talk' → LivesOn connection standings old new turns (IsInAccord talk' passed)
-  left_lives comes left = alone connection standings old new turns (left_own said old new talk talk' left) (IsInAccord talk' passed) (record {
+  left_lives : Comes → IsLeft said old talk new talk' → LivesOn connection session_phases old new turns (IsInAccord talk' passed)
+  left_lives comes left = alone connection session_phases old new turns (left_own said old new talk talk' left) (IsInAccord talk' passed) (record {
     front = comes.front;
     gone = comes.gone ∙ ap (λ (l : List ℕ). comes.front ++ l) (sym (left_gone left));
-    asked = front_on talk.way talk'.way talk.session talk'.session passed.fed comes.front left.closes.way
+    asked = front_on talk.auth_phase talk'.auth_phase talk.session talk'.session passed.fed comes.front left.closes.auth_phase
         (inr (over_name talk'.session (name_of talk.session) left.closes.session)) comes.asked;
     order = inr (left_gone left ∙ ap gone_of comes.silent);
     stands = inr (inr (record {
       rest = bytes_of came;
       waiting = no_more talk talk' comes.none left.closes.waiting;
       ended = over_name talk'.session (name_of talk.session) left.closes.session;
-      bytes = along talk.way talk'.way passed.fed turns (bytes_of came) left.closes.way comes.are;
+      bytes = along talk.auth_phase talk'.auth_phase passed.fed turns (bytes_of came) left.closes.auth_phase comes.are;
       owed = left_owed comes left;
     }));
   })
 
-  answered_lives : Comes → IsAnswered said old talk new talk' → LivesOn connection standings old new turns (IsInAccord talk' passed)
+  answered_lives : Comes → IsAnswered said old talk new talk' → LivesOn connection session_phases old new turns (IsInAccord talk' passed)
   answered_lives comes (inl taken) = taken_lives comes taken
   answered_lives comes (inr (inl kept)) = kept_lives comes kept
   answered_lives comes (inr (inr left)) = left_lives comes left
@@ -599,60 +599,60 @@ module _ (connection : ℕ) (standings : ℕ → Standing) (old new : InstanceSt
 -- ---- what passes an authenticator
 
 -- the session comes to stand there by something that came, whose bytes are the piece, or of which nothing is claimed
-record IsSaidBy (way : Way) (session : Standing) (piece : List ℕ) (said : Spoken) (way' : Way) (session' : Standing) : Type 0 where
+record IsSaidBy (auth_phase : AuthPhase) (session : SessionPhase) (piece : List ℕ) (said : Spoken) (auth_phase' : AuthPhase) (session' : SessionPhase) : Type 0 where
   came : Came
   tells : Tells session came said session'
-  fed : (fed : List ℕ) (turns : List Turn) → AreFed way fed turns [] → AreFed way' (fed ++ piece) turns (bytes_of came)
-  plain : IsRequest said → (fed : List ℕ) (turns : List Turn) → AreFed way fed turns [] → fed ++ piece ≡ bytes_in turns ++ bytes_of came
+  fed : (fed : List ℕ) (turns : List Turn) → AreFed auth_phase fed turns [] → AreFed auth_phase' (fed ++ piece) turns (bytes_of came)
+  plain : IsRequest said → (fed : List ℕ) (turns : List Turn) → AreFed auth_phase fed turns [] → fed ++ piece ≡ bytes_in turns ++ bytes_of came
 
 -- nothing is said, and nothing is claimed of what was fed
-record IsSilent (session : Standing) (said : Spoken) (way' : Way) (session' : Standing) : Type 0 where
+record IsSilent (session : SessionPhase) (said : Spoken) (auth_phase' : AuthPhase) (session' : SessionPhase) : Type 0 where
   fault : Option SessionFault
   says : said ≡ heard [] fault
   stands : (session' ≡ session) ⊎ (session' ≡ over (name_of session))
-  fed : (fed : List ℕ) (turns : List Turn) (more : List ℕ) → AreFed way' fed turns more
+  fed : (fed : List ℕ) (turns : List Turn) (more : List ℕ) → AreFed auth_phase' fed turns more
 
-abbrev GoesThrough : Way → Standing → List ℕ → Spoken → Way → Standing → Type 0
-GoesThrough way session piece said way' session' = IsSaidBy way session piece said way' session' ⊎ IsSilent session said way' session'
+abbrev GoesThrough : AuthPhase → SessionPhase → List ℕ → Spoken → AuthPhase → SessionPhase → Type 0
+GoesThrough auth_phase session piece said auth_phase' session' = IsSaidBy auth_phase session piece said auth_phase' session' ⊎ IsSilent session said auth_phase' session'
 
-unclaimed : (way way' : Way) → ((fed : List ℕ) (turns : List Turn) (more : List ℕ) → AreFed way fed turns more) → way' ≡ way →
-    (fed : List ℕ) (turns : List Turn) (more : List ℕ) → AreFed way' fed turns more
-unclaimed way way' are same = λ fed turns more. along way way' fed turns more same (are fed turns more)
+unclaimed : (auth_phase auth_phase' : AuthPhase) → ((fed : List ℕ) (turns : List Turn) (more : List ℕ) → AreFed auth_phase fed turns more) → auth_phase' ≡ auth_phase →
+    (fed : List ℕ) (turns : List Turn) (more : List ℕ) → AreFed auth_phase' fed turns more
+unclaimed auth_phase auth_phase' are same = λ fed turns more. along auth_phase auth_phase' fed turns more same (are fed turns more)
 
-module _ (way : Way) (session : Standing) (piece : List ℕ) (told : Told) (way' : Way) (session' : Standing) where
-  shut_unclaimed : way' ≡ shut → (fed : List ℕ) (turns : List Turn) (more : List ℕ) → AreFed way' fed turns more
-  shut_unclaimed same = unclaimed shut way' (λ fed turns more. tt) same
+module _ (auth_phase : AuthPhase) (session : SessionPhase) (piece : List ℕ) (told : AuthOutput) (auth_phase' : AuthPhase) (session' : SessionPhase) where
+  shut_unclaimed : auth_phase' ≡ shut → (fed : List ℕ) (turns : List Turn) (more : List ℕ) → AreFed auth_phase' fed turns more
+  shut_unclaimed same = unclaimed shut auth_phase' (λ fed turns more. tt) same
 
   said_of : (said : Spoken) (fault : Option AuthFault) → told ≡ record { said = said; fault = fault } → told.said ≡ said
-  said_of said fault e = ap (λ (t : Told). t.said) e
+  said_of said fault e = ap (λ (t : AuthOutput). t.said) e
 
-  turned_through : (fault : AuthFault) → IsTurnedBack fault session told way' session' → GoesThrough way session piece told.said way' session'
+  turned_through : (fault : AuthFault) → IsTurnedBack fault session told auth_phase' session' → GoesThrough auth_phase session piece told.said auth_phase' session'
   turned_through fault back = inr (record { fault = None; says = said_of nothing (Some fault) back.0; stands = inr back.2; fed = shut_unclaimed back.1 })
 
-  failed_through : (error : FrameError) → IsFailed error session told way' session' → GoesThrough way session piece told.said way' session'
+  failed_through : (error : FrameError) → IsFailed error session told auth_phase' session' → GoesThrough auth_phase session piece told.said auth_phase' session'
   failed_through error failed = inr (record { fault = _; says = said_of _ None failed.0; stands = inr failed.2; fed = shut_unclaimed failed.1 })
 
-  waits_through : (next : Way) → ((fed : List ℕ) (turns : List Turn) (more : List ℕ) → AreFed next fed turns more) → Waits next session told way' session' →
-      GoesThrough way session piece told.said way' session'
+  waits_through : (next : AuthPhase) → ((fed : List ℕ) (turns : List Turn) (more : List ℕ) → AreFed next fed turns more) → Waits next session told auth_phase' session' →
+      GoesThrough auth_phase session piece told.said auth_phase' session'
   waits_through next are waits =
-      inr (record { fault = None; says = said_of nothing None waits.0; stands = inl waits.2; fed = unclaimed next way' are waits.1 })
+      inr (record { fault = None; says = said_of nothing None waits.0; stands = inl waits.2; fed = unclaimed next auth_phase' are waits.1 })
 
   -- what was fed, where it goes on as it came
-  fed_on : ((fed : List ℕ) (turns : List Turn) → AreFed way fed turns [] → AreFed passing fed turns []) → way' ≡ passing →
-      (fed : List ℕ) (turns : List Turn) → AreFed way fed turns [] → AreFed way' (fed ++ piece) turns piece
-  fed_on opens same = λ fed turns are. along passing way' (fed ++ piece) turns piece same (are_fed_piece passing fed piece turns (opens fed turns are))
+  fed_on : ((fed : List ℕ) (turns : List Turn) → AreFed auth_phase fed turns [] → AreFed passing fed turns []) → auth_phase' ≡ passing →
+      (fed : List ℕ) (turns : List Turn) → AreFed auth_phase fed turns [] → AreFed auth_phase' (fed ++ piece) turns piece
+  fed_on opens same = λ fed turns are. along passing auth_phase' (fed ++ piece) turns piece same (are_fed_piece passing fed piece turns (opens fed turns are))
 
-  passes_through : ((fed : List ℕ) (turns : List Turn) → AreFed way fed turns [] → AreFed passing fed turns []) → PassesOn session piece told way' session' →
-      GoesThrough way session piece told.said way' session'
+  passes_through : ((fed : List ℕ) (turns : List Turn) → AreFed auth_phase fed turns [] → AreFed passing fed turns []) → PassesOn session piece told auth_phase' session' →
+      GoesThrough auth_phase session piece told.said auth_phase' session'
   passes_through opens passes = elim passes.0 [
     | inl says ↦ inl (record { came = Heard piece; tells = says; fed = fed_on opens passes.2; plain = λ asked fed turns are. fed_piece fed piece turns (opens fed turns are) })
     | inr lacks ↦ inl (record { came = FedAnyhow piece; tells = inr lacks; fed = fed_on opens passes.2; plain = λ asked fed turns are. fed_piece fed piece turns (opens fed turns are) })
   ]
 
   -- sealed frames, behind a greeting or none
-  kept_through : (greeting_ : List ℕ) (mid : Standing) (frames : List Frame) (error : Option SealError) → IsGreetedBy session greeting_ mid → told.said ≡ heard frames None →
-      ((session' ≡ mid) ⊎ (session' ≡ over (name_of mid))) → ((fed : List ℕ) (turns : List Turn) (more : List ℕ) → AreFed way' fed turns more) →
-      GoesThrough way session piece told.said way' session'
+  kept_through : (greeting_ : List ℕ) (mid : SessionPhase) (frames : List Frame) (error : Option SealError) → IsGreetedBy session greeting_ mid → told.said ≡ heard frames None →
+      ((session' ≡ mid) ⊎ (session' ≡ over (name_of mid))) → ((fed : List ℕ) (turns : List Turn) (more : List ℕ) → AreFed auth_phase' fed turns more) →
+      GoesThrough auth_phase session piece told.said auth_phase' session'
   kept_through greeting_ mid frames error met says goes_on are = inl (record {
     came = Opened greeting_ frames;
     tells = record { says = says; mid = mid; greets = met; goes_on = goes_on };
@@ -660,99 +660,99 @@ module _ (way : Way) (session : Standing) (piece : List ℕ) (told : Told) (way'
     plain = λ asked. no_request _ told.said (request_of told.said _ says) asked;
   })
 
-  sealed_unclaimed : (next : Sequence) (out : ℕ) (rest : List ℕ) → way' ≡ sealed next out rest → (fed : List ℕ) (turns : List Turn) (more : List ℕ) → AreFed way' fed turns more
-  sealed_unclaimed next out rest same = unclaimed (sealed next out rest) way' (λ fed turns more. tt) same
+  sealed_unclaimed : (next : Sequence) (out : ℕ) (rest : List ℕ) → auth_phase' ≡ sealed next out rest → (fed : List ℕ) (turns : List Turn) (more : List ℕ) → AreFed auth_phase' fed turns more
+  sealed_unclaimed next out rest same = unclaimed (sealed next out rest) auth_phase' (λ fed turns more. tt) same
 
-  goes_on_through : (greeting_ : List ℕ) (mid : Standing) (frames : List Frame) (error : Option SealError) (next : Sequence) (out : ℕ) (rest : List ℕ) →
-      IsGreetedBy session greeting_ mid → told.said ≡ heard frames None → SealedGoesOn error next out rest mid way' session' → GoesThrough way session piece told.said way' session'
+  goes_on_through : (greeting_ : List ℕ) (mid : SessionPhase) (frames : List Frame) (error : Option SealError) (next : Sequence) (out : ℕ) (rest : List ℕ) →
+      IsGreetedBy session greeting_ mid → told.said ≡ heard frames None → SealedGoesOn error next out rest mid auth_phase' session' → GoesThrough auth_phase session piece told.said auth_phase' session'
   goes_on_through greeting_ mid frames None next out rest met says on = kept_through greeting_ mid frames None met says (inl on.1) (sealed_unclaimed next out rest on.0)
   goes_on_through greeting_ mid frames (Some error) next out rest met says on = kept_through greeting_ mid frames (Some error) met says (inr on.1) (shut_unclaimed on.0)
 
-  takes_through : (lock : Lock) (sender : List ℕ) (place : Sequence) (out : ℕ) (bytes greeting_ : List ℕ) (mid : Standing) → IsGreetedBy session greeting_ mid →
-      TakesSealed lock sender place out mid bytes told way' session' → GoesThrough way session piece told.said way' session'
+  takes_through : (lock : Lock) (sender : List ℕ) (place : Sequence) (out : ℕ) (bytes greeting_ : List ℕ) (mid : SessionPhase) → IsGreetedBy session greeting_ mid →
+      TakesSealed lock sender place out mid bytes told auth_phase' session' → GoesThrough auth_phase session piece told.said auth_phase' session'
   takes_through lock sender place out bytes greeting_ mid met takes =
       goes_on_through greeting_ mid takes.0 takes.1 (after (length takes.0) place) out takes.2 met takes.4.said takes.4.goes_on
 
-  greeted_by : (lock : Lock) (name : List ℕ) (place : Sequence) (text behind : List ℕ) (is : IsGreetedSealed lock name place session text behind told way' session') (fault : Option SessionFault) →
-      is.said.fault ≡ fault → GoesThrough way session piece told.said way' session'
+  greeted_by : (lock : Lock) (name : List ℕ) (place : Sequence) (text behind : List ℕ) (is : IsGreetedSealed lock name place session text behind told auth_phase' session') (fault : Option SessionFault) →
+      is.said.fault ≡ fault → GoesThrough auth_phase session piece told.said auth_phase' session'
   greeted_by lock name place text behind is None e =
       takes_through lock name place 0 behind text is.mid (inr (is.said, is.greets, e)) (is.frames e)
   greeted_by lock name place text behind is (Some fault) e =
       let lacks = is.lacks fault e in
       inl (record {
         came = FedAnyhow text;
-        tells = subst (λ (s : Standing). Feeds session text told.said s) (sym lacks.2) (subst (λ (s : Spoken). Feeds session text s is.mid) (sym (said_of is.said None lacks.0)) is.greets);
+        tells = subst (λ (s : SessionPhase). Feeds session text told.said s) (sym lacks.2) (subst (λ (s : Spoken). Feeds session text s is.mid) (sym (said_of is.said None lacks.0)) is.greets);
         fed = λ fed turns was. shut_unclaimed lacks.1 (fed ++ piece) turns text;
         plain = λ asked. absurd (none-some fault (sym (feeds_sound session text is.said is.mid is.greets (subst IsRequest (said_of is.said None lacks.0) asked)) ∙ e));
       })
 
-  hello_through : (lock : Lock) (challenge bytes : List ℕ) (hello : Result (Option (List ℕ × ℕ)) FrameError) → GreetsBy hello lock challenge session bytes told way' session' →
-      GoesThrough way session piece told.said way' session'
+  hello_through : (lock : Lock) (challenge bytes : List ℕ) (hello : Result (Option (List ℕ × ℕ)) FrameError) → GreetsBy hello lock challenge session bytes told auth_phase' session' →
+      GoesThrough auth_phase session piece told.said auth_phase' session'
   hello_through lock challenge bytes (Ok None) waits = waits_through (greeting bytes) (λ fed turns more. tt) waits
   hello_through lock challenge bytes (Ok (Some hello)) is = greeted_by lock hello.0 (first_in challenge) (take hello.1 bytes) (drop hello.1 bytes) is is.said.fault refl
   hello_through lock challenge bytes (Err error) failed = failed_through error failed
 
-  greets_through : (lock : Lock) (challenge bytes : List ℕ) → GreetsSealed lock challenge session bytes told way' session' → GoesThrough way session piece told.said way' session'
+  greets_through : (lock : Lock) (challenge bytes : List ℕ) → GreetsSealed lock challenge session bytes told auth_phase' session' → GoesThrough auth_phase session piece told.said auth_phase' session'
   greets_through lock challenge bytes (inl by) = hello_through lock challenge bytes (hello_of bytes) by
   greets_through lock challenge bytes (inr failed) = failed_through _ failed
 
-  unseals_through : (lock : Lock) (place : Sequence) (out : ℕ) (bytes : List ℕ) (name : Option (List ℕ)) → UnsealsFrom name lock place out session bytes told way' session' →
-      GoesThrough way session piece told.said way' session'
+  unseals_through : (lock : Lock) (place : Sequence) (out : ℕ) (bytes : List ℕ) (name : Option (List ℕ)) → UnsealsFrom name lock place out session bytes told auth_phase' session' →
+      GoesThrough auth_phase session piece told.said auth_phase' session'
   unseals_through lock place out bytes None back = turned_through _ back
   unseals_through lock place out bytes (Some sender) takes = takes_through lock sender place out bytes [] session (inl (refl, refl)) takes
 
 -- a first byte passes
-module _ (session : Standing) (first : ℕ) (behind : List ℕ) (told : Told) (way' : Way) (session' : Standing) where
+module _ (session : SessionPhase) (first : ℕ) (behind : List ℕ) (told : AuthOutput) (auth_phase' : AuthPhase) (session' : SessionPhase) where
   abbrev Through : Type 0
-  Through = GoesThrough before session (first ∷ behind) told.said way' session'
+  Through = GoesThrough before session (first ∷ behind) told.said auth_phase' session'
 
-  on : PassesOn session (first ∷ behind) told way' session' → Through
-  on passes = passes_through before session (first ∷ behind) told way' session' (λ fed turns are. are) passes
+  on : PassesOn session (first ∷ behind) told auth_phase' session' → Through
+  on passes = passes_through before session (first ∷ behind) told auth_phase' session' (λ fed turns are. are) passes
 
-  back : (fault : AuthFault) → IsTurnedBack fault session told way' session' → Through
-  back fault turned = turned_through before session (first ∷ behind) told way' session' fault turned
+  back : (fault : AuthFault) → IsTurnedBack fault session told auth_phase' session' → Through
+  back fault turned = turned_through before session (first ∷ behind) told auth_phase' session' fault turned
 
-  asks_through : (kind : AcceptedProtocols) → AsksAtGate kind session (first ∷ behind) told way' session' → Through
+  asks_through : (kind : AcceptedProtocols) → AsksAtGate kind session (first ∷ behind) told auth_phase' session' → Through
   asks_through Frames turned = back _ turned
   asks_through Requests passes = on passes
   asks_through Both passes = on passes
 
-  knocks_through : (lock : Lock) (challenge : List ℕ) → Knocks lock challenge first behind session told way' session' → Through
+  knocks_through : (lock : Lock) (challenge : List ℕ) → Knocks lock challenge first behind session told auth_phase' session' → Through
   knocks_through lock challenge knocks = elim (cases_order first 1) [
-    | inl is ↦ greets_through before session (first ∷ behind) told way' session' lock challenge behind (knocks.sealed_ is)
+    | inl is ↦ greets_through before session (first ∷ behind) told auth_phase' session' lock challenge behind (knocks.sealed_ is)
     | inr (inl below) ↦ back _ (knocks.open_ (λ is. absurd (omega (arith, is, below))))
     | inr (inr above) ↦ back _ (knocks.open_ (λ is. absurd (omega (arith, is, above))))
   ]
 
-  sends_through : (kind : AcceptedProtocols) (lock : Option Lock) (challenge : List ℕ) → Sends kind lock challenge first behind session told way' session' → Through
+  sends_through : (kind : AcceptedProtocols) (lock : Option Lock) (challenge : List ℕ) → Sends kind lock challenge first behind session told auth_phase' session' → Through
   sends_through Requests lock challenge turned = back _ turned
   sends_through Frames None challenge passes = on passes
   sends_through Both None challenge passes = on passes
   sends_through Frames (Some lock) challenge knocks = knocks_through lock challenge knocks
   sends_through Both (Some lock) challenge knocks = knocks_through lock challenge knocks
 
-  begins_through : (kind : AcceptedProtocols) (lock : Option Lock) (challenge : List ℕ) → BeginsAtGate kind lock challenge first behind session told way' session' → Through
+  begins_through : (kind : AcceptedProtocols) (lock : Option Lock) (challenge : List ℕ) → BeginsAtGate kind lock challenge first behind session told auth_phase' session' → Through
   begins_through kind lock challenge begins = elim (cases_lt first 32) [
     | inl below ↦ sends_through kind lock challenge (begins.peer below)
     | inr from ↦ asks_through kind (begins.request from)
   ]
 
 -- what comes of a piece with a byte
-gate_through : (kind : AcceptedProtocols) (lock : Option Lock) (challenge : List ℕ) (way : Way) (session : Standing) (piece : List ℕ) (told : Told) (way' : Way) (session' : Standing) → piece ≢ [] →
-    Passes kind lock challenge way session piece told way' session' → GoesThrough way session piece told.said way' session'
-gate_through kind lock challenge before session [] told way' session' some passes = absurd (some refl)
-gate_through kind lock challenge before session (first ∷ behind) told way' session' some passes = begins_through session first behind told way' session' kind lock challenge passes
-gate_through kind None challenge passing session piece told way' session' some passes = passes_through passing session piece told way' session' (λ fed turns are. are) passes
-gate_through kind (Some lock) challenge passing session piece told way' session' some passes = passes_through passing session piece told way' session' (λ fed turns are. are) passes
-gate_through kind None challenge (greeting bytes) session piece told way' session' some passes = waits_through (greeting bytes) session piece told way' session' shut (λ fed turns more. tt) passes
-gate_through kind (Some lock) challenge (greeting bytes) session piece told way' session' some passes =
-    greets_through (greeting bytes) session piece told way' session' lock challenge (bytes ++ piece) passes
-gate_through kind None challenge (sealed place out bytes) session piece told way' session' some passes =
-    waits_through (sealed place out bytes) session piece told way' session' shut (λ fed turns more. tt) passes
-gate_through kind (Some lock) challenge (sealed place out bytes) session piece told way' session' some passes =
-    unseals_through (sealed place out bytes) session piece told way' session' lock place out (bytes ++ piece) (name_of session) passes
-gate_through kind None challenge shut session piece told way' session' some passes = waits_through shut session piece told way' session' shut (λ fed turns more. tt) passes
-gate_through kind (Some lock) challenge shut session piece told way' session' some passes = waits_through shut session piece told way' session' shut (λ fed turns more. tt) passes
+gate_through : (kind : AcceptedProtocols) (lock : Option Lock) (challenge : List ℕ) (auth_phase : AuthPhase) (session : SessionPhase) (piece : List ℕ) (told : AuthOutput) (auth_phase' : AuthPhase) (session' : SessionPhase) → piece ≢ [] →
+    Passes kind lock challenge auth_phase session piece told auth_phase' session' → GoesThrough auth_phase session piece told.said auth_phase' session'
+gate_through kind lock challenge before session [] told auth_phase' session' some passes = absurd (some refl)
+gate_through kind lock challenge before session (first ∷ behind) told auth_phase' session' some passes = begins_through session first behind told auth_phase' session' kind lock challenge passes
+gate_through kind None challenge passing session piece told auth_phase' session' some passes = passes_through passing session piece told auth_phase' session' (λ fed turns are. are) passes
+gate_through kind (Some lock) challenge passing session piece told auth_phase' session' some passes = passes_through passing session piece told auth_phase' session' (λ fed turns are. are) passes
+gate_through kind None challenge (greeting bytes) session piece told auth_phase' session' some passes = waits_through (greeting bytes) session piece told auth_phase' session' shut (λ fed turns more. tt) passes
+gate_through kind (Some lock) challenge (greeting bytes) session piece told auth_phase' session' some passes =
+    greets_through (greeting bytes) session piece told auth_phase' session' lock challenge (bytes ++ piece) passes
+gate_through kind None challenge (sealed place out bytes) session piece told auth_phase' session' some passes =
+    waits_through (sealed place out bytes) session piece told auth_phase' session' shut (λ fed turns more. tt) passes
+gate_through kind (Some lock) challenge (sealed place out bytes) session piece told auth_phase' session' some passes =
+    unseals_through (sealed place out bytes) session piece told auth_phase' session' lock place out (bytes ++ piece) (name_of session) passes
+gate_through kind None challenge shut session piece told auth_phase' session' some passes = waits_through shut session piece told auth_phase' session' shut (λ fed turns more. tt) passes
+gate_through kind (Some lock) challenge shut session piece told auth_phase' session' some passes = waits_through shut session piece told auth_phase' session' shut (λ fed turns more. tt) passes
 
 -- ---- calls
 
@@ -766,15 +766,15 @@ sent_owed count owed (Out reply written) was = was
 sent_silent : (count : ℕ) (saying : Saying) → saying ≡ Silent → sent_on count saying ≡ Silent
 sent_silent count saying silent = ap (sent_on count) silent
 
-module _ (fed : List ℕ) (standing : Standing) (turns : List Turn) (talk : Talk) (bytes : List ℕ) where
+module _ (fed : List ℕ) (session_phase : SessionPhase) (turns : List Turn) (talk : Talk) (bytes : List ℕ) where
   abbrev talk_sent : Talk
   talk_sent = sent_in (length bytes) talk
 
   -- of the reply
   abbrev count : ℕ
-  count = length bytes - length (challenge_left talk.way)
+  count = length bytes - length (challenge_left talk.auth_phase)
 
-  sent_fed : (way : Way) (more : List ℕ) (first : ℕ) → AreFed way fed turns more → AreFed (challenge_sent first way) fed turns more
+  sent_fed : (auth_phase : AuthPhase) (more : List ℕ) (first : ℕ) → AreFed auth_phase fed turns more → AreFed (challenge_sent first auth_phase) fed turns more
   sent_fed before more first are = are
   sent_fed passing more first are = are
   sent_fed (greeting text) more first are = are
@@ -782,35 +782,35 @@ module _ (fed : List ℕ) (standing : Standing) (turns : List Turn) (talk : Talk
   sent_fed shut more first are = are
 
   abbrev first_of : ℕ
-  first_of = min (length bytes) (length (challenge_left talk.way))
+  first_of = min (length bytes) (length (challenge_left talk.auth_phase))
 
-  sent_standing : Stands fed standing turns talk → Stands fed standing turns talk_sent
-  sent_standing (inl is) = inl (record {
+  sent_phase : Stands fed session_phase turns talk → Stands fed session_phase turns talk_sent
+  sent_phase (inl is) = inl (record {
     waiting = is.waiting;
     session = is.session;
-    bytes = sent_fed talk.way [] first_of is.bytes;
+    bytes = sent_fed talk.auth_phase [] first_of is.bytes;
     silent = λ still. sent_silent count talk.saying (is.silent still);
     owed = sent_owed count (owed_by turns) talk.saying is.owed;
   })
-  sent_standing (inr (inl asked)) = inr (inl (record {
+  sent_phase (inr (inl asked)) = inr (inl (record {
     said = asked.said;
     came = asked.came;
     waiting = asked.waiting;
     request = asked.request;
     tells = asked.tells;
     ended = asked.ended;
-    bytes = sent_fed talk.way (bytes_of asked.came) first_of asked.bytes;
+    bytes = sent_fed talk.auth_phase (bytes_of asked.came) first_of asked.bytes;
     plain = asked.plain;
     silent = sent_silent count talk.saying asked.silent;
   }))
-  sent_standing (inr (inr done)) = inr (inr (record {
+  sent_phase (inr (inr done)) = inr (inr (record {
     rest = done.rest;
     waiting = done.waiting;
     ended = done.ended;
-    bytes = sent_fed talk.way done.rest first_of done.bytes;
+    bytes = sent_fed talk.auth_phase done.rest first_of done.bytes;
     owed = elim done.owed [
       | inl owed ↦ inl (sent_owed count (owed_by turns) talk.saying owed)
-      | inr asks ↦ inr (still_elsewhere fed standing turns (λ o. IsOwed o talk.saying) (λ o. IsOwed o (sent_on count talk.saying))
+      | inr asks ↦ inr (still_elsewhere fed session_phase turns (λ o. IsOwed o talk.saying) (λ o. IsOwed o (sent_on count talk.saying))
           (λ o was. sent_owed count o talk.saying was) asks)
     ];
   }))
@@ -822,52 +822,52 @@ both fed gone = record { fed = fed; gone = gone }
 passed_same : (f f' g g' : List ℕ) → f ≡ f' → g ≡ g' → both f g ≡ both f' g'
 passed_same f f' g g' e h = ap (λ (x : List ℕ). both x g) e ∙ ap (λ (y : List ℕ). both f' y) h
 
-module _ (connection : ℕ) (standings : ℕ → Standing) (old new : InstanceState) (turns : List Turn) (passed : Passed) (talk talk' : Talk) where
+module _ (connection : ℕ) (session_phases : ℕ → SessionPhase) (old new : InstanceState) (turns : List Turn) (passed : Passed) (talk talk' : Talk) where
   -- how it goes on, behind what passed
   abbrev OnBehind : Passed → Type 0
-  OnBehind more = LivesOn connection standings old new turns (IsInAccord talk' more)
+  OnBehind more = LivesOn connection session_phases old new turns (IsInAccord talk' more)
 
   abbrev fed_more : List ℕ → Passed
   fed_more piece = both (passed.fed ++ piece) passed.gone
 
-  alone_lives : IsInAccord talk passed (standings connection) turns → IsForPages old talk new talk' → OnBehind passed
-  alone_lives accord is = alone connection standings old new turns is.steps (IsInAccord talk' passed) (lasts_in_accord passed (standings connection) turns talk talk' accord is.lasts)
+  alone_lives : IsInAccord talk passed (session_phases connection) turns → IsForPages old talk new talk' → OnBehind passed
+  alone_lives accord is = alone connection session_phases old new turns is.steps (IsInAccord talk' passed) (lasts_in_accord passed (session_phases connection) turns talk talk' accord is.lasts)
 
-  still_lives : IsInAccord talk passed (standings connection) turns → IsStill old talk new talk' → OnBehind passed
+  still_lives : IsInAccord talk passed (session_phases connection) turns → IsStill old talk new talk' → OnBehind passed
   still_lives accord is = alone_lives accord (record { steps = nothing_made IsPagingEvent old new is.same; lasts = is.lasts })
 
-  screened_lives : (piece : List ℕ) → IsInAccord talk passed (standings connection) turns → IsHeard talk passed.fed (standings connection) turns → new ≡ old → IsClosed talk talk' →
+  screened_lives : (piece : List ℕ) → IsInAccord talk passed (session_phases connection) turns → IsHeard talk passed.fed (session_phases connection) turns → new ≡ old → IsClosed talk talk' →
       OnBehind (fed_more piece)
-  screened_lives piece accord is same closes = alone connection standings old new turns (nothing_made IsPagingEvent old new same) (IsInAccord talk' (fed_more piece)) (record {
+  screened_lives piece accord is same closes = alone connection session_phases old new turns (nothing_made IsPagingEvent old new same) (IsInAccord talk' (fed_more piece)) (record {
     front = accord.front;
     gone = accord.gone ∙ ap (λ (l : List ℕ). accord.front ++ l) (sym closes.saying.gone);
-    asked = front_ends talk.way talk'.way talk.session talk'.session passed.fed piece accord.front closes.way
+    asked = front_ends talk.auth_phase talk'.auth_phase talk.session talk'.session passed.fed piece accord.front closes.auth_phase
         (over_name talk'.session (name_of talk.session) closes.session) accord.asked;
-    order = same_order talk talk' closes.way closes.saying.gone accord.order;
+    order = same_order talk talk' closes.auth_phase closes.saying.gone accord.order;
     stands = inr (inr (record {
       rest = piece;
       waiting = closes.waiting;
       ended = over_name talk'.session (name_of talk.session) closes.session;
-      bytes = along talk.way talk'.way (passed.fed ++ piece) turns piece closes.way (are_fed_piece talk.way passed.fed piece turns is.bytes);
+      bytes = along talk.auth_phase talk'.auth_phase (passed.fed ++ piece) turns piece closes.auth_phase (are_fed_piece talk.auth_phase passed.fed piece turns is.bytes);
       owed = inl (closes.saying.owed (owed_by turns) is.owed);
     }));
   })
 
   -- it is behind its authenticator
-  abbrev behind_gate : Way → Standing → Talk
-  behind_gate way session = record talk { way = way; session = session }
+  abbrev behind_gate : AuthPhase → SessionPhase → Talk
+  behind_gate auth_phase session = record talk { auth_phase = auth_phase; session = session }
 
-  silent_standing : (piece : List ℕ) (said : Spoken) (way : Way) (session : Standing) → IsHeard talk passed.fed (standings connection) turns → talk.saying ≡ Silent → IsSilent talk.session said way session →
+  silent_phase : (piece : List ℕ) (said : Spoken) (auth_phase : AuthPhase) (session : SessionPhase) → IsHeard talk passed.fed (session_phases connection) turns → talk.saying ≡ Silent → IsSilent talk.session said auth_phase session →
       ((session ≡ talk.session) ⊎ (session ≡ over (name_of talk.session))) →
-      Stands (passed.fed ++ piece) (standings connection) turns (behind_gate way session)
-  silent_standing piece said way session is quiet silent (inl same) = inl (record {
+      Stands (passed.fed ++ piece) (session_phases connection) turns (behind_gate auth_phase session)
+  silent_phase piece said auth_phase session is quiet silent (inl same) = inl (record {
     waiting = is.waiting;
     session = same ∙ is.session;
     bytes = silent.fed (passed.fed ++ piece) turns [];
     silent = λ still. quiet;
     owed = is.owed;
   })
-  silent_standing piece said way session is quiet silent (inr ends) = inr (inr (record {
+  silent_phase piece said auth_phase session is quiet silent (inr ends) = inr (inr (record {
     rest = [];
     waiting = is.waiting;
     ended = over_name session (name_of talk.session) ends;
@@ -875,50 +875,50 @@ module _ (connection : ℕ) (standings : ℕ → Standing) (old new : InstanceSt
     owed = inl is.owed;
   }))
 
-  let_in_lives : (lock : Option Lock) (piece : List ℕ) (accord : IsInAccord talk passed (standings connection) turns) → IsHeard talk passed.fed (standings connection) turns → talk.saying ≡ Silent →
-      (let_in : IsLetIn lock piece old talk new talk') → IsFront let_in.way let_in.session (passed.fed ++ piece) accord.front →
-      GoesThrough talk.way talk.session piece let_in.told.said let_in.way let_in.session → OnBehind (fed_more piece)
+  let_in_lives : (lock : Option Lock) (piece : List ℕ) (accord : IsInAccord talk passed (session_phases connection) turns) → IsHeard talk passed.fed (session_phases connection) turns → talk.saying ≡ Silent →
+      (let_in : IsLetIn lock piece old talk new talk') → IsFront let_in.auth_phase let_in.session (passed.fed ++ piece) accord.front →
+      GoesThrough talk.auth_phase talk.session piece let_in.told.said let_in.auth_phase let_in.session → OnBehind (fed_more piece)
   let_in_lives lock piece accord is quiet let_in front (inl said) =
-      answered_lives connection standings old new turns (fed_more piece) let_in.told.said said.came (behind_gate let_in.way let_in.session) talk'
+      answered_lives connection session_phases old new turns (fed_more piece) let_in.told.said said.came (behind_gate let_in.auth_phase let_in.session) talk'
       (record {
         none = is.waiting;
         silent = quiet;
         front = accord.front;
         gone = accord.gone;
         asked = front;
-        tells = subst (λ (s : Standing). Tells s said.came let_in.told.said let_in.session) is.session said.tells;
+        tells = subst (λ (s : SessionPhase). Tells s said.came let_in.told.said let_in.session) is.session said.tells;
         are = said.fed passed.fed turns is.bytes;
         plain = λ elsewhere. said.plain (elsewhere_asked let_in.told.said elsewhere) passed.fed turns is.bytes;
       }) let_in.answered
   let_in_lives lock piece accord is quiet let_in front (inr silent) =
-      let alone_ = silent_alone silent.fault let_in.told.said old new (behind_gate let_in.way let_in.session) talk' silent.says is.waiting let_in.answered in
-      alone connection standings old new turns alone_.steps (IsInAccord talk' (fed_more piece))
-      (lasts_in_accord (fed_more piece) (standings connection) turns (behind_gate let_in.way let_in.session) talk'
-      (record { front = accord.front; gone = accord.gone; asked = front; order = inr (ap gone_of quiet); stands = silent_standing piece let_in.told.said let_in.way let_in.session is quiet silent silent.stands }) alone_.lasts)
+      let alone_ = silent_alone silent.fault let_in.told.said old new (behind_gate let_in.auth_phase let_in.session) talk' silent.says is.waiting let_in.answered in
+      alone connection session_phases old new turns alone_.steps (IsInAccord talk' (fed_more piece))
+      (lasts_in_accord (fed_more piece) (session_phases connection) turns (behind_gate let_in.auth_phase let_in.session) talk'
+      (record { front = accord.front; gone = accord.gone; asked = front; order = inr (ap gone_of quiet); stands = silent_phase piece let_in.told.said let_in.auth_phase let_in.session is quiet silent silent.stands }) alone_.lasts)
 
-  fed_lives : (lock : Option Lock) (piece : List ℕ) → IsInAccord talk passed (standings connection) turns → IsFed lock piece old talk new talk' → OnBehind (fed_more piece)
+  fed_lives : (lock : Option Lock) (piece : List ℕ) → IsInAccord talk passed (session_phases connection) turns → IsFed lock piece old talk new talk' → OnBehind (fed_more piece)
   fed_lives lock piece accord call = elim accord.stands [
     | inl is ↦ elim call.comes [
       | inl screened ↦ screened_lives piece accord is screened.0 screened.1
       | inr let_in ↦ let_in_lives lock piece accord is (is.silent call.open_) let_in
-          (gate_fronts let_in.accepts lock let_in.challenge talk.way talk.session piece let_in.told let_in.way let_in.session passed.fed accord.front let_in.long
+          (gate_fronts let_in.accepts lock let_in.challenge talk.auth_phase talk.session piece let_in.told let_in.auth_phase let_in.session passed.fed accord.front let_in.long
           call.has_byte call.open_ let_in.passes accord.asked)
-          (gate_through let_in.accepts lock let_in.challenge talk.way talk.session piece let_in.told let_in.way let_in.session call.has_byte let_in.passes)
+          (gate_through let_in.accepts lock let_in.challenge talk.auth_phase talk.session piece let_in.told let_in.auth_phase let_in.session call.has_byte let_in.passes)
     ]
     | inr (inl asked) ↦ absurd (call.open_ asked.ended)
     | inr (inr done) ↦ absurd (call.open_ done.ended)
   ]
 
-  ended_lives : IsInAccord talk passed (standings connection) turns → IsEnded old talk new talk' → OnBehind passed
+  ended_lives : IsInAccord talk passed (session_phases connection) turns → IsEnded old talk new talk' → OnBehind passed
   ended_lives accord call = elim accord.stands [
-    | inl is ↦ answered_lives connection standings old new turns passed call.said AtEnd (record talk { session = over (name_of talk.session) }) talk'
+    | inl is ↦ answered_lives connection session_phases old new turns passed call.said AtEnd (record talk { session = over (name_of talk.session) }) talk'
         (record {
           none = is.waiting;
           silent = is.silent call.open_;
           front = accord.front;
           gone = accord.gone;
-          asked = front_on talk.way talk.way talk.session (over (name_of talk.session)) passed.fed accord.front refl (inr refl) accord.asked;
-          tells = subst (λ (s : Standing). Tells s AtEnd call.said (over (name_of talk.session))) is.session (call.says, refl);
+          asked = front_on talk.auth_phase talk.auth_phase talk.session (over (name_of talk.session)) passed.fed accord.front refl (inr refl) accord.asked;
+          tells = subst (λ (s : SessionPhase). Tells s AtEnd call.said (over (name_of talk.session))) is.session (call.says, refl);
           are = is.bytes;
           plain = λ elsewhere. end_elsewhere _ talk.session call.said call.says elsewhere;
         }) call.answered
@@ -932,30 +932,30 @@ module _ (connection : ℕ) (standings : ℕ → Standing) (old new : InstanceSt
   called_on : taken_up None → IsCalledOn old talk new talk'
   called_on call = call
 
-  resumed_lives : IsInAccord talk passed (standings connection) turns → IsTakenUp talk.waiting old talk new talk' → OnBehind passed
+  resumed_lives : IsInAccord talk passed (session_phases connection) turns → IsTakenUp talk.waiting old talk new talk' → OnBehind passed
   resumed_lives accord call = elim accord.stands [
     | inl is ↦ alone_lives accord (called_on (subst taken_up is.waiting call)).pages
-    | inr (inl asked) ↦ answered_lives connection standings old new turns passed asked.said asked.came (record talk { waiting = None }) talk'
+    | inr (inl asked) ↦ answered_lives connection session_phases old new turns passed asked.said asked.came (record talk { waiting = None }) talk'
         (record { none = refl; silent = asked.silent; front = accord.front; gone = accord.gone; asked = accord.asked; tells = asked.tells; are = asked.bytes; plain = asked.plain })
         (subst taken_up asked.waiting call asked.request)
     | inr (inr done) ↦ alone_lives accord (called_on (subst taken_up done.waiting call)).pages
   ]
 
-  sent_lives : (bytes : List ℕ) → IsInAccord talk passed (standings connection) turns → IsSent bytes old talk new talk' → OnBehind (both passed.fed (passed.gone ++ bytes))
-  sent_lives bytes accord call = alone connection standings old new turns (nothing_made IsPagingEvent old new call.same) (IsInAccord talk' (both passed.fed (passed.gone ++ bytes)))
-      (subst (λ (t : Talk). IsInAccord t (both passed.fed (passed.gone ++ bytes)) (standings connection) turns) (sym call.sent) (record {
+  sent_lives : (bytes : List ℕ) → IsInAccord talk passed (session_phases connection) turns → IsSent bytes old talk new talk' → OnBehind (both passed.fed (passed.gone ++ bytes))
+  sent_lives bytes accord call = alone connection session_phases old new turns (nothing_made IsPagingEvent old new call.same) (IsInAccord talk' (both passed.fed (passed.gone ++ bytes)))
+      (subst (λ (t : Talk). IsInAccord t (both passed.fed (passed.gone ++ bytes)) (session_phases connection) turns) (sym call.sent) (record {
         front = front_then bytes talk passed.fed accord.front passed.gone accord.gone accord.asked accord.order call.first;
         gone = gone_then bytes talk passed.fed accord.front passed.gone accord.gone accord.asked accord.order call.first;
         asked = asked_then bytes talk passed.fed accord.front passed.gone accord.gone accord.asked accord.order call.first;
         order = order_then bytes talk passed.fed accord.front passed.gone accord.gone accord.asked accord.order call.first;
-        stands = sent_standing passed.fed (standings connection) turns talk bytes accord.stands;
+        stands = sent_phase passed.fed (session_phases connection) turns talk bytes accord.stands;
       }))
 
   nothing_more : OnBehind passed → OnBehind (passed_on passed [])
   nothing_more on = subst OnBehind (passed_same passed.fed (passed.fed ++ []) passed.gone (passed.gone ++ []) (sym (append-nil passed.fed)) (sym (append-nil passed.gone))) on
 
   -- a call for a connection is turns of it, and steps that the member makes by itself
-  pub does_lives : (lock : Option Lock) (deed : Deed) → IsInAccord talk passed (standings connection) turns → Does lock deed old talk new talk' → OnBehind (passed_on passed (deed ∷ []))
+  pub does_lives : (lock : Option Lock) (deed : Deed) → IsInAccord talk passed (session_phases connection) turns → Does lock deed old talk new talk' → OnBehind (passed_on passed (deed ∷ []))
   does_lives lock (Fed piece) accord call = subst OnBehind (passed_same _ _ _ _ (ap (λ (l : List ℕ). passed.fed ++ l) (sym (append-nil piece))) (sym (append-nil passed.gone))) (fed_lives lock piece accord call)
   does_lives lock Ended accord call = nothing_more (ended_lives accord call)
   does_lives lock Resumed accord call = nothing_more (resumed_lives accord call)
@@ -978,31 +978,31 @@ none_replied = record { front = []; rest = []; gone = refl; asked = inl refl; re
 first_taken : (written : ℕ) (bytes : List ℕ) → IsFirstPart (take written bytes) bytes
 first_taken written bytes = sym (ap (λ n. take n bytes) (length-take written bytes) ∙ take_min written bytes)
 
-module _ (passed : Passed) (standing : Standing) (turns : List Turn) where
+module _ (passed : Passed) (session_phase : SessionPhase) (turns : List Turn) where
   -- what is replied of one that is owed
   abbrev Replies : Saying → Type 0
-  Replies saying = (gone_of saying ≡ []) ⊎ ((reply : ResponseBytes) × IsFirstPart (gone_of saying) (reply_bytes reply) × IsMeantFor passed.fed standing turns reply)
+  Replies saying = (gone_of saying ≡ []) ⊎ ((reply : ResponseBytes) × IsFirstPart (gone_of saying) (reply_bytes reply) × IsMeantFor passed.fed session_phase turns reply)
 
-  owed_replied : (saying : Saying) → IsOwed (owed_by turns) saying ⊎ HasAskedElsewhere passed.fed standing turns (λ o. IsOwed o saying) → Replies saying
+  owed_replied : (saying : Saying) → IsOwed (owed_by turns) saying ⊎ HasAskedElsewhere passed.fed session_phase turns (λ o. IsOwed o saying) → Replies saying
   owed_replied Silent owed = inl refl
   owed_replied (Making making) owed = inl refl
   owed_replied (Elsewhere call) owed = inl refl
   owed_replied (HeldBack reply) owed = inl refl
   owed_replied (Out reply written) owed = inr (reply, first_taken written (reply_bytes reply), owed)
 
-  stands_replied : (talk : Talk) → Stands passed.fed standing turns talk → Replies talk.saying
+  stands_replied : (talk : Talk) → Stands passed.fed session_phase turns talk → Replies talk.saying
   stands_replied talk (inl is) = owed_replied talk.saying (inl is.owed)
   stands_replied talk (inr (inl asked)) = inl (ap gone_of asked.silent)
   stands_replied talk (inr (inr done)) = owed_replied talk.saying done.owed
 
 -- what went out over a connection in accord is of one reply, and of the right one, but for its challenge before
-pub replied_in_accord : (talk : Talk) (passed : Passed) (standing : Standing) (turns : List Turn) → IsInAccord talk passed standing turns → IsReplied passed standing turns
-replied_in_accord talk passed standing turns accord = record {
+pub replied_in_accord : (talk : Talk) (passed : Passed) (session_phase : SessionPhase) (turns : List Turn) → IsInAccord talk passed session_phase turns → IsReplied passed session_phase turns
+replied_in_accord talk passed session_phase turns accord = record {
   front = accord.front;
   rest = gone_of talk.saying;
   gone = accord.gone;
-  asked = front_bound talk.way talk.session passed.fed accord.front accord.asked;
-  replied = stands_replied passed standing turns talk accord.stands;
+  asked = front_bound talk.auth_phase talk.session passed.fed accord.front accord.asked;
+  replied = stands_replied passed session_phase turns talk accord.stands;
 }
 
 -- ---- calls that are for no session

@@ -49,7 +49,7 @@ pub record IsTaken (said : Spoken) (old : InstanceState) (talk : Talk) (new : In
   pub now : ℕ
   pub answer : SessionAnswer
   pub exchanged : IsSessionAnswer (name_of talk.session) bits now (deferred said) old new answer
-  pub way : talk'.way ≡ talk.way
+  pub auth_phase : talk'.auth_phase ≡ talk.auth_phase
   pub session : talk'.session ≡ left_at answer.fault talk.session
   pub waiting : WaitsNoMore talk talk'
   pub saying : SaysBy answer.reply talk.saying talk'.saying

@@ -1,15 +1,15 @@
 -- The answers to calls of programs that send pages, and how far each of them has come.
 use Rattle.std.specs.Prelude.{◌≡◌, ◌⊎◌, ℕ, List, ◌++◌, map, Option, None, Some, Result, Ok, Err, codes, ⊤}
 use Rattle.std.specs.List.{AllByRecursion}
-use Rattle.am_api_decisions.specs.Asked.{IsAsked}
+use Rattle.am_api_decisions.specs.ParsedCalls.{IsAsked}
 use Rattle.am_api_decisions.specs.Asking.{AskedAlert, HoldsSame, IsMutesStep, counted_with, nothing_counted}
 use Rattle.am_api_decisions.specs.Deciding.{Underway, group_of}
 use Rattle.am_api_decisions.specs.Entries.{log_bytes}
 use Rattle.am_api_decisions.specs.Noticing.{IsNoticed}
 use Rattle.am_api_decisions.specs.Settling.{IsBrokenOff, IsDecided}
-use Rattle.am_api_decisions.specs.declared.asked.Asked.{Asked}
-use Rattle.am_api_decisions.specs.declared.asked.Asked.TheVariants as asks
-use Rattle.am_api_decisions.specs.declared.asked.Question.{Question}
+use Rattle.am_api_decisions.specs.declared.parsed_call.ParsedCall.{ParsedCall}
+use Rattle.am_api_decisions.specs.declared.parsed_call.ParsedCall.TheVariants as asks
+use Rattle.am_api_decisions.specs.declared.parsed_call.Question.{Question}
 use Rattle.am_api_decisions.specs.declared.timing.Timing.{Timing}
 use Rattle.am_api_silences.specs.Replies.{Says, bytes_of, line_bytes}
 use Rattle.am_api_silences.specs.declared.replies.ResponseBytes.{ResponseBytes}
@@ -58,7 +58,7 @@ abbrev pub ListsLog : ResponseBytes → Type 0
 ListsLog reply = (now : ℕ) × (stand : InstanceState) × Says (λ bytes. bytes ≡ log_bytes (log_in_view now stand.log)) reply
 
 -- The reply answers what a request asks, between these states, or is the line of its fault. Of the recent alerts nothing is said.
-abbrev pub AnswersAsked : Result Asked Refusal → InstanceState → ResponseBytes → InstanceState → Type 0
+abbrev pub AnswersAsked : Result ParsedCall Refusal → InstanceState → ResponseBytes → InstanceState → Type 0
 AnswersAsked (Ok (asks.Decide question)) old reply new = AnswersQuestion question old reply new
 AnswersAsked (Ok (asks.Notified notice)) old reply new = AnswersNotice notice old reply new
 AnswersAsked (Ok asks.Log) old reply new = ListsLog reply
@@ -67,7 +67,7 @@ AnswersAsked (Err refusal) old reply new = Says (λ bytes. bytes ≡ line_bytes 
 
 -- The reply answers the request, by what that asks.
 abbrev pub IsAnswer : Request → InstanceState → ResponseBytes → InstanceState → Type 0
-IsAnswer request old reply new = (what : Result Asked Refusal) × IsAsked request what × AnswersAsked what old reply new
+IsAnswer request old reply new = (what : Result ParsedCall Refusal) × IsAsked request what × AnswersAsked what old reply new
 
 -- why a call is turned away: the member stops, or too many wait
 pub data CallCause : Type 0 where

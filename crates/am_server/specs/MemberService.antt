@@ -1,8 +1,8 @@
 -- The history of a loop, as a member's life.
 use Rattle.std.specs.Prelude.{◌≡◌, ◌⊎◌, ◌==◌, ℕ, ◌+◌, ◌<◌, ◌≤◌, false, List, [], ◌∷◌, ◌++◌, Option, Some, ⊤, if◌then◌else◌}
-use Rattle.am_http.specs.Sessions.{Standing, fresh}
+use Rattle.am_http.specs.Sessions.{SessionPhase, fresh}
 use Rattle.am_instance.specs.InstanceStates.{InstanceState}
-use Rattle.am_member.specs.Lives.{Deed as LifeDeed, IsLife, IsOwnEvent, IsPagingEvent, Turn, standings_in, turns_of}
+use Rattle.am_member.specs.Lives.{Deed as LifeDeed, IsLife, IsOwnEvent, IsPagingEvent, Turn, session_phases_in, turns_of}
 use Rattle.am_member.specs.Lives.Deed.{Served, Own}
 use Rattle.am_reactor.specs.declared.service.Service.{Ghosts as Service}
 use Rattle.am_reactor.specs.Deeds.{Deed}
@@ -75,17 +75,17 @@ OwnsItsOwn (Own step ∷ deeds) = (IsOwnEvent step.event ⊎ IsPagingEvent step.
 pub record ActsAlone {S : Type 0} (instance_of : S → InstanceState) (service service' : S) : Type 0 where
   pub deeds : List LifeDeed
   pub own : AreOwn deeds
-  pub life : (standings : ℕ → Standing) → IsLife standings (instance_of service) deeds (instance_of service')
+  pub life : (session_phases : ℕ → SessionPhase) → IsLife session_phases (instance_of service) deeds (instance_of service')
 
 -- Turns of one connection, after these, and steps for a program that sends pages lead the instance on, after which the connection is
 -- in accord.
-pub record LivesOn (connection : ℕ) (standings : ℕ → Standing) (old new : InstanceState) (turns : List Turn) (IsInAccord : Standing → List Turn → Type 0) : Type 0 where
+pub record LivesOn (connection : ℕ) (session_phases : ℕ → SessionPhase) (old new : InstanceState) (turns : List Turn) (IsInAccord : SessionPhase → List Turn → Type 0) : Type 0 where
   pub deeds : List LifeDeed
   pub of : AreOf connection deeds
-  pub life : IsLife standings old deeds new
-  pub accord : IsInAccord (standings_in standings deeds connection) (turns ++ turns_of connection deeds)
+  pub life : IsLife session_phases old deeds new
+  pub accord : IsInAccord (session_phases_in session_phases deeds connection) (turns ++ turns_of connection deeds)
 
-module _ {S T : Type 0} (instance_of : S → InstanceState) (accords : T → Passed → Standing → List Turn → Type 0) where
+module _ {S T : Type 0} (instance_of : S → InstanceState) (accords : T → Passed → SessionPhase → List Turn → Type 0) where
   -- A session begins with a connection over which nothing came.
   pub record BeginsFresh (service : S) (session : T) (service' : S) : Type 0 where
     pub same : instance_of service' ≡ instance_of service
@@ -94,8 +94,8 @@ module _ {S T : Type 0} (instance_of : S → InstanceState) (accords : T → Pas
   -- A call for a session is turns of its connection, whichever that is, and steps for a program that sends pages.
   abbrev pub DoesForOne : S → T → Deed → S → T → Type 0
   DoesForOne service session deed service' session' =
-      (connection : ℕ) (standings : ℕ → Standing) (passed : Passed) (turns : List Turn) → accords session passed (standings connection) turns
-      → LivesOn connection standings (instance_of service) (instance_of service') turns (accords session' (passed_on passed (deed ∷ [])))
+      (connection : ℕ) (session_phases : ℕ → SessionPhase) (passed : Passed) (turns : List Turn) → accords session passed (session_phases connection) turns
+      → LivesOn connection session_phases (instance_of service) (instance_of service') turns (accords session' (passed_on passed (deed ∷ [])))
 
 -- ---- the history of a loop, as a life
 
@@ -115,14 +115,14 @@ pub record IsCarried {T C : Type 0} (arrived : C → Arrival) (gone : C → List
 -- its number, and these bytes are those of its stream. No two have the same number, and each number was already given; nothing
 -- passed over connections whose number wasn't. For each connection that ever came, `is_so` holds of the bytes that passed over
 -- it, of how far it came and of its turns.
-pub record Accords {T C : Type 0} (arrived : C → Arrival) (gone : C → List ℕ) (accords : T → Passed → Standing → List Turn → Type 0) (is_so : Passed → Standing → List Turn → Type 0) (count : ℕ) (numbers : ℕ → ℕ)
-    (passed : ℕ → Passed) (standings : ℕ → Standing) (turns : ℕ → List Turn) (lines : ℕ → Option (Line T C)) : Type 0 where
-  pub each : (key : ℕ) (line : Line T C) → lines key ≡ Some line → accords line.session (passed (numbers key)) (standings (numbers key)) (turns (numbers key))
+pub record Accords {T C : Type 0} (arrived : C → Arrival) (gone : C → List ℕ) (accords : T → Passed → SessionPhase → List Turn → Type 0) (is_so : Passed → SessionPhase → List Turn → Type 0) (count : ℕ) (numbers : ℕ → ℕ)
+    (passed : ℕ → Passed) (session_phases : ℕ → SessionPhase) (turns : ℕ → List Turn) (lines : ℕ → Option (Line T C)) : Type 0 where
+  pub each : (key : ℕ) (line : Line T C) → lines key ≡ Some line → accords line.session (passed (numbers key)) (session_phases (numbers key)) (turns (numbers key))
   pub carried : (key : ℕ) (line : Line T C) → lines key ≡ Some line → IsCarried arrived gone (passed (numbers key)) line
   pub given : (key : ℕ) → StandsUnder lines key → numbers key < count
   pub apart : (one other : ℕ) → StandsUnder lines one → StandsUnder lines other → numbers one ≡ numbers other → one ≡ other
-  pub unused : (number : ℕ) → count ≤ number → (passed number ≡ nothing_passed) × (standings number ≡ fresh) × (turns number ≡ [])
-  pub ever : (number : ℕ) → is_so (passed number) (standings number) (turns number)
+  pub unused : (number : ℕ) → count ≤ number → (passed number ≡ nothing_passed) × (session_phases number ≡ fresh) × (turns number ≡ [])
+  pub ever : (number : ℕ) → is_so (passed number) (session_phases number) (turns number)
 
 -- the number of connections that came, after these happenings
 abbrev pub count_by : ℕ → List Happening → ℕ
@@ -132,15 +132,15 @@ count_by count (happening ∷ happenings) = count_by (count_after count happenin
 -- The history of a loop is the life of a member: turns of its connections, each by its number, and steps that the member made by
 -- itself or for a program that sends pages, lead its instance from where it stood to where it stands.
 pub record IsLived {S T C : Type 0} (arrived : C → Arrival) (gone : C → List ℕ) (instance_of : S → InstanceState)
-    (accords : T → Passed → Standing → List Turn → Type 0) (is_so : Passed → Standing → List Turn → Type 0) (first : S) (happenings : List Happening) (service : S) (lines : ℕ → Option (Line T C)) : Type 0 where
+    (accords : T → Passed → SessionPhase → List Turn → Type 0) (is_so : Passed → SessionPhase → List Turn → Type 0) (first : S) (happenings : List Happening) (service : S) (lines : ℕ → Option (Line T C)) : Type 0 where
   pub deeds : List LifeDeed
   pub life : IsLife (λ _. fresh) (instance_of first) deeds (instance_of service)
   pub own : OwnsItsOwn deeds
   pub accord : Accords arrived gone accords is_so (count_by 0 happenings) (numbers_by 0 (λ _. 0) happenings) (passed_by 0 (λ _. 0) (λ _. nothing_passed) happenings)
-      (standings_in (λ _. fresh) deeds) (λ connection. turns_of connection deeds) lines
+      (session_phases_in (λ _. fresh) deeds) (λ connection. turns_of connection deeds) lines
 
 module _ {S T C : Type 0} (law : Service S T) (acts : S → S → Type 0) (arrived : C → Arrival) (gone : C → List ℕ) (instance_of : S → InstanceState)
-    (accords : T → Passed → Standing → List Turn → Type 0) (is_so : Passed → Standing → List Turn → Type 0) (first : S) where
+    (accords : T → Passed → SessionPhase → List Turn → Type 0) (is_so : Passed → SessionPhase → List Turn → Type 0) (first : S) where
   -- At each moment of a history, behind what had happened before, that is the life of a member.
   abbrev pub IsAlwaysLived : (before : List Happening) (service : S) (lines : ℕ → Option (Line T C)) (happenings : List Happening) (service' : S)
       (lines' : ℕ → Option (Line T C)) → Happens law acts arrived gone service lines happenings service' lines' → Type 0

@@ -8,7 +8,7 @@ use Rattle.am_api_silences.specs.declared.reply_builder.ReplyBuilder.{ReplyBuild
 use Rattle.am_api_silences.specs.declared.replies.ResponseBytes.{ResponseBytes}
 use Rattle.am_api_status.specs.Calls.{path_at}
 use Rattle.am_api_status.specs.declared.routes.StatusResource.{StatusResource}
-use Rattle.am_peer_auth.specs.Authenticators.{Way, challenge_left, challenge_sent}
+use Rattle.am_peer_auth.specs.Authenticators.{AuthPhase, challenge_left, challenge_sent}
 use Rattle.am_http.specs.Hosts.{line_of_foreign}
 use Rattle.am_http.specs.Lines.{RefusalLine, line, line_of}
 use Rattle.am_http.specs.Paths.{path_of}
@@ -18,7 +18,7 @@ use Rattle.am_http.specs.declared.hosts.Screened.TheVariants.{Foreign as Foreign
 use Rattle.am_http.specs.declared.request.Read.{Read}
 use Rattle.am_http.specs.declared.request.Read.TheVariants.{Whole}
 use Rattle.am_http.specs.declared.request.Request.{Request}
-use Rattle.am_http.specs.Sessions.{Screens, Spoken, Standing, name_of, over, spoken}
+use Rattle.am_http.specs.Sessions.{Screens, Spoken, SessionPhase, name_of, over, spoken}
 use Rattle.am_instance.specs.InstanceStates.{InstanceState}
 use Rattle.am_silence.specs.declared.error.SilenceError.TheVariants.{BadPattern}
 use Rattle.am_server.specs.Calls.{IsAnswer, IsProgressOf, IsTurnedAway}
@@ -91,7 +91,7 @@ abbrev pub IsLine : ResponseBytes → Type 0
 IsLine reply = (told : RefusalLine) × IsOwnLine told × (bytes_of reply ≡ line_bytes told)
 
 -- The line says that what comes with this piece names a host or an origin that is none of these, or that memory ran out.
-abbrev pub IsScreenedBy : Standing → List ℕ → List (List ℕ) → RefusalLine → Type 0
+abbrev pub IsScreenedBy : SessionPhase → List ℕ → List (List ℕ) → RefusalLine → Type 0
 IsScreenedBy session piece names told =
     ((what : Foreign) × (to_head : Bool) × Screens session piece names (ForeignTo what to_head) × (told ≡ line_of_foreign what to_head))
     ⊎ (told ≡ line_of Memory)
@@ -175,8 +175,8 @@ IsGivenOn old saying new saying' = ⊤
 -- ---- a connection, as the member's life sees it
 
 pub record Talk : Type 0 where
-  pub way : Way
-  pub session : Standing
+  pub auth_phase : AuthPhase
+  pub session : SessionPhase
   pub waiting : Option Spoken
   pub saying : Saying
 
@@ -217,22 +217,22 @@ WaitsAs is_change work = ⊤
 
 -- the connection that the code holds
 abbrev pub talk_of : ConnectionState → Talk
-talk_of connection = record { way = connection.authenticator.way; session = connection.session; waiting = waiting_in connection.work; saying = saying_in connection.work }
+talk_of connection = record { auth_phase = connection.authenticator.auth_phase; session = connection.session; waiting = waiting_in connection.work; saying = saying_in connection.work }
 
 -- the bytes that wait to go out: the rest of the challenge, and then what is replied
 abbrev pub pending_in : Talk → List ℕ
-pending_in talk = challenge_left talk.way ++ pending_of talk.saying
+pending_in talk = challenge_left talk.auth_phase ++ pending_of talk.saying
 
 -- the connection, after `count` more of those bytes went out
 abbrev pub sent_in : ℕ → Talk → Talk
 sent_in count talk = record talk {
-  way = challenge_sent (min count (length (challenge_left talk.way))) talk.way;
-  saying = sent_on (count - length (challenge_left talk.way)) talk.saying;
+  auth_phase = challenge_sent (min count (length (challenge_left talk.auth_phase))) talk.auth_phase;
+  saying = sent_on (count - length (challenge_left talk.auth_phase)) talk.saying;
 }
 
 -- No more is heard, nothing waits, and what is replied stays or is a line.
 pub record IsClosed (old new : Talk) : Type 0 where
-  pub way : new.way ≡ old.way
+  pub auth_phase : new.auth_phase ≡ old.auth_phase
   pub session : new.session ≡ over (name_of old.session)
   pub waiting : new.waiting ≡ None
   pub saying : Keeps old.saying new.saying
@@ -243,13 +243,13 @@ WaitsNoMore old new = (new.waiting ≡ old.waiting) ⊎ (new.waiting ≡ None)
 
 -- The session is as it was, and nothing more waits.
 pub record Stays (old new : Talk) : Type 0 where
-  pub way : new.way ≡ old.way
+  pub auth_phase : new.auth_phase ≡ old.auth_phase
   pub session : new.session ≡ old.session
   pub waiting : WaitsNoMore old new
 
 -- No more is heard, and nothing more waits.
 pub record Closes (old new : Talk) : Type 0 where
-  pub way : new.way ≡ old.way
+  pub auth_phase : new.auth_phase ≡ old.auth_phase
   pub session : new.session ≡ over (name_of old.session)
   pub waiting : WaitsNoMore old new
 

@@ -161,7 +161,7 @@ impl OutgoingResponse {
 impl ConnectionState {
     /// Begins a connection before its first byte; `accepts` says what is heard of it. Takes no memory.
     pub fn new(alloc: Global, accepts: AcceptedProtocols) -> ConnectionState
-        ensures { talk_of result ≡ record { way = before; session = fresh; waiting = None; saying = Silent } }
+        ensures { talk_of result ≡ record { auth_phase = before; session = fresh; waiting = None; saying = Silent } }
     {
         ConnectionState {
             authenticator: Authenticator::new(alloc, accepts),

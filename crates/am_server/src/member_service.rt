@@ -2,7 +2,7 @@
 //! another.
 
 ghost use Rattle.std.specs.Prelude.{[], ℕ, List, Option};
-ghost use Rattle.am_http.specs.Sessions.{Standing, fresh};
+ghost use Rattle.am_http.specs.Sessions.{SessionPhase, fresh};
 ghost use Rattle.am_instance.specs.InstanceStates.{InstanceState};
 ghost use Rattle.am_member.specs.Lives.{Turn};
 ghost use Rattle.am_reactor.specs.Deeds.{Deed};
@@ -25,19 +25,19 @@ pub trait MemberService: Service {
 
     /// The accord of a session with the bytes that passed over its connection, with how far the connection has come in the
     /// member's life, and with the turns that it had there.
-    ghost accords: { Self.Session → Passed → Standing → List Turn → Type 0 };
+    ghost accords: { Self.Session → Passed → SessionPhase → List Turn → Type 0 };
 
     /// A property of the bytes that passed over a connection, of how far the connection came and of its turns, whether it is
     /// still open or not.
-    ghost is_so: { Passed → Standing → List Turn → Type 0 };
+    ghost is_so: { Passed → SessionPhase → List Turn → Type 0 };
 
     ghost begins_fresh: { (service : Self) (session : Self.Session) (service' : Self) → Self.begins service session service' →
         BeginsFresh instance_of accords service session service' };
 
     ghost so_of_none: { is_so nothing_passed fresh [] };
 
-    ghost so_of_accord: { (session : Self.Session) (passed : Passed) (standing : Standing) (turns : List Turn) →
-        accords session passed standing turns → is_so passed standing turns };
+    ghost so_of_accord: { (session : Self.Session) (passed : Passed) (session_phase : SessionPhase) (turns : List Turn) →
+        accords session passed session_phase turns → is_so passed session_phase turns };
 
     ghost acts_alone: { (service : Self) (service' : Self) → IsCall Self.Service service service' →
         ActsAlone instance_of service service' };

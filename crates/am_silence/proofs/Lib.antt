@@ -4,7 +4,7 @@ pub mod Judging
 pub mod MatcherParts
 pub mod MatcherTexts
 pub mod SameMatchers
-pub mod Standing
+pub mod OffsetsKept
 pub mod UnknownBehind
 pub mod Wholeness
 pub mod Passed

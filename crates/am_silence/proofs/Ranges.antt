@@ -6,7 +6,7 @@ use Rattle.am_silence.specs.Matchers.{IsMatcher}
 use Rattle.am_silence.specs.MatcherTexts.{writes_matchers, matchers_in, IsMatchersText}
 use Rattle.am_silence.proofs.MatcherTexts.{matchers_spelled, is_text}
 use Rattle.am_silence.specs.Offsets.{StandsBetween}
-use Rattle.am_silence.proofs.Standing.{range_is, between_within}
+use Rattle.am_silence.proofs.OffsetsKept.{range_is, between_within}
 
 module _ {start end : ℕ} (ms : List Matcher) {text : List ℕ} (h : StandsBetween start end (writes_matchers ms) text) (values : All IsMatcher ms) (small : length text < 2 ^ 64) where
   short : length (writes_matchers ms) < 2 ^ 64

@@ -1,6 +1,6 @@
 -- Matchers, one value after the other.
-use Rattle.std.proofs.Common.{◌≡◌, ℕ, zero, suc, ◌+◌, ◌<◌, ◌≤◌, List, [], ◌∷◌, ◌++◌, length, take, get_or, map, Some, None, sym, ap, ◌∙◌, refl, arith, Option}
-use Rattle.std.proofs.lemmas.List.{take_more, map-append, take_all}
+use Rattle.std.proofs.Common.{◌≡◌, ℕ, zero, suc, ◌+◌, ◌<◌, ◌≤◌, List, [], ◌∷◌, ◌++◌, length, take, get_or, map, Some, None, ◌∙◌, refl, arith, Option}
+use Rattle.std.proofs.lemmas.List.{take_all}
 use Rattle.std.specs.Prelude.{option_and_then, option_map}
 use Rattle.serde_json.specs.View.{view, items_view}
 use Rattle.serde_json.specs.declared.value.Value.{Value}
@@ -28,12 +28,6 @@ pub one_missing : (vs : List Value) (i : ℕ) (v : Value) → i < length vs → 
 one_missing [] i v h e = absurd (omega arith)
 one_missing (w ∷ vs) zero v h e = rw e refl
 one_missing (w ∷ vs) (suc i) v h e = rw (one_missing vs i v (omega arith) e) (none_first (seen w))
-
-pub one_found : (vs : List Value) (i : ℕ) (v : Value) (ms : List Matcher) (m : Matcher) → i < length vs → v ≡ get_or vs i v
-    → map seen (take i vs) ≡ map Some ms → seen v ≡ Some m → map seen (take (i + 1) vs) ≡ map Some (ms ++ m ∷ [])
-one_found vs i v ms m h e before here =
-    ap (map seen) (take_more vs i v h) ∙ map-append seen (take i vs) (get_or vs i v ∷ [])
-    ∙ rw (← e, before, here) (sym (map-append Some ms (m ∷ [])))
 
 pub whole_found : (vs : List Value) (i : ℕ) (ms : List Matcher) → length vs ≤ i
     → map seen (take i vs) ≡ map Some ms → matchers_of (items_view vs) ≡ Some ms

@@ -11,11 +11,11 @@ use Rattle.am_silence.specs.declared.matcher.MatcherKind.{MatcherKind}
 use Rattle.am_silence.specs.declared.matcher.MatcherKind.TheVariants as kinds
 use Rattle.am_silence.specs.declared.plan.Posted.{Posted}
 use Rattle.am_silence_json.specs.Moments.{ReadsMoment}
-use Rattle.am_silence_json.specs.declared.key.Key.{Key}
-use Rattle.am_silence_json.specs.declared.key.Key.TheVariants as keys
+use Rattle.am_silence_json.specs.declared.key.JsonKey.{JsonKey}
+use Rattle.am_silence_json.specs.declared.key.JsonKey.TheVariants as keys
 
 -- the names of the keys
-abbrev pub key_text : Key → List ℕ
+abbrev pub key_text : JsonKey → List ℕ
 key_text keys.Id = codes "id"
 key_text keys.Matchers = codes "matchers"
 key_text keys.StartsAt = codes "startsAt"
@@ -24,7 +24,7 @@ key_text keys.CreatedBy = codes "createdBy"
 key_text keys.Comment = codes "comment"
 
 -- the keys that are tested before a key
-abbrev pub keys_before : Key → List Key
+abbrev pub keys_before : JsonKey → List JsonKey
 keys_before keys.Id = []
 keys_before keys.Matchers = keys.Id ∷ []
 keys_before keys.StartsAt = keys.Id ∷ keys.Matchers ∷ []
@@ -102,7 +102,7 @@ pub record IsPosted (d : Data) (posted : Posted) : Type 0 where
   pub comment : text_in (codes "comment") d ≡ Some posted.comment
 
 -- the value of a key is of the right kind
-abbrev pub IsRight : Data → Key → Type 0
+abbrev pub IsRight : Data → JsonKey → Type 0
 IsRight d keys.Id = IsSome (id_in d)
 IsRight d keys.Matchers = IsSome (matchers_in d)
 IsRight d keys.StartsAt = (m : ℕ) × HasMoment (codes "startsAt") d m
@@ -111,12 +111,12 @@ IsRight d keys.CreatedBy = IsSome (text_in (codes "createdBy") d)
 IsRight d keys.Comment = IsSome (text_in (codes "comment") d)
 
 -- the values of these keys are of the right kind
-abbrev pub AreRight : Data → List Key → Type 0
+abbrev pub AreRight : Data → List JsonKey → Type 0
 AreRight d [] = Unit {0}
 AreRight d (key ∷ others) = IsRight d key × AreRight d others
 
 -- the value of the key is missing or of another kind, and those of the keys before it are right
-pub record IsFirstWrong (d : Data) (key : Key) : Type 0 where
+pub record IsFirstWrong (d : Data) (key : JsonKey) : Type 0 where
   pub wrong : ¬ IsRight d key
   pub before : AreRight d (keys_before key)
 

@@ -1,6 +1,6 @@
 //! Errors of reading the body of a post.
 
-use crate::key::Key;
+use crate::key::JsonKey;
 use std::alloc::AllocError;
 use std::fmt;
 use thiserror::Error;
@@ -13,12 +13,12 @@ pub enum BodyError {
     BadJson,
     /// The value of this key is missing or of another kind.
     #[error("bad silence: {0}")]
-    Wrong(Key),
+    Wrong(JsonKey),
     #[error("out of memory")]
     Memory,
 }
 
-impl fmt::Display for Key {
+impl fmt::Display for JsonKey {
     fn fmt<W: fmt::Write>(&self, f: &mut fmt::Formatter<W>) -> fmt::Result {
         f.write_str(self.text())
     }
@@ -35,13 +35,13 @@ impl From<AllocError> for BodyError {
     }
 }
 
-impl From<Key> for BodyError {
+impl From<JsonKey> for BodyError {
     ghost use Rattle.std.specs.Prelude.{◌≡◌};
     ghost use Rattle.am_silence_json.specs.declared.error.BodyError.TheVariants.{Wrong};
 
     ghost from_gives = { λ key e. e ≡ Wrong key };
 
-    fn from(key: Key) -> BodyError {
+    fn from(key: JsonKey) -> BodyError {
         BodyError::Wrong(key)
     }
 }

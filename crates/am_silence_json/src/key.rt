@@ -6,7 +6,7 @@ ghost use Rattle.am_silence_json.specs.Shown.{shown_key_text};
 
 /// A key of a post. The variants are in the order in which keys are tested.
 #[derive(Clone, Copy, Debug, PartialEq, Eq)]
-pub enum Key {
+pub enum JsonKey {
     Id,
     Matchers,
     StartsAt,
@@ -15,18 +15,18 @@ pub enum Key {
     Comment,
 }
 
-impl Key {
+impl JsonKey {
     /// Returns the name of the key.
     pub fn text(self) -> &'static str
         ensures { result.now ≡ key_text self }
     {
         match self {
-            Key::Id => "id",
-            Key::Matchers => "matchers",
-            Key::StartsAt => "startsAt",
-            Key::EndsAt => "endsAt",
-            Key::CreatedBy => "createdBy",
-            Key::Comment => "comment",
+            JsonKey::Id => "id",
+            JsonKey::Matchers => "matchers",
+            JsonKey::StartsAt => "startsAt",
+            JsonKey::EndsAt => "endsAt",
+            JsonKey::CreatedBy => "createdBy",
+            JsonKey::Comment => "comment",
         }
     }
 }

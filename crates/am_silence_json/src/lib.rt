@@ -18,7 +18,7 @@ pub mod tokens;
 pub use cut::cut_to_shown;
 pub use error::BodyError;
 pub use gettable::add_silence;
-pub use key::{Key, ShownKey};
+pub use key::{JsonKey, ShownKey};
 pub use list_error::ListError;
 pub use listing::Listing;
 pub use post::read_post;

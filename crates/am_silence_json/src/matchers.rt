@@ -4,12 +4,12 @@ ghost use Rattle.std.specs.Prelude.{◌≡◌, ◌≢◌, ◌<◌, List, length,
 ghost use Rattle.serde_json.specs.View.{view, items_view};
 ghost use Rattle.am_silence.specs.declared.matcher.Matcher.{Matcher};
 ghost use Rattle.am_silence_json.specs.declared.error.BodyError.TheVariants as errors;
-ghost use Rattle.am_silence_json.specs.declared.key.Key.TheVariants as keys;
+ghost use Rattle.am_silence_json.specs.declared.key.JsonKey.TheVariants as keys;
 ghost use Rattle.am_silence_json.specs.Posts.{text_in, truth_in, equal_in, kind_of, matcher_of, matchers_of, matchers_in};
 ghost use Rattle.am_silence_json.specs.Borrowed.{matcher_in};
 
 use crate::error::BodyError;
-use crate::key::Key;
+use crate::key::JsonKey;
 use am_silence::{Matcher, MatcherKind, Matchers};
 use am_wire::Text;
 use serde_json::Value;
@@ -94,7 +94,7 @@ fn read_matcher(alloc: Global, value: &Value) -> Result<Matcher, BodyError>
         (e ≡ errors.Wrong keys.Matchers) × (matcher_of (view value.now) ≡ None)) }
 {
     let Some(parts) = parts_of(value) else {
-        return Err(BodyError::Wrong(Key::Matchers));
+        return Err(BodyError::Wrong(JsonKey::Matchers));
     };
     let matcher = copied(alloc, parts)?;
     Ok(matcher)
@@ -127,7 +127,7 @@ pub fn read_matchers(alloc: Global, object: &Value) -> Result<Matchers, BodyErro
         (e ≡ errors.Wrong keys.Matchers) × (matchers_in (view object.now) ≡ None)) }
 {
     let Some(values) = object.get("matchers").and_then(Value::as_array) else {
-        return Err(BodyError::Wrong(Key::Matchers));
+        return Err(BodyError::Wrong(JsonKey::Matchers));
     };
     let matchers = read_each(alloc, values.as_slice())?;
     let kept = Matchers::new(alloc, &matchers)?;

@@ -7,13 +7,13 @@ ghost use Rattle.serde_json.specs.Read.{read};
 ghost use Rattle.serde_json.specs.Find.{as_object};
 ghost use Rattle.serde_json.specs.View.{view};
 ghost use Rattle.am_silence_json.specs.declared.error.BodyError.TheVariants as errors;
-ghost use Rattle.am_silence_json.specs.declared.key.Key.{Key};
-ghost use Rattle.am_silence_json.specs.declared.key.Key.TheVariants as keys;
+ghost use Rattle.am_silence_json.specs.declared.key.JsonKey.{JsonKey};
+ghost use Rattle.am_silence_json.specs.declared.key.JsonKey.TheVariants as keys;
 ghost use Rattle.am_silence_json.specs.Posts.{id_in, HasMoment, IsPosted, IsRight, IsFirstWrong, IsObjectText};
 ghost use Rattle.am_silence_json.specs.Borrowed.{HasRest};
 
 use crate::error::BodyError;
-use crate::key::Key;
+use crate::key::JsonKey;
 use crate::matchers::{read_matchers, text_in};
 use crate::moments::read_moment;
 use am_silence::{Matchers, Posted};
@@ -34,7 +34,7 @@ pub fn moment_in(object: &Value, key: &str) -> Option<Moment>
 }
 
 /// Reads the posted identifier.
-fn id_in(object: &Value) -> Result<Option<&str>, Key>
+fn id_in(object: &Value) -> Result<Option<&str>, JsonKey>
     ensures read { IfOk result (λ id. id_in (view object.now) ≡ Some (option_copied id)) }
     ensures wrong { IfErr result (λ key. (key ≡ keys.Id) × (id_in (view object.now) ≡ None)) }
 {
@@ -47,7 +47,7 @@ fn id_in(object: &Value) -> Result<Option<&str>, Key>
     match given.as_str() {
         Some("") => Ok(None),
         Some(id) => Ok(Some(id)),
-        None => Err(Key::Id),
+        None => Err(JsonKey::Id),
     }
 }
 
@@ -61,22 +61,22 @@ struct Rest<'v> {
 }
 
 /// Reads the moments and texts of a post, or returns the first of their keys that is wrong.
-fn read_rest(object: &Value) -> Result<Rest<'_>, Key>
+fn read_rest(object: &Value) -> Result<Rest<'_>, JsonKey>
     ensures read { IfOk result (HasRest (view object.now)) }
     ensures wrong { IfErr result (λ key. IsRight (view object.now) keys.Id → IsRight (view object.now) keys.Matchers →
         IsFirstWrong (view object.now) key) }
 {
     let Some(starts_at) = moment_in(object, "startsAt") else {
-        return Err(Key::StartsAt);
+        return Err(JsonKey::StartsAt);
     };
     let Some(ends_at) = moment_in(object, "endsAt") else {
-        return Err(Key::EndsAt);
+        return Err(JsonKey::EndsAt);
     };
     let Some(created_by) = text_in(object, "createdBy") else {
-        return Err(Key::CreatedBy);
+        return Err(JsonKey::CreatedBy);
     };
     let Some(comment) = text_in(object, "comment") else {
-        return Err(Key::Comment);
+        return Err(JsonKey::Comment);
     };
     Ok(Rest {
         starts_at,
@@ -126,7 +126,7 @@ fn posted_of(
 /// Reads the silence that an object posts.
 fn read_object(alloc: Global, object: &Value) -> Result<Posted, BodyError>
     ensures read { IfOk result (IsPosted (view object.now)) }
-    ensures wrong { (key : Key) → IsErrOf result (errors.Wrong key) → IsFirstWrong (view object.now) key }
+    ensures wrong { (key : JsonKey) → IsErrOf result (errors.Wrong key) → IsFirstWrong (view object.now) key }
     ensures object { result ≢ Err errors.BadJson }
 {
     let id = id_in(object)?;
@@ -144,7 +144,7 @@ fn read_object(alloc: Global, object: &Value) -> Result<Posted, BodyError>
 fn object_in(alloc: Global, body: &[u8]) -> Result<Value, BodyError>
     ensures read { IfOk result (λ v. IsObjectText body.now (view v)) }
     ensures bad_json { IsErrOf result errors.BadJson → (d : Data) → ¬ IsObjectText body.now d }
-    ensures key { (key : Key) → result ≢ Err (errors.Wrong key) }
+    ensures key { (key : JsonKey) → result ≢ Err (errors.Wrong key) }
 {
     let Ok(text) = str::from_utf8(body) else {
         return Err(BodyError::BadJson);
@@ -163,13 +163,13 @@ fn object_in(alloc: Global, body: &[u8]) -> Result<Value, BodyError>
 ///
 /// Returns [`BodyError::BadJson`] if the body is no JSON, or no object; or else [`BodyError::Wrong`] with the first key that is
 /// missing
-/// or of another kind, in the order of [`Key`]; and [`BodyError::Memory`] if memory runs out.
+/// or of another kind, in the order of [`JsonKey`]; and [`BodyError::Memory`] if memory runs out.
 pub fn read_post(alloc: Global, body: &[u8]) -> Result<Posted, BodyError>
     // PROMISE: A posted silence is the one that its object describes.
     ensures posted { IfOk result (λ p. (d : Data) × IsObjectText body.now d × IsPosted d p) }
     ensures bad_json { IsErrOf result errors.BadJson → (d : Data) → ¬ IsObjectText body.now d }
     // PROMISE: Else its first wrong key is reported.
-    ensures wrong { (key : Key) → IsErrOf result (errors.Wrong key) → (d : Data) × IsObjectText body.now d × IsFirstWrong d key }
+    ensures wrong { (key : JsonKey) → IsErrOf result (errors.Wrong key) → (d : Data) × IsObjectText body.now d × IsFirstWrong d key }
 {
     let object = object_in(alloc, body)?;
     let posted = read_object(alloc, &object)?;

@@ -27,8 +27,8 @@ offset Refused = 0
 abbrev rest_is : List ℕ → Option (List ℕ)
 rest_is bytes = Some bytes
 
-abbrev standing_at : ℕ → ℕ → RowPosition
-standing_at limit at = Before at limit
+abbrev position_at : ℕ → ℕ → RowPosition
+position_at limit at = Before at limit
 
 -- what holds of all known bytes, by those that were read and those that are left
 pub known : (a b : Option (List ℕ)) (bytes : List ℕ) (P : List ℕ → Type 0) → Consumes a b bytes → ((left : List ℕ) → b ≡ Some left → P (bytes ++ left)) → IfSome a P
@@ -214,40 +214,40 @@ module _ {A : Type 0} (reads : ℕ → List ℕ → Result A WireError) where
 
     -- ---- a loop of calls
     -- the bytes were read, which are a row of these messages, and the reader of rows stands behind them
-    pub record ReadsSoFar (start now : Option (List ℕ)) (standing : RowPosition) (bytes : List ℕ) (messages : List A) : Type 0 where
+    pub record ReadsSoFar (start now : Option (List ℕ)) (position : RowPosition) (bytes : List ℕ) (messages : List A) : Type 0 where
       pub consumed : Consumes start now bytes
       pub read : HasRead bytes messages
-      pub stands : standing ≡ Before (length bytes) limit
+      pub stands : position ≡ Before (length bytes) limit
       pub small : length bytes ≤ limit
 
-    pub reads_none : (start : Option (List ℕ)) (standing : RowPosition) → standing ≡ Before 0 limit → ReadsSoFar start start standing [] []
-    reads_none start standing stands = record { consumed = Consumes-nil start; read = HasRead-nil; stands = stands; small = omega arith }
+    pub reads_none : (start : Option (List ℕ)) (position : RowPosition) → position ≡ Before 0 limit → ReadsSoFar start start position [] []
+    reads_none start position stands = record { consumed = Consumes-nil start; read = HasRead-nil; stands = stands; small = omega arith }
 
-    module _ (start now left : Option (List ℕ)) (standing next : RowPosition) (bytes row : List ℕ) (messages : List A) (so_far : ReadsSoFar start now standing bytes messages) (read : Consumes now left row) where
-      stands_before : (r : Result (Option A) RowFault) → Answers reads standing row left r next → Answers reads (Before (length bytes) limit) row left r next
+    module _ (start now left : Option (List ℕ)) (position next : RowPosition) (bytes row : List ℕ) (messages : List A) (so_far : ReadsSoFar start now position bytes messages) (read : Consumes now left row) where
+      stands_before : (r : Result (Option A) RowFault) → Answers reads position row left r next → Answers reads (Before (length bytes) limit) row left r next
       stands_before r answer = subst (λ (s : RowPosition). Answers reads s row left r next) so_far.stands answer
 
       both : Consumes start left (bytes ++ row)
       both = Consumes-trans start now left bytes row so_far.consumed read
 
-      pub reads_more : (v : A) → Answers reads standing row left (Ok (Some v)) next → ReadsSoFar start left next (bytes ++ row) (messages ++ v ∷ [])
+      pub reads_more : (v : A) → Answers reads position row left (Ok (Some v)) next → ReadsSoFar start left next (bytes ++ row) (messages ++ v ∷ [])
       reads_more v answer =
           let one = stands_before (Ok (Some v)) answer in
           record {
             consumed = both;
             read = HasRead-more bytes row messages v so_far.read one.1 one.0;
-            stands = one.3 ∙ ap (λ (n : ℕ). standing_at limit n) (sym (length-append bytes row));
+            stands = one.3 ∙ ap (λ (n : ℕ). position_at limit n) (sym (length-append bytes row));
             small = omega (arith, one.2, length-append bytes row);
           }
 
-      pub reads_further : (v : A) → Answers reads standing row left (Ok (Some v)) next → limit - offset next < limit - offset standing
+      pub reads_further : (v : A) → Answers reads position row left (Ok (Some v)) next → limit - offset next < limit - offset position
       reads_further v answer =
           let one = stands_before (Ok (Some v)) answer in
-          let here : offset standing ≡ length bytes = ap offset so_far.stands in
+          let here : offset position ≡ length bytes = ap offset so_far.stands in
           let there : offset next ≡ length bytes + length row = ap offset one.3 in
           omega (arith, one.1, one.2, here, there)
 
-      pub reads_end : Answers reads standing row left (Ok None) next → IsAtEnd left × IfSome start (λ input. AreMessages reads input messages) × IfSome start (λ input. length input ≤ limit)
+      pub reads_end : Answers reads position row left (Ok None) next → IsAtEnd left × IfSome start (λ input. AreMessages reads input messages) × IfSome start (λ input. length input ≤ limit)
       reads_end answer =
           let one = stands_before (Ok None) answer in
           let all : Consumes start left bytes = subst (λ (x : List ℕ). Consumes start left x) (ap (λ (x : List ℕ). bytes ++ x) one.0 ∙ append-nil bytes) both in
@@ -258,15 +258,15 @@ module _ {A : Type 0} (reads : ℕ → List ℕ → Result A WireError) where
       stops_by (Some xs) None fault read answer = absurd read
       stops_by (Some xs) (Some ys) fault read answer = subst (λ (input : List ℕ). StopsWithin reads limit input messages (Some ys) fault) (sym read) (stops_at bytes row messages ys fault next so_far.read so_far.small answer)
 
-      pub reads_stop : (fault : RowFault) → Answers reads standing row left (Err fault) next → IfSome start (λ input. StopsWithin reads limit input messages left fault)
+      pub reads_stop : (fault : RowFault) → Answers reads position row left (Err fault) next → IfSome start (λ input. StopsWithin reads limit input messages left fault)
       reads_stop fault answer = stops_by start left fault both (stands_before (Err fault) answer)
 
-      pub reads_stops : (fault : RowFault) → Answers reads standing row left (Err fault) next → IfSome start (λ input. (ms : List A) × StopsWithin reads limit input ms left fault)
+      pub reads_stops : (fault : RowFault) → Answers reads position row left (Err fault) next → IfSome start (λ input. (ms : List A) × StopsWithin reads limit input ms left fault)
       reads_stops fault answer = some_then (λ (input : List ℕ). StopsWithin reads limit input messages left fault) (λ input. (ms : List A) × StopsWithin reads limit input ms left fault) (λ input stop. (messages, stop)) start (reads_stop fault answer)
 
       -- with what else holds of the messages
-      pub reads_stop_with : (Q : List A → Type 0) → Q messages → (fault : RowFault) → Answers reads standing row left (Err fault) next → IfSome start (λ input. (ms : List A) × StopsWithin reads limit input ms left fault × Q ms)
+      pub reads_stop_with : (Q : List A → Type 0) → Q messages → (fault : RowFault) → Answers reads position row left (Err fault) next → IfSome start (λ input. (ms : List A) × StopsWithin reads limit input ms left fault × Q ms)
       reads_stop_with Q here fault answer = some_then (λ (input : List ℕ). StopsWithin reads limit input messages left fault) (λ input. (ms : List A) × StopsWithin reads limit input ms left fault × Q ms) (λ input stop. (messages, stop, here)) start (reads_stop fault answer)
 
-      pub reads_end_with : (Q : List A → Type 0) → Q messages → Answers reads standing row left (Ok None) next → IfSome start (λ input. (ms : List A) × AreMessages reads input ms × Q ms)
+      pub reads_end_with : (Q : List A → Type 0) → Q messages → Answers reads position row left (Ok None) next → IfSome start (λ input. (ms : List A) × AreMessages reads input ms × Q ms)
       reads_end_with Q here answer = some_then (λ (input : List ℕ). AreMessages reads input messages) (λ input. (ms : List A) × AreMessages reads input ms × Q ms) (λ input all. (messages, all, here)) start (reads_end answer).1

@@ -93,12 +93,12 @@ module _ {K X : Type 0} (seen : X → Version K) (reads : ℕ → List ℕ → R
       → IfSome start (λ input. (all : List X) × AreMessages reads input all × AreDistinct seen all × IsPermutation all held)
   load_end versions held all distinct members = some_then _ _ (λ input one. (versions, one, distinct, members)) start all
 
-pub load_repeat : {K X : Type 0} (seen : X → Version K) (reads : ℕ → List ℕ → Result X WireError) (limit : ℕ) (start left : Option (List ℕ)) (standing : RowPosition) (bytes : List ℕ) (versions : List X) (version earlier : X)
-    → ReadsSoFar reads limit start left standing bytes (versions ++ version ∷ []) → AreDistinct seen versions → Contains versions earlier → (seen earlier).key ≡ (seen version).key
+pub load_repeat : {K X : Type 0} (seen : X → Version K) (reads : ℕ → List ℕ → Result X WireError) (limit : ℕ) (start left : Option (List ℕ)) (position : RowPosition) (bytes : List ℕ) (versions : List X) (version earlier : X)
+    → ReadsSoFar reads limit start left position bytes (versions ++ version ∷ []) → AreDistinct seen versions → Contains versions earlier → (seen earlier).key ≡ (seen version).key
     → IfSome start (λ input. RepeatsKey seen reads limit input left)
-load_repeat seen reads limit None left standing bytes versions version earlier so_far distinct among same = tt
-load_repeat seen reads limit (Some xs) None standing bytes versions version earlier so_far distinct among same = absurd so_far.consumed
-load_repeat {K} {X} seen reads limit (Some xs) (Some ys) standing bytes versions version earlier so_far distinct among same =
+load_repeat seen reads limit None left position bytes versions version earlier so_far distinct among same = tt
+load_repeat seen reads limit (Some xs) None position bytes versions version earlier so_far distinct among same = absurd so_far.consumed
+load_repeat {K} {X} seen reads limit (Some xs) (Some ys) position bytes versions version earlier so_far distinct among same =
     let others = pieces (message_at reads) 0 (length bytes) ys in
     record {
       versions = versions;

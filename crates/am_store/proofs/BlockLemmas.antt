@@ -99,8 +99,6 @@ pub recovered_opens : (file batch rest : List ℕ) → Opens file batch rest →
 recovered_opens file batch rest o = ap recovered o.split ∙ recovered_block o.header batch rest o.eight o.size
 
 -- ---- a file that has blocks
-pub some_block : (file batch rest : List ℕ) (bs : List (List ℕ)) → Opens file batch rest → recovered file ≡ bs → bs ≡ batch ∷ recovered rest
-some_block file batch rest bs o e = sym e ∙ recovered_opens file batch rest o
 
 opens_more : (file batch rest more : List ℕ) → Opens file batch rest → Opens (file ++ more) batch (rest ++ more)
 opens_more file batch rest more o = record {

@@ -31,9 +31,6 @@ drop_push (suc t) (p ∷ past) v le = drop_push t past v (omega arith)
 abbrev Since : Contents → List ℕ → ℕ → List ℕ → Type 0
 Since past bytes t c = (c ≡ bytes) ⊎ HadBeen (drop t past) c
 
-pub elapses_same : (past : Contents) (bytes : List ℕ) → Elapses (length past) (length past) (Since past bytes) (Since past bytes) (λ c. c ≡ bytes)
-elapses_same past bytes = record { later = omega arith; nothing_else = λ t c le left. inl left; keeps = λ t c le left. left }
-
 elapses_push : (past : Contents) (v : Vec ℕ Global) (old new : List ℕ) → v.items ≡ old → Elapses (length past) (length (past ++ v ∷ [])) (Since past old) (Since (past ++ v ∷ []) new) (λ c. c ≡ new)
 elapses_push past v old new is = record {
   later = omega (arith, length-append past (v ∷ []));

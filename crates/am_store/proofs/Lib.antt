@@ -6,7 +6,7 @@ mod Crashes
 mod Kept
 mod Moments
 mod ReadingLemmas
-mod Standing
+mod StandInBlocks
 mod RewriteCrashes
 mod RewriteRows
 mod ReadRows

@@ -16,7 +16,7 @@ use Rattle.am_store.specs.declared.file_fault.FileFault.TheVariants.{Snapshot}
 use Rattle.am_store.specs.Calls.{Event}
 use Rattle.am_store.specs.Calls as call
 use Rattle.am_store.specs.Saves.{IsDirectoryOf, IsOfSystem, Permissions, Row, Safety, Name, Unnamed, Unmade, Unreplaced, Unsettled, beside}
-use Rattle.am_store.specs.Rewrites.{First, End, place_from, place_behind, left_at, stretch, old_log, IsWritten, Follows, HasCome, IsRewritten, Advances, is_left_at, Unsaved, LogUnnamed, LogKept, LogUnsettled, making}
+use Rattle.am_store.specs.Rewrites.{First, End, place_from, place_behind, left_at, stretch, old_log, IsWritten, HasCome, IsRewritten, Advances, is_left_at, Unsaved, LogKept, LogUnsettled, making}
 use Rattle.am_store.proofs.Crashes.{one_directory}
 
 not_first : {K : Type 0} (next : Option K) → First ≡ place_behind next → ⊥
@@ -354,26 +354,6 @@ module _ {K X F : Type 0} (seen : X → Version K) (cmp : K → K → Ordering) 
     };
   }
 
-  pub unnamed_log : (a b : List Event) (fault : FileFault) → b ≡ a → fault ≡ Snapshot snapshot.Memory → Advances seen cmp path most contents map EndLog a (Err fault) b
-  unnamed_log a b fault eb why = record {
-    next = tt;
-    come = λ maps has. tt;
-    stopped = λ maps has. record {
-      stop = LogUnnamed;
-      row = has.row;
-      place = End;
-      stood = has.stood;
-      removed = false;
-      ended = has.ended;
-      directory = has.directory;
-      calls = eb ∙ has.calls;
-      written = has.written;
-      whole = refl;
-      fits = has.fits;
-      cause = (has.has, why);
-    };
-  }
-
   pub done : (a b : List Event) (directory : List ℕ) (log : Option File) → IsDirectoryOf path directory → b ≡ a ++ (call.SyncDirectory directory, true) ∷ []
       → Advances seen cmp path most contents map (SettleEnd log) a (Ok Done) b
   done a b directory log standing eb = record {
@@ -415,34 +395,6 @@ module _ {K X F : Type 0} (seen : X → Version K) (cmp : K → K → Ordering) 
           cause = (has.has, why);
         };
   }
-
-  -- ---- stages without calls
-  pub nothing_done : (a b : List Event) → b ≡ a → Advances seen cmp path most contents map Done a (Ok Done) b
-  nothing_done a b eb = record { next = tt; come = λ maps has. rw eb has; stopped = λ maps has. tt }
-
-  pub gave_back : (a b : List Event) (stage : CompactionStage K F) → b ≡ a → Follows GiveBack stage → Advances seen cmp path most contents map GiveBack a (Ok stage) b
-  gave_back a b GiveBack eb follows = record { next = tt; come = λ maps has. rw eb has; stopped = λ maps has. tt }
-  gave_back a b Make eb follows = record {
-    next = tt;
-    come = λ maps has. record {
-      row = has.row;
-      stood = has.stood;
-      ended = has.ended;
-      directory = has.directory;
-      calls = eb ∙ has.calls;
-      written = has.written;
-      fits = has.fits;
-      has = tt;
-    };
-    stopped = λ maps has. tt;
-  }
-  gave_back a b (Write new from) eb never = absurd never
-  gave_back a b (HandOver new) eb never = absurd never
-  gave_back a b (Rename new) eb never = absurd never
-  gave_back a b (Settle replaced) eb never = absurd never
-  gave_back a b EndLog eb never = absurd never
-  gave_back a b (SettleEnd log) eb never = absurd never
-  gave_back a b Done eb never = absurd never
 
   -- ---- at the end
   pub is_whole : (maps : List (List X)) (stage : CompactionStage K F) (made : List Event) → is_left_at stage ≡ false → HasCome seen cmp path most contents maps stage made → IsRewritten seen cmp path most maps made

@@ -36,7 +36,7 @@ impl Read for Repeating<'_> {
 }
 
 /// The number of silences that are held, the number of frames to be sent, and the reason that the connection ended.
-type Told = (usize, usize, Option<ConnectionFault>);
+type ConnectionOutput = (usize, usize, Option<ConnectionFault>);
 
 // Returns that Delta.
 fn delta(alloc: Global) -> Result<Vec<u8>, AllocError> {
@@ -47,7 +47,12 @@ fn delta(alloc: Global) -> Result<Vec<u8>, AllocError> {
 
 // Returns the outcome of a connection of this many bytes, until it hears no more: a peer's Delta of a silence, followed by a
 // frame over and over.
-fn connected(alloc: Global, instance: &mut Instance, frame: &[u8], bytes: usize) -> Option<Told> {
+fn connected(
+    alloc: Global,
+    instance: &mut Instance,
+    frame: &[u8],
+    bytes: usize,
+) -> Option<ConnectionOutput> {
     let mut session = Session::new(alloc);
     let mut reader = Repeating {
         rest: PEER,
@@ -76,7 +81,7 @@ fn connected(alloc: Global, instance: &mut Instance, frame: &[u8], bytes: usize)
 }
 
 // Returns the outcome with a new member, or `None` if memory runs out.
-fn told(alloc: Global, bytes: usize) -> Option<Told> {
+fn told(alloc: Global, bytes: usize) -> Option<ConnectionOutput> {
     let delta = delta(alloc).ok()?;
     let mut instance = instance(alloc)?;
     connected(alloc, &mut instance, delta.as_slice(), bytes)

@@ -42,9 +42,9 @@ pub fn instance(alloc: Global) -> Option<Instance> {
 
 /// A clock that always says the same, or can't be read.
 #[derive(Clone, Copy)]
-struct Standing(Option<Duration>);
+struct FixedClock(Option<Duration>);
 
-impl Clock for Standing {
+impl Clock for FixedClock {
     fn monotonic(&self) -> io::Result<Duration> {
         self.since_1970()
     }
@@ -56,6 +56,6 @@ impl Clock for Standing {
 
 /// Returns whether the next moment is the clock's if that can be read, and else the last one.
 pub fn follow_clocks() -> bool {
-    next_moment(&Standing(Some(Duration::from_secs(20))), at(10)) == at(20)
-        && next_moment(&Standing(None), at(10)) == at(10)
+    next_moment(&FixedClock(Some(Duration::from_secs(20))), at(10)) == at(20)
+        && next_moment(&FixedClock(None), at(10)) == at(10)
 }

@@ -1,7 +1,7 @@
 //! Runs that follow from a number, whose reports on calm are compared with those of plain loops over their steps.
 
 use crate::notes::{Note, at, mixed};
-use am_runs::{Run, RunStep, Source, plain};
+use am_runs::{DeliverySource, Run, RunStep, plain};
 use am_version_order::{Interval, Moment};
 use std::alloc::{AllocError, Global};
 
@@ -109,7 +109,7 @@ fn take(
     run.append(RunStep::Took {
         place,
         now,
-        source: Source::Written(Moment::LEAST),
+        source: DeliverySource::Written(Moment::LEAST),
         versions,
         frames: Vec::new(alloc),
     });

@@ -35,9 +35,6 @@ at_most (w ∷ ws) (b ∷ bs) = by (at_most ws bs) (nat_lt b 255) refl where
       omega arith
   by rest false e = omega arith
 
-pub head_fits : (bytes : List ℕ) → head_of_text bytes < 2 ^ 64
-head_fits bytes = let bound = at_most weights bytes in omega arith
-
 -- a lesser first byte is a lesser number or none that is greater
 first_less : (w c b : ℕ) (ws xs ys : List ℕ) → most ws < w → c < b → weighed (w ∷ ws) (c ∷ ys) ≤ weighed (w ∷ ws) (b ∷ xs)
 first_less w c b ws xs ys fall less = by (nat_lt c 255) (nat_lt b 255) refl refl where

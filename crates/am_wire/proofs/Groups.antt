@@ -2,7 +2,7 @@
 use Rattle.std.proofs.Common.{◌≡◌, ℕ, suc, ◌+◌, ◌-◌, ◌*◌, ◌%◌, ◌^◌, ◌<◌, ◌≤◌, ◌≢◌, ltb, true, false, List, [], ◌∷◌, length, drop, get_or, Some, Result, Ok, Err, refl, sym, ap, ◌∙◌, arith, drop-cons, add-one}
 use Rattle.std.specs.Prelude.{slice_get}
 use Rattle.std.proofs.lemmas.Bool.{lt-ltb, le-ltb}
-use Rattle.std.proofs.Math.Nat.{pow-le-pow_right, pow-suc, mul-le-mul_right}
+use Rattle.std.proofs.Math.Nat.{pow-suc, mul-le-mul_right}
 use Rattle.std.proofs.Math.ListN.{drop_of_length-le}
 use Rattle.am_wire.specs.declared.error.WireError.{WireError}
 use Rattle.am_wire.specs.declared.error.WireError.TheVariants.{Truncated, LongVarint}
@@ -48,9 +48,6 @@ after-one_more v s p b (Ok x) =
     let c : p + (x.1 + 1) ≡ p + 1 + x.1 = omega arith in
     ap (λ (n : ℕ). done n (p + (x.1 + 1))) a ∙ ap (λ (n : ℕ). done (v + b % 128 * s + s * 128 * x.0) n) c
 after-one_more v s p b (Err e) = refl
-
-pub scale_fits : (p : ℕ) → p ≤ 9 → 128 ^ p ≤ 2 ^ 63
-scale_fits p h = pow-le-pow_right {n = 128} (omega arith) h
 
 -- ---- the byte at the place
 module _ (value scale place at : ℕ) (bytes : List ℕ) (h : HasRead value scale place at bytes) where

@@ -1,9 +1,9 @@
 -- Parts that are passed one after the other.
-use Rattle.std.proofs.Common.{◌≡◌, ℕ, ◌+◌, ◌-◌, ◌*◌, ◌<◌, ◌^◌, cond, eqb, List, [], ◌∷◌, ◌++◌, length, take, drop, append-nil, length-append, refl, sym, ap, subst, ◌∙◌, arith}
+use Rattle.std.proofs.Common.{◌≡◌, ℕ, ◌+◌, ◌-◌, ◌*◌, ◌<◌, ◌^◌, cond, eqb, List, [], ◌∷◌, ◌++◌, length, take, drop, append-nil, length-append, refl, sym, ap, ◌∙◌, arith}
 use Rattle.std.proofs.Math.Seq.{take-add}
 use Rattle.std.proofs.lemmas.List.{append_assoc, flat_map_more, take_rest}
 use Rattle.std.proofs.lemmas.List.Elements.{All-nil, All-push}
-use Rattle.am_wire.specs.Passing.{Passing, Passes, ArePacked, PassesNumbers}
+use Rattle.am_wire.specs.Passing.{Passing, Passes, ArePacked}
 use Rattle.am_wire.specs.Varint.{groups, shortest}
 use Rattle.am_wire.specs.Offsets.{StandsAt}
 use Rattle.am_wire.specs.declared.offset.Offset.{Offset}
@@ -67,18 +67,4 @@ one_more part value old new h low is = record {
     short = All-push (λ n. n < 2 ^ 64) h.packed.numbers value h.packed.short low;
     is = is.passed ∙ ap (λ (x : List ℕ). x ++ shortest value) h.packed.is ∙ flat_map_more shortest [] h.packed.numbers value;
   };
-}
-
--- all of the part
-pub all_passed : (part : List ℕ) (reader : Passing) → HasPassed part reader → reader.passed ≡ reader.text → ArePacked part
-all_passed part reader h over = record { numbers = h.packed.numbers; short = h.packed.short; is = sym h.text ∙ sym over ∙ h.packed.is }
-
--- the field of a part that is packed numbers
-pub numbers_passed : (n : ℕ) (place : Offset) (part : List ℕ) (old new : Passing) → Passes (writes_text n part) old new → StandsAt part place new.passed
-    → ArePacked part → PassesNumbers n place old new
-numbers_passed n place part old new is at h = record {
-  numbers = h.numbers;
-  short = h.short;
-  passes = subst (λ (x : List ℕ). Passes (writes_text n x) old new) h.is is;
-  stands = subst (λ (x : List ℕ). StandsAt x place new.passed) h.is at;
 }

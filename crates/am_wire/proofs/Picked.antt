@@ -3,7 +3,7 @@ use Rattle.std.proofs.Common.{◌≡◌, ◌≢◌, ℕ, true, false, cond, eqb,
 use Rattle.std.specs.Str.{IsUtf8, is_utf8}
 use Rattle.std.proofs.lemmas.Bool.{eq-eqb, ne_eqb, eqb-false}
 use Rattle.std.proofs.lemmas.Str.{IsUtf8-from_is_utf8}
-use Rattle.std.proofs.lemmas.List.{append-nil, map-append}
+use Rattle.std.proofs.lemmas.List.{append-nil}
 use Rattle.std.proofs.lemmas.List.Concat.{flat_map-cons}
 use Rattle.am_wire.specs.declared.error.WireError.TheVariants.{NotUtf8}
 use Rattle.am_wire.specs.Fields.{FieldAt}
@@ -68,9 +68,5 @@ module _ {D : Type 0} (holds : List FieldAt → D → Type 0) (table : Table) (n
   }
 
 module _ {A : Type 0} (value : List FieldAt → A) (table : Table) (n : ℕ) (es : List FieldAt) (e : FieldAt) (old : List A) (h : old ≡ map value (messages table n es)) where
-  pub items_here : (later : List A) → e.number ≡ n → later ≡ old ++ map value (message_in table e) → later ≡ map value (messages table n (es ++ e ∷ []))
-  items_here later is put =
-      put ∙ ap (λ (x : List A). x ++ map value (message_in table e)) h ∙ sym (map-append value (messages table n es) (message_in table e)) ∙ sym (ap (λ (x : List (List FieldAt)). map value x) (picked-here (message_in table) n es e is))
-
   pub items_past : (m : ℕ) → e.number ≡ m → eqb m n ≡ false → old ≡ map value (messages table n (es ++ e ∷ []))
   items_past m is other = h ∙ sym (ap (λ (x : List (List FieldAt)). map value x) (picked-there (message_in table) n es e (λ same. eqb-false m n other (sym is ∙ same))))

@@ -298,8 +298,8 @@ module _ (at size start : ℕ) (text : List ℕ) (h : IsLength at size start tex
         (inr (row_cut more lt, omega (arith, n, length_some), end, refl), omega (arith, n, small, h.place))
 
 -- ---- a call's answer
-abbrev standing : ℕ → ℕ → RowPosition
-standing limit at = Before at limit
+abbrev position : ℕ → ℕ → RowPosition
+position limit at = Before at limit
 
 module _ {A : Type 0} (reads : ℕ → List ℕ → Result A WireError) (limit at : ℕ) where
   pub answers_stop : (bytes : List ℕ) (left : Option (List ℕ)) (fault : RowFault) → Stops limit at bytes left fault → Answers reads (Before at limit) bytes left (Err fault) Refused
@@ -338,7 +338,7 @@ module _ {A : Type 0} (reads : ℕ → List ℕ → Result A WireError) (limit a
       answers_value now is v e =
           let end : start + size ≡ at + length (front.0 ++ back.0) = omega (arith, whole.1, length-append front.0 back.0, front.2.place) in
           let some = length_some at size start front.0 front.2 in
-          (_, both, (reads_as now is (Ok v) e, omega (arith, some, length-append front.0 back.0), whole.3, ap (λ (k : ℕ). standing limit k) end))
+          (_, both, (reads_as now is (Ok v) e, omega (arith, some, length-append front.0 back.0), whole.3, ap (λ (k : ℕ). position limit k) end))
 
       pub answers_fault : (now : List ℕ) → now ≡ items → (e : WireError) → (e ≢ errors.Memory → reads start now ≡ Err e) → (bytes : List ℕ) × Consumes a c bytes × Answers reads (Before at limit) bytes c (Err (row_fault e)) Refused
       answers_fault now is errors.Memory fault = (_, both, (tt, refl))

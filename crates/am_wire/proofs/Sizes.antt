@@ -1,13 +1,11 @@
 -- Lengths that are counted before the bytes are there.
-use Rattle.std.proofs.Common.{◌≡◌, ℕ, zero, suc, ◌+◌, ◌-◌, ◌*◌, ◌/◌, ◌^◌, ◌<◌, ◌≤◌, ltb, true, false, List, ◌++◌, length, length-append, refl, sym, ap, ◌∙◌, arith, inl, inr}
+use Rattle.std.proofs.Common.{◌≡◌, ℕ, zero, suc, ◌+◌, ◌-◌, ◌*◌, ◌/◌, ◌^◌, ◌<◌, ◌≤◌, ltb, true, false, ◌++◌, length, refl, sym, ap, ◌∙◌, arith, inl, inr}
 use Rattle.std.proofs.lemmas.Bool.{lt-ltb, le-ltb, cases_lt}
 use Rattle.std.proofs.lemmas.Nat.{leading_top, pow-add, pow_pos}
 use Rattle.std.proofs.Common.{pow-suc}
 use Rattle.std.proofs.Math.Pow.{pow_mono}
 use Rattle.std.specs.Int.Count.{count_leading_zeros}
 use Rattle.am_wire.specs.Varint.{groups, shortest}
-use Rattle.am_wire.specs.Writing.{tag, writes_delimited}
-use Rattle.am_wire.specs.Sizes.{counted}
 
 -- ---- numbers
 -- a number below 128 is one group
@@ -48,25 +46,3 @@ size_by_zeros n some fits =
     let top = leading_top 64 n some fits in
     let is : 63 - count_leading_zeros 64 n ≡ top.0 = omega (arith, top.1) in
     rw is (sym (groups_by_top 9 top.0 n top.2 top.3 (omega (arith, top.1))))
-
--- ---- chunks
--- the front of a chunk and its bytes, counted apart
-pub counted_delimited : (number size front : ℕ) (bytes : List ℕ) → size ≡ counted (length bytes) → front ≡ length (tag number 2) + length (shortest size)
-    → counted (front + size) ≡ counted (length (writes_delimited number bytes))
-counted_delimited number size front bytes is before =
-    let parts : length (writes_delimited number bytes) ≡ length (tag number 2) + (length (shortest (length bytes)) + length bytes) =
-    length-append (tag number 2) (shortest (length bytes) ++ bytes) ∙ ap (λ (n : ℕ). length (tag number 2) + n) (length-append (shortest (length bytes)) bytes) in
-    elim (cases_lt (length bytes) (2 ^ 64 - 1)) [
-      | inl lt ↦
-          let exact : size ≡ length bytes = omega arith in
-          let same : length (shortest size) ≡ length (shortest (length bytes)) = ap (λ (n : ℕ). length (shortest n)) exact in
-          omega (arith, parts, same)
-      | inr le ↦ omega (arith, parts)
-    ]
-
--- ---- one behind the other
-pub counted-left : (a b : ℕ) → counted (counted a + b) ≡ counted (a + b)
-counted-left a b = omega arith
-
-pub counted-right : (a b : ℕ) → counted (a + counted b) ≡ counted (a + b)
-counted-right a b = omega arith

@@ -70,7 +70,7 @@ pub enum RowPosition {
 #[derive(Drop)]
 pub struct RowReader<V: Message> {
     alloc: Global,
-    standing: RowPosition,
+    position: RowPosition,
     message: Vec<u8>,
     of: PhantomData<V>,
 }
@@ -83,9 +83,9 @@ impl<V: Message> Model for RowReader<V> {
 
     ghost Value = { RowPosition };
 
-    ghost view = { λ r. r.standing };
+    ghost view = { λ r. r.position };
 
-    ghost invariant = { λ r. (at limit : ℕ) → r.standing ≡ Before at limit → at ≤ limit };
+    ghost invariant = { λ r. (at limit : ℕ) → r.position ≡ Before at limit → at ≤ limit };
 }
 
 impl<V: Message> RowReader<V> {
@@ -102,7 +102,7 @@ impl<V: Message> RowReader<V> {
     {
         RowReader {
             alloc,
-            standing: RowPosition::Before { at: 0, limit },
+            position: RowPosition::Before { at: 0, limit },
             message: Vec::new(alloc),
             of: PhantomData,
         }
@@ -137,19 +137,19 @@ impl<V: Message> RowReader<V> {
         ensures { (bytes : List ℕ) × Consumes (R.remaining reader.old) (R.remaining reader.new) bytes ×
             Answers (V.reads unknown) self.old bytes (R.remaining reader.new) result self.new }
     {
-        let (at, limit) = match self.standing {
+        let (at, limit) = match self.position {
             RowPosition::Before { at, limit } => (at, limit),
             RowPosition::Over => return Ok(None),
             RowPosition::Refused => return Err(RowFault::Ended),
         };
-        self.standing = RowPosition::Refused;
+        self.position = RowPosition::Refused;
         let Some((size, start)) = read_length(reader, at, limit)? else {
-            self.standing = RowPosition::Over;
+            self.position = RowPosition::Over;
             return Ok(None);
         };
         read_message_bytes(&mut self.message, reader, limit, at, start, size)?;
         let value = V::decode_at(self.alloc, unknown, &self.message, start)?;
-        self.standing = RowPosition::Before {
+        self.position = RowPosition::Before {
             at: start + size,
             limit,
         };

@@ -7,7 +7,7 @@ ghost use Rattle.am_api_silences.specs.declared.reply_builder.ReplyBuilder.{Repl
 ghost use Rattle.am_http.specs.Lines.{line_seen};
 ghost use Rattle.am_http.specs.Sessions.{spoken};
 ghost use Rattle.am_instance.specs.InstanceStates.{InstanceState};
-ghost use Rattle.am_api_decisions.specs.Asked.{IsAsked};
+ghost use Rattle.am_api_decisions.specs.ParsedCalls.{IsAsked};
 ghost use Rattle.am_api_decisions.specs.Asking.{HoldsSame};
 ghost use Rattle.am_server.specs.Answered.{ForPages};
 ghost use Rattle.am_server.specs.Calls.{AnswersQuestion, IsOnly, IsProgressOf, IsUnderway, WhenTold};
@@ -23,7 +23,7 @@ use super::counting::{count_decided, count_decision};
 use super::server_state::ServerState;
 use super::telling::time_between;
 use am_api_decisions::{
-    Asked, Deciding, Notice, Question, Timing, Verdict, asked_of, begin_log, log_notice,
+    Deciding, Notice, ParsedCall, Question, Timing, Verdict, begin_log, log_notice, parse_call,
 };
 use am_api_silences::{PendingAnswer, Read, Refusal, ReplyBuilder, Request};
 use am_backend::{Backend, Counted, Incoming};
@@ -330,21 +330,21 @@ impl<U: Backend> ServerState<'_, U> {
         ensures called { IsCalled request instance.old result instance.new }
         ensures sent { PassesOn instance.old (outlets U.store_of U.outbound self.old.backend) instance.new (outlets U.store_of U.outbound self.new.backend) }
     {
-        match asked_of(self.alloc, &request) {
-            Ok(Asked::Decide(question)) => match turn_of(&self.backend, instance, &question) {
+        match parse_call(self.alloc, &request) {
+            Ok(ParsedCall::Decide(question)) => match turn_of(&self.backend, instance, &question) {
                 Some(due) => wait_for_turn(&mut self.turns, Turn::new(request, due)),
                 None => {
                     let unheard = self.unheard(request);
                     self.begin_deciding(instance, question, unheard, limit)
                 }
             },
-            Ok(Asked::Notified(notice)) => self.log_in_room(
+            Ok(ParsedCall::Notified(notice)) => self.log_in_room(
                 instance,
                 notice,
                 request_bytes(&request),
             ),
-            Ok(Asked::Log) => self.list_log(instance),
-            Ok(Asked::Alerts) => self.list_recent(),
+            Ok(ParsedCall::Log) => self.list_log(instance),
+            Ok(ParsedCall::Alerts) => self.list_recent(),
             Err(refusal) => Called::Refused(refusal),
         }
     }
@@ -400,8 +400,8 @@ impl<U: Backend> ServerState<'_, U> {
             stage,
             limit,
         } = due;
-        match asked_of(self.alloc, &request) {
-            Ok(Asked::Decide(question)) => {
+        match parse_call(self.alloc, &request) {
+            Ok(ParsedCall::Decide(question)) => {
                 let unheard = if stage == TurnStage::Heard {
                     None
                 } else {
@@ -424,7 +424,7 @@ impl<U: Backend> ServerState<'_, U> {
         limit: Option<Instant>,
     ) -> Called
         ensures steps { ForPages instance.old instance.new }
-        ensures called { (request : Request) → IsAsked request (Ok (Asked.Decide question)) → IsOnly request unheard → IsCalled request instance.old result instance.new }
+        ensures called { (request : Request) → IsAsked request (Ok (ParsedCall.Decide question)) → IsOnly request unheard → IsCalled request instance.old result instance.new }
         ensures quiet { IsQuiet instance.old (outlets U.store_of U.outbound self.old.backend) instance.new (outlets U.store_of U.outbound self.new.backend) }
     {
         let alerts = question.message.alerts.len() as u64;
@@ -482,7 +482,7 @@ impl<U: Backend> ServerState<'_, U> {
     ) -> Called
         ensures steps { ForPages instance.old instance.new }
         ensures called { (request : Request) (question : Question) (start : InstanceState) → HoldsSame start instance.old →
-            IsAsked request (Ok (Asked.Decide question)) → IsUnderway question reached.deciding → IsOnly request unheard →
+            IsAsked request (Ok (ParsedCall.Decide question)) → IsUnderway question reached.deciding → IsOnly request unheard →
             IsCalled request start result instance.new }
         ensures quiet { IsQuiet instance.old (outlets U.store_of U.outbound self.old.backend) instance.new (outlets U.store_of U.outbound self.new.backend) }
     {
@@ -513,7 +513,7 @@ impl<U: Backend> ServerState<'_, U> {
     ) -> Called
         ensures steps { ForPages instance.old instance.new }
         ensures called { (request : Request) (question : Question) (start : InstanceState) → HoldsSame start instance.old →
-            IsAsked request (Ok (Asked.Decide question)) → IsUnderway question deciding → IsOnly request unheard →
+            IsAsked request (Ok (ParsedCall.Decide question)) → IsUnderway question deciding → IsOnly request unheard →
             IsCalled request start result instance.new }
         ensures quiet { IsQuiet instance.old (outlets U.store_of U.outbound self.old.backend) instance.new (outlets U.store_of U.outbound self.new.backend) }
     {
@@ -535,7 +535,7 @@ impl<U: Backend> ServerState<'_, U> {
     ) -> Called
         ensures steps { ForPages instance.old instance.new }
         ensures called { (request : Request) (question : Question) (start : InstanceState) → HoldsSame start instance.old →
-            IsAsked request (Ok (Asked.Decide question)) → IsUnderway question deciding → IsOnly request unheard →
+            IsAsked request (Ok (ParsedCall.Decide question)) → IsUnderway question deciding → IsOnly request unheard →
             IsCalled request start result instance.new }
         ensures quiet { IsQuiet instance.old (outlets U.store_of U.outbound self.old.backend) instance.new (outlets U.store_of U.outbound self.new.backend) }
     {
@@ -585,7 +585,7 @@ impl<U: Backend> ServerState<'_, U> {
     /// Logs what was notified if the log has room for this many bytes.
     fn log_in_room(&mut self, instance: &mut Instance, notice: Notice, bytes: u64) -> Called
         ensures steps { ForPages instance.old instance.new }
-        ensures called { (request : Request) → IsAsked request (Ok (Asked.Notified notice)) → IsCalled request instance.old result instance.new }
+        ensures called { (request : Request) → IsAsked request (Ok (ParsedCall.Notified notice)) → IsCalled request instance.old result instance.new }
         ensures sent { PassesOn instance.old (outlets U.store_of U.outbound self.old.backend) instance.new (outlets U.store_of U.outbound self.new.backend) }
     {
         if !self.backend.has_room_for_notice(instance, bytes) {
@@ -602,7 +602,7 @@ impl<U: Backend> ServerState<'_, U> {
     /// Logs what was notified.
     fn log(&mut self, instance: &mut Instance, notice: Notice) -> Called
         ensures steps { ForPages instance.old instance.new }
-        ensures called { (request : Request) → IsAsked request (Ok (Asked.Notified notice)) → IsCalled request instance.old result instance.new }
+        ensures called { (request : Request) → IsAsked request (Ok (ParsedCall.Notified notice)) → IsCalled request instance.old result instance.new }
         // PROMISE: What the step of a notice sends to peers waits behind what waited before, in order, or memory ran out, and just those frames are counted as not sent.
         ensures sent { PassesOn instance.old (outlets U.store_of U.outbound self.old.backend) instance.new (outlets U.store_of U.outbound self.new.backend) }
     {
@@ -615,7 +615,7 @@ impl<U: Backend> ServerState<'_, U> {
 
     /// Begins to write the log's live entries.
     fn list_log(&self, instance: &Instance) -> Called
-        ensures { (request : Request) → IsAsked request (Ok Asked.Log) → IsCalled request instance.now result instance.now }
+        ensures { (request : Request) → IsAsked request (Ok ParsedCall.Log) → IsCalled request instance.now result instance.now }
     {
         let now = self.backend.next_moment(instance.last());
         match begin_log(self.alloc, instance, now) {
@@ -626,7 +626,7 @@ impl<U: Backend> ServerState<'_, U> {
 
     /// Lists the alerts of the most recent messages.
     fn list_recent(&self) -> Called
-        ensures { (request : Request) (stand : InstanceState) → IsAsked request (Ok Asked.Alerts) → IsCalled request stand result stand }
+        ensures { (request : Request) (stand : InstanceState) → IsAsked request (Ok ParsedCall.Alerts) → IsCalled request stand result stand }
     {
         let reply = self.recent.told(self.alloc);
         Called::Made(

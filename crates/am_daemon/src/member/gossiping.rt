@@ -16,7 +16,7 @@ ghost use Rattle.am_daemon.specs.Sending.{FrameIsSentOn, outlets};
 use super::links::address_of;
 use super::server::Server;
 use super::server_state::ServerState;
-use am_alertmanager::{Came, Report};
+use am_alertmanager::{Came, WithheldSilence};
 use am_backend::{Backend, Counted, Incoming};
 use am_diagnostics::{Fault, ShortId};
 use am_gossip::{Frame, StateKey};
@@ -102,7 +102,7 @@ impl<U: Backend> ServerState<'_, U> {
     }
 
     /// Counts a silence that isn't sent to a replica, and reports it if that wasn't done before.
-    fn report(&mut self, config: &Config, report: &Report)
+    fn report(&mut self, config: &Config, report: &WithheldSilence)
         ensures { for_peers U.outbound U.sealed_by self.new ≡ for_peers U.outbound U.sealed_by self.old }
     {
         let id = ShortId::of(report.id.as_str().as_bytes());

@@ -30,7 +30,7 @@ use am_server::{
 
 /// The requests in a peer's frames, beside the versions that they bring.
 #[derive(Clone, Copy)]
-struct Asked {
+struct FrameRequests {
     /// True if a Pull was answered.
     pulled: bool,
     /// True if all that is held here is asked for, by a peer that has sent all it has.
@@ -70,7 +70,7 @@ fn is_told_all(
     awaited: &mut Vec<Place>,
     config: &Config,
     name: Option<&str>,
-    asked: Asked,
+    asked: FrameRequests,
 ) -> bool {
     let all = asked.asks && has_all_with(awaited, config, name);
     asked.pulled || all
@@ -174,7 +174,7 @@ impl<U: Backend> ServerState<'_, U> {
         let has_frames = !said.frames.is_empty();
         let Deferred { said, asks, ticks } = defer_requests(said);
         let exchanged = self.make_steps(instance, &mut connection.session, said);
-        let asked = Asked {
+        let asked = FrameRequests {
             pulled,
             asks,
             ticks,
@@ -246,7 +246,7 @@ impl<U: Backend> ServerState<'_, U> {
         &mut self,
         config: &Config,
         name: Option<&str>,
-        asked: Asked,
+        asked: FrameRequests,
         fault: Option<ConnectionFault>,
     )
         ensures { outlets U.store_of U.outbound self.new.backend ≡ outlets U.store_of U.outbound self.old.backend }
@@ -263,7 +263,7 @@ impl<U: Backend> ServerState<'_, U> {
     }
 
     /// Remembers that frames of a peer, if there were any, were taken now.
-    fn note_frames(&mut self, config: &Config, name: Option<&str>, asked: Asked)
+    fn note_frames(&mut self, config: &Config, name: Option<&str>, asked: FrameRequests)
         ensures { outlets U.store_of U.outbound self.new.backend ≡ outlets U.store_of U.outbound self.old.backend }
     {
         if !asked.has_frames {
@@ -277,7 +277,7 @@ impl<U: Backend> ServerState<'_, U> {
     }
 
     /// Ends the first pull, if it is going on, when a peer has sent all it has, or now that each peer has.
-    fn end_first_pull_after(&mut self, config: &Config, name: Option<&str>, asked: Asked)
+    fn end_first_pull_after(&mut self, config: &Config, name: Option<&str>, asked: FrameRequests)
         ensures { outlets U.store_of U.outbound self.new.backend ≡ outlets U.store_of U.outbound self.old.backend }
     {
         if !self.duties.waits_for_pull() {
@@ -289,7 +289,7 @@ impl<U: Backend> ServerState<'_, U> {
     }
 
     /// Remembers what the frames of a peer asked for: a Tick, and, except during the first pull, all that is held here.
-    fn schedule_transfer(&mut self, config: &Config, name: Option<&str>, asked: Asked)
+    fn schedule_transfer(&mut self, config: &Config, name: Option<&str>, asked: FrameRequests)
         ensures { outlets U.store_of U.outbound self.new.backend ≡ outlets U.store_of U.outbound self.old.backend }
     {
         self.duties.owe_tick(asked.ticks);

@@ -35,7 +35,7 @@ pub fn time_between(from: Moment, to: Moment) -> Duration {
 
 /// An answer about a member.
 #[derive(Drop)]
-pub enum Told {
+pub enum StatusAnswer {
     /// A reply, if there was memory for it.
     Reply(Result<Vec<u8>, AllocError>),
     /// A refusal.
@@ -45,14 +45,16 @@ pub enum Told {
 }
 
 /// Answers a connection.
-pub fn tell(alloc: Global, connection: &mut ConnectionState, told: Told)
+pub fn tell(alloc: Global, connection: &mut ConnectionState, told: StatusAnswer)
     ensures rests { Rests (talk_of connection.old) (talk_of connection.new) }
     ensures gone { KeepsGone (talk_of connection.old).saying (talk_of connection.new).saying }
 {
     match told {
-        Told::Reply(reply) => connection.tell(alloc, reply),
-        Told::Refused(refusal) => connection.refuse(alloc, &refusal),
-        Told::Counting(state_count) => connection.put_off(CallProgress::Counting(state_count)),
+        StatusAnswer::Reply(reply) => connection.tell(alloc, reply),
+        StatusAnswer::Refused(refusal) => connection.refuse(alloc, &refusal),
+        StatusAnswer::Counting(state_count) => connection.put_off(CallProgress::Counting(
+            state_count,
+        )),
     }
 }
 
@@ -136,22 +138,24 @@ impl<U: Backend> ServerState<'_, U> {
         };
         let told = match call_of(resource, &request.method) {
             Ok(call) => self.told(instance, call),
-            Err(refusal) => Told::Refused(refusal),
+            Err(refusal) => StatusAnswer::Refused(refusal),
         };
         tell(self.alloc, connection, told);
     }
 
     /// Returns the answer to a call.
-    fn told(&self, instance: &Instance, call: StatusCall) -> Told {
+    fn told(&self, instance: &Instance, call: StatusCall) -> StatusAnswer {
         let alloc = self.alloc;
         let StatusCall { resource, is_bare } = call;
         match resource {
-            StatusResource::Page => Told::Reply(page_reply(alloc, is_bare)),
-            StatusResource::Healthy => Told::Reply(well_reply(alloc, is_bare)),
-            StatusResource::Ready if self.is_ready() => Told::Reply(well_reply(alloc, is_bare)),
-            StatusResource::Ready => Told::Refused(not_ready(is_bare)),
-            StatusResource::Receivers => Told::Reply(receivers_reply(alloc, is_bare)),
-            StatusResource::Status => Told::Reply(self.status(instance.config(), is_bare)),
+            StatusResource::Page => StatusAnswer::Reply(page_reply(alloc, is_bare)),
+            StatusResource::Healthy => StatusAnswer::Reply(well_reply(alloc, is_bare)),
+            StatusResource::Ready if self.is_ready() => StatusAnswer::Reply(well_reply(
+                alloc, is_bare,
+            )),
+            StatusResource::Ready => StatusAnswer::Refused(not_ready(is_bare)),
+            StatusResource::Receivers => StatusAnswer::Reply(receivers_reply(alloc, is_bare)),
+            StatusResource::Status => StatusAnswer::Reply(self.status(instance.config(), is_bare)),
             StatusResource::Metrics => self.begin_counting(instance, is_bare),
         }
     }
@@ -165,7 +169,7 @@ impl<U: Backend> ServerState<'_, U> {
     fn status(&self, config: &Config, is_bare: bool) -> Result<Vec<u8>, AllocError> {
         let alloc = self.alloc;
         let options = self.backend.options();
-        let standing = MemberStatus {
+        let session_phase = MemberStatus {
             name: Text::copied(alloc, options.name)?,
             is_ready: self.is_ready(),
             peers: self.members_shown(config)?,
@@ -174,7 +178,7 @@ impl<U: Backend> ServerState<'_, U> {
             start: later_moment(self.backend.counted().start, Moment::LEAST),
             version: VERSION,
         };
-        status_reply(alloc, &standing, is_bare)
+        status_reply(alloc, &session_phase, is_bare)
     }
 
     /// Returns all members, with the addresses at which they listen.
@@ -228,7 +232,7 @@ impl<U: Backend> ServerState<'_, U> {
     }
 
     /// Begins to count the silences. During a first pull nothing that waits is done, so they are counted at once.
-    fn begin_counting(&self, instance: &Instance, is_bare: bool) -> Told {
+    fn begin_counting(&self, instance: &Instance, is_bare: bool) -> StatusAnswer {
         let state_count = StateCount::new(is_bare);
         if self.duties.waits_for_pull() {
             self.told_of(
@@ -236,12 +240,16 @@ impl<U: Backend> ServerState<'_, U> {
                 counted(&self.backend, self.alloc, instance, state_count),
             )
         } else {
-            Told::Counting(state_count)
+            StatusAnswer::Counting(state_count)
         }
     }
 
     /// Counts one more stretch of the silences. If none is left, the answer has the figures.
-    pub(super) fn resume_count(&self, instance: &Instance, state_count: StateCount) -> Told {
+    pub(super) fn resume_count(
+        &self,
+        instance: &Instance,
+        state_count: StateCount,
+    ) -> StatusAnswer {
         self.told_of(
             instance,
             counted_on(&self.backend, self.alloc, instance, state_count),
@@ -249,14 +257,18 @@ impl<U: Backend> ServerState<'_, U> {
     }
 
     /// Returns the figures if all silences are counted; otherwise they are counted on later.
-    fn told_of(&self, instance: &Instance, counted: Result<StateCount, AllocError>) -> Told {
+    fn told_of(
+        &self,
+        instance: &Instance,
+        counted: Result<StateCount, AllocError>,
+    ) -> StatusAnswer {
         match counted {
-            Ok(state_count) if state_count.is_done() => Told::Reply(self.figures(
+            Ok(state_count) if state_count.is_done() => StatusAnswer::Reply(self.figures(
                 instance,
                 &state_count,
             )),
-            Ok(state_count) => Told::Counting(state_count),
-            Err(_) => Told::Refused(Cause::Memory.refusal()),
+            Ok(state_count) => StatusAnswer::Counting(state_count),
+            Err(_) => StatusAnswer::Refused(Cause::Memory.refusal()),
         }
     }
 

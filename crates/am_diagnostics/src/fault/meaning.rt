@@ -135,7 +135,7 @@ fn meaning_of_gate(fault: AuthFault) -> &'static str {
         AuthFault::Seal(SealError::Sum) =>
             "the sum of a frame isn't right, so it isn't taken; has the peer the same --secret, and this member's name, and is it of this release?",
         AuthFault::Seal(SealError::Number) => "a connection has no number for another frame",
-        AuthFault::Seal(SealError::Text) => "what is sealed isn't one frame",
+        AuthFault::Seal(SealError::NotOneFrame) => "what is sealed isn't one frame",
         AuthFault::Seal(SealError::Memory) => MEMORY,
     }
 }

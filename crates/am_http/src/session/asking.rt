@@ -3,7 +3,7 @@
 ghost use Rattle.std.specs.Prelude.{◌≡◌, ◌⊎◌, ◌<◌, ◌++◌, length};
 ghost use Rattle.am_http.specs.Requests.{IsUnfinished};
 ghost use Rattle.am_http.specs.Sessions.{Asks, IsCutShort, LacksToAsk, spoken};
-ghost use Rattle.am_http.specs.States.{IsSound, standing_in};
+ghost use Rattle.am_http.specs.States.{IsSound, phase_in};
 
 use crate::cause::Cause;
 use crate::request::{Read, read_request};
@@ -14,7 +14,7 @@ use std::alloc::Global;
 /// Returns what the bytes of a request so far say.
 fn ask(alloc: Global, bytes: Vec<u8>) -> (SessionOutput, SessionState)
     requires { 0 < length bytes.items }
-    ensures says { Asks bytes.items (spoken result.0) (standing_in result.1) }
+    ensures says { Asks bytes.items (spoken result.0) (phase_in result.1) }
     ensures sound { IsSound result.1 }
 {
     match read_request(alloc, &bytes, false) {
@@ -26,8 +26,8 @@ fn ask(alloc: Global, bytes: Vec<u8>) -> (SessionOutput, SessionState)
 /// Returns what a piece says that follows the bytes of a request so far.
 pub fn ask_on(alloc: Global, bytes: Vec<u8>, piece: &[u8]) -> (SessionOutput, SessionState)
     requires { 0 < length (bytes.items ++ piece.now) }
-    ensures says { Asks (bytes.items ++ piece.now) (spoken result.0) (standing_in result.1)
-        ⊎ LacksToAsk (spoken result.0) (standing_in result.1) }
+    ensures says { Asks (bytes.items ++ piece.now) (spoken result.0) (phase_in result.1)
+        ⊎ LacksToAsk (spoken result.0) (phase_in result.1) }
     ensures sound { IsSound result.1 }
 {
     let mut bytes = bytes;

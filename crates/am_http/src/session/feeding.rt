@@ -2,7 +2,7 @@
 
 ghost use Rattle.std.specs.Prelude.{◌≡◌};
 ghost use Rattle.am_http.specs.Sessions.{Feeds, SaysEnd, fresh, spoken};
-ghost use Rattle.am_http.specs.States.{IsSound, standing_in};
+ghost use Rattle.am_http.specs.States.{IsSound, phase_in};
 
 use crate::session::asking::{ask_on, cut_short};
 use crate::session::greeting::greet_on;
@@ -16,7 +16,7 @@ const LEAST_OF_REQUESTS: u8 = 0x20;
 
 /// Returns what the first piece says.
 fn begin(alloc: Global, piece: &[u8]) -> (SessionOutput, SessionState)
-    ensures says { Feeds fresh piece.now (spoken result.0) (standing_in result.1) }
+    ensures says { Feeds fresh piece.now (spoken result.0) (phase_in result.1) }
     ensures sound { IsSound result.1 }
 {
     match piece.first() {
@@ -29,7 +29,7 @@ fn begin(alloc: Global, piece: &[u8]) -> (SessionOutput, SessionState)
 /// Returns what the next piece says.
 pub fn next_of(alloc: Global, state: SessionState, piece: &[u8]) -> (SessionOutput, SessionState)
     requires { IsSound state }
-    ensures says { Feeds (standing_in state) piece.now (spoken result.0) (standing_in result.1) }
+    ensures says { Feeds (phase_in state) piece.now (spoken result.0) (phase_in result.1) }
     ensures sound { IsSound result.1 }
 {
     match state {
@@ -44,7 +44,7 @@ pub fn next_of(alloc: Global, state: SessionState, piece: &[u8]) -> (SessionOutp
 /// Returns what the end of the input says.
 pub fn end_of(alloc: Global, state: &SessionState) -> SessionOutput
     requires { IsSound state.now }
-    ensures { SaysEnd (standing_in state.now) (spoken result) }
+    ensures { SaysEnd (phase_in state.now) (spoken result) }
 {
     match state {
         SessionState::Asking(bytes) => cut_short(alloc, bytes),

@@ -3,7 +3,7 @@
 ghost use Rattle.std.specs.Prelude.{◌≡◌, ◌⊎◌, ◌++◌, [], None, Ok};
 ghost use Rattle.am_gossip.specs.Hellos.{hello_of};
 ghost use Rattle.am_http.specs.Sessions.{Greets, Hears, LacksToGreet, spoken};
-ghost use Rattle.am_http.specs.States.{IsSound, standing_in};
+ghost use Rattle.am_http.specs.States.{IsSound, phase_in};
 
 use crate::session::hearing::hear;
 use crate::session::output::SessionOutput;
@@ -13,7 +13,7 @@ use std::alloc::Global;
 
 /// Returns the output if there is no memory for a greeting.
 fn unheard(alloc: Global) -> (SessionOutput, SessionState)
-    ensures says { LacksToGreet (spoken result.0) (standing_in result.1) }
+    ensures says { LacksToGreet (spoken result.0) (phase_in result.1) }
     ensures sound { IsSound result.1 }
 {
     (
@@ -24,8 +24,8 @@ fn unheard(alloc: Global) -> (SessionOutput, SessionState)
 
 /// Returns what the bytes behind a greeting with this name and length say.
 fn greeted(alloc: Global, name: &str, len: usize, piece: &[u8]) -> (SessionOutput, SessionState)
-    ensures says { Hears name.now len [] piece.now (spoken result.0) (standing_in result.1)
-        ⊎ LacksToGreet (spoken result.0) (standing_in result.1) }
+    ensures says { Hears name.now len [] piece.now (spoken result.0) (phase_in result.1)
+        ⊎ LacksToGreet (spoken result.0) (phase_in result.1) }
     ensures sound { IsSound result.1 }
 {
     let Ok(name) = String::from_str(alloc, name) else {
@@ -42,8 +42,8 @@ fn greeted(alloc: Global, name: &str, len: usize, piece: &[u8]) -> (SessionOutpu
 /// Keeps the bytes of a greeting that isn't whole.
 fn wait(alloc: Global, bytes: &[u8]) -> (SessionOutput, SessionState)
     requires { hello_of bytes.now ≡ Ok None }
-    ensures says { Greets bytes.now (spoken result.0) (standing_in result.1)
-        ⊎ LacksToGreet (spoken result.0) (standing_in result.1) }
+    ensures says { Greets bytes.now (spoken result.0) (phase_in result.1)
+        ⊎ LacksToGreet (spoken result.0) (phase_in result.1) }
     ensures sound { IsSound result.1 }
 {
     match bytes.to_vec(alloc) {
@@ -54,8 +54,8 @@ fn wait(alloc: Global, bytes: &[u8]) -> (SessionOutput, SessionState)
 
 /// Returns what all the bytes of a connection of frames so far say.
 fn greet(alloc: Global, bytes: &[u8]) -> (SessionOutput, SessionState)
-    ensures says { Greets bytes.now (spoken result.0) (standing_in result.1)
-        ⊎ LacksToGreet (spoken result.0) (standing_in result.1) }
+    ensures says { Greets bytes.now (spoken result.0) (phase_in result.1)
+        ⊎ LacksToGreet (spoken result.0) (phase_in result.1) }
     ensures sound { IsSound result.1 }
 {
     match read_hello(bytes) {
@@ -70,8 +70,8 @@ fn greet(alloc: Global, bytes: &[u8]) -> (SessionOutput, SessionState)
 
 /// Returns what a piece says that follows the bytes of a greeting so far. The piece is copied only if the greeting was cut.
 pub fn greet_on(alloc: Global, bytes: Vec<u8>, piece: &[u8]) -> (SessionOutput, SessionState)
-    ensures says { Greets (bytes.items ++ piece.now) (spoken result.0) (standing_in result.1)
-        ⊎ LacksToGreet (spoken result.0) (standing_in result.1) }
+    ensures says { Greets (bytes.items ++ piece.now) (spoken result.0) (phase_in result.1)
+        ⊎ LacksToGreet (spoken result.0) (phase_in result.1) }
     ensures sound { IsSound result.1 }
 {
     if bytes.is_empty() {

@@ -4,7 +4,7 @@ ghost use Rattle.std.specs.Prelude.{◌≡◌, ◌⊎◌, ◌-◌, Some, drop, t
 ghost use Rattle.std.specs.Option.{IsSome};
 ghost use Rattle.am_gossip.specs.Streams.{rest_bytes};
 ghost use Rattle.am_http.specs.Sessions.{Hears, IsUnheard, most_bytes, over, spoken};
-ghost use Rattle.am_http.specs.States.{IsSound, ended_by, standing_in};
+ghost use Rattle.am_http.specs.States.{IsSound, ended_by, phase_in};
 
 use crate::session::fault::SessionFault;
 use crate::session::output::SessionOutput;
@@ -41,8 +41,8 @@ fn ended_by(fault: Option<FrameError>, lost: &[u8]) -> Option<SessionFault>
 pub fn hear(alloc: Global, hearing: Hearing, piece: &[u8]) -> (SessionOutput, SessionState)
     requires { IsSome hearing.feeder }
     ensures says { Hears (string_bytes hearing.name) hearing.count (rest_bytes hearing.feeder) piece.now (spoken
-        result.0) (standing_in result.1)
-        ⊎ (IsUnheard (spoken result.0) × (standing_in result.1 ≡ over (Some (string_bytes hearing.name)))) }
+        result.0) (phase_in result.1)
+        ⊎ (IsUnheard (spoken result.0) × (phase_in result.1 ≡ over (Some (string_bytes hearing.name)))) }
     ensures sound { IsSound result.1 }
 {
     let mut hearing = hearing;

@@ -3,7 +3,7 @@
 ghost use Rattle.std.specs.Prelude.{◌≡◌, ◌++◌, IfOk};
 ghost use Rattle.am_http.specs.Hosts.{IsScreened, texts};
 ghost use Rattle.am_http.specs.Sessions.{Screens};
-ghost use Rattle.am_http.specs.States.{standing_in};
+ghost use Rattle.am_http.specs.States.{phase_in};
 
 use crate::hosts::{Screened, screen};
 use crate::session::state::SessionState;
@@ -30,7 +30,7 @@ pub fn screened(
     piece: &[u8],
     names: &[&str],
 ) -> Result<Screened, AllocError>
-    ensures { IfOk result (Screens (standing_in state.now) piece.now (texts names.now)) }
+    ensures { IfOk result (Screens (phase_in state.now) piece.now (texts names.now)) }
 {
     match state {
         SessionState::Fresh => Ok(screen(piece, names)),

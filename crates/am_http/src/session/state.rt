@@ -3,7 +3,7 @@
 ghost use Rattle.std.specs.Prelude.{◌≡◌, length, string_bytes};
 ghost use Rattle.std.specs.Option.{option_copied, option_map};
 ghost use Rattle.am_http.specs.Sessions.{name_of, waiting_in};
-ghost use Rattle.am_http.specs.States.{standing_in};
+ghost use Rattle.am_http.specs.States.{phase_in};
 
 use am_gossip::Feeder;
 
@@ -35,7 +35,7 @@ pub enum SessionState {
 impl SessionState {
     /// Returns the name in the greeting, if one came.
     pub fn name(&self) -> Option<&str>
-        ensures { option_copied result ≡ name_of (standing_in self.now) }
+        ensures { option_copied result ≡ name_of (phase_in self.now) }
     {
         match self {
             SessionState::Hearing(hearing) => Some(hearing.name.as_str()),
@@ -46,7 +46,7 @@ impl SessionState {
 
     /// Returns the number of bytes that wait for the rest of what they begin.
     pub fn waiting(&self) -> usize
-        ensures { result ≡ length (waiting_in (standing_in self.now)) }
+        ensures { result ≡ length (waiting_in (phase_in self.now)) }
     {
         match self {
             SessionState::Fresh | SessionState::Over(_) => 0,
@@ -57,7 +57,7 @@ impl SessionState {
 
     /// Returns the name in the greeting, if one came.
     pub fn into_name(self) -> Option<String>
-        ensures { option_map string_bytes result ≡ name_of (standing_in self) }
+        ensures { option_map string_bytes result ≡ name_of (phase_in self) }
     {
         match self {
             SessionState::Hearing(hearing) => Some(hearing.name),

@@ -2,7 +2,7 @@
 
 use super::arguments::{Argument, HOUR, LOG, Rule, STATE, TEXT, Takes, with_arguments};
 use super::{Mistake, ensure, ensure_file, has_name_twice, now_of, sources_of, state_of, time_of};
-use crate::job::{DiffJob, Job, Report, StateName};
+use crate::job::{DiffForm, DiffJob, Job, StateName};
 use crate::source::{STANDARD_INPUT, SourceWord, are_live};
 use am_peers::port_of;
 use am_report::Compared;
@@ -97,13 +97,13 @@ fn judge<'a>(args: &ArgMatches<'a>, sources: &[SourceWord<'a>]) -> Result<(), Mi
 }
 
 /// Returns the form in which the options want differences reported.
-fn report_of(args: &ArgMatches<'_>) -> Report {
+fn report_of(args: &ArgMatches<'_>) -> DiffForm {
     if args.get_flag("json") {
-        Report::Json
+        DiffForm::Json
     } else if args.get_flag("prometheus") {
-        Report::Figures
+        DiffForm::Figures
     } else {
-        Report::Lines
+        DiffForm::Lines
     }
 }
 

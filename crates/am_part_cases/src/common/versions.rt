@@ -26,9 +26,9 @@ pub trait Printed {
 }
 
 /// A version that cases name, and that is printed as they name it; after `bytes` it is named by its bytes.
-pub trait Told: Version + Message + Spelled + Printed {}
+pub trait CaseVersion: Version + Message + Spelled + Printed {}
 
-impl<V: Version + Message + Spelled + Printed> Told for V {}
+impl<V: Version + Message + Spelled + Printed> CaseVersion for V {}
 
 /// Returns the start and the end among the words. There is no other `..` before theirs.
 fn span(words: &str) -> (&str, &str) {
@@ -60,19 +60,24 @@ impl Case {
     }
 
     /// Prints each of these versions on a line.
-    pub fn say_versions<V: Told>(&self, versions: &[V]) {
+    pub fn say_versions<V: CaseVersion>(&self, versions: &[V]) {
         for version in versions {
             say!(self; @version);
         }
     }
 
     /// Takes the version that words spell at a moment.
-    pub fn take<V: Told>(&self, held: &mut Held<V>, words: &str, now: Moment) -> Option<Taken> {
+    pub fn take<V: CaseVersion>(
+        &self,
+        held: &mut Held<V>,
+        words: &str,
+        now: Moment,
+    ) -> Option<Taken> {
         self.made(held.take(V::spelled(self, words)?, now))
     }
 
     /// Returns the map of versions with `, ` between them.
-    pub fn held<V: Told>(&self, text: &str) -> Held<V> {
+    pub fn held<V: CaseVersion>(&self, text: &str) -> Held<V> {
         let mut held = Held::new(self.alloc);
         for version in self.list::<V>(text, ", ") {
             self.made(held.take(version, Moment::LEAST));
@@ -81,7 +86,7 @@ impl Case {
     }
 
     /// Prints all versions of a map on a line.
-    pub fn say_held<V: Told>(&self, held: &Held<V>) {
+    pub fn say_held<V: CaseVersion>(&self, held: &Held<V>) {
         put!(self; held.len(), " held");
         for version in held.iter() {
             put!(self; ", ", @version);

@@ -3,7 +3,7 @@
 use crate::common::{Case, cut, first};
 use crate::parts::messages;
 use am_api_status::{call_of, resource_of};
-use am_metrics::{Family, Label, MetricType, Number, Sample, write_families};
+use am_metrics::{Family, MetricLabel, MetricType, Number, Sample, write_families};
 
 /// The names of labels, in their order.
 const LABELS: [&str; 3] = ["a", "b", "c"];
@@ -50,12 +50,12 @@ fn number_of(word: &str) -> Option<Number> {
 }
 
 /// Returns the labels with these values.
-fn labels_of(case: &Case, values: &str) -> Vec<Label> {
+fn labels_of(case: &Case, values: &str) -> Vec<MetricLabel> {
     let mut labels = Vec::new(case.alloc);
     for (name, value) in LABELS.iter().zip(values.split_terminator('|')) {
         let bytes = case.unescaped(value);
         let value = case.text(str::from_utf8(bytes.as_slice()).unwrap_or(""));
-        case.push(&mut labels, Label { name: *name, value });
+        case.push(&mut labels, MetricLabel { name: *name, value });
     }
     labels
 }

@@ -6,7 +6,7 @@ use am_http::{Cause, Read, Resource, call_of, filter_texts, out_of_memory, read_
 use am_nflog::HashIter;
 use am_report::{ListedWord, Numbers, Texts, Word};
 use am_schedule::{FaultKind, parse};
-use am_silence_json::Key;
+use am_silence_json::JsonKey;
 
 /// Answers cases of requests, replies and words.
 pub fn answer(case: &Case, verb: &str, rest: &str) {
@@ -89,12 +89,12 @@ const CAUSES: [Cause; 18] = [
     Cause::MethodNotAllowed(Resource::Silence),
     Cause::BadFilter,
     Cause::BadJson,
-    Cause::BadSilence(Key::Id),
-    Cause::BadSilence(Key::Matchers),
-    Cause::BadSilence(Key::StartsAt),
-    Cause::BadSilence(Key::EndsAt),
-    Cause::BadSilence(Key::CreatedBy),
-    Cause::BadSilence(Key::Comment),
+    Cause::BadSilence(JsonKey::Id),
+    Cause::BadSilence(JsonKey::Matchers),
+    Cause::BadSilence(JsonKey::StartsAt),
+    Cause::BadSilence(JsonKey::EndsAt),
+    Cause::BadSilence(JsonKey::CreatedBy),
+    Cause::BadSilence(JsonKey::Comment),
     Cause::Memory,
 ];
 

@@ -1,6 +1,6 @@
 //! Versions of either state: read, written, copied and compared; matchers, identifiers and receivers.
 
-use crate::common::{Case, Printed, Spelled, Told, cut, first};
+use crate::common::{Case, CaseVersion, Printed, Spelled, cut, first};
 use crate::parts::frames;
 use am_nflog::{MeshEntry, Receiver};
 use am_silence::{Matcher, MeshSilence, fresh_id, state_at};
@@ -28,7 +28,7 @@ pub fn answer(case: &Case, verb: &str, rest: &str) {
 
 /// Answers `nfl VERB WORDS` about log entries, and `sil VERB WORDS` about silences; `nfl kept BYTES` reads an entry with its
 /// unknown fields.
-fn of_state<V: Told>(case: &Case, text: &str)
+fn of_state<V: CaseVersion>(case: &Case, text: &str)
 where
     V::Key: Drop,
 {
@@ -59,7 +59,7 @@ fn read<M: Message>(case: &Case, unknown: Unknown, hex: &str) -> Option<M> {
     case.got(read, WireError::Memory)
 }
 
-fn say_read<V: Told>(case: &Case, unknown: Unknown, hex: &str) {
+fn say_read<V: CaseVersion>(case: &Case, unknown: Unknown, hex: &str) {
     given!(version = read::<V>(case, unknown, hex));
     say!(case; @version);
     put!(case; "order: updated ", @version.updated(), ", expires ", @version.expires());
@@ -78,7 +78,7 @@ fn say_written<M: Message>(case: &Case, message: &M) {
 }
 
 /// Prints how the copies of the key and of a version compare with them, and then the version's copy.
-fn copied<V: Told>(case: &Case, words: &str)
+fn copied<V: CaseVersion>(case: &Case, words: &str)
 where
     V::Key: Drop,
 {
@@ -89,14 +89,14 @@ where
     say!(case; @copy);
 }
 
-fn orders<V: Told>(case: &Case, are_keys: bool, text: &str) {
+fn orders<V: CaseVersion>(case: &Case, are_keys: bool, text: &str) {
     let list = case.list::<V>(text, ", ");
     for version in &list {
         say_orders(case, are_keys, version, list.as_slice());
     }
 }
 
-fn say_orders<V: Told>(case: &Case, are_keys: bool, version: &V, others: &[V]) {
+fn say_orders<V: CaseVersion>(case: &Case, are_keys: bool, version: &V, others: &[V]) {
     for (place, other) in others.iter().enumerate() {
         let order = match are_keys {
             true => version.key().cmp(other.key()),

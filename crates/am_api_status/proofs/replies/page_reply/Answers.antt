@@ -1,7 +1,7 @@
 use Rattle.std.proofs.Common.{◌≡◌, subst}
 use Rattle.std.specs.Prelude.{IfOk}
 use Rattle.am_api_status.specs.Replies.{told_bytes}
-use Rattle.am_api_status.specs.declared.replies.Format.TheVariants as formats
+use Rattle.am_api_status.specs.declared.replies.BodyFormat.TheVariants as formats
 use Rattle.am_api_status.proofs.replies.page_reply.Goals as goal
 
 pub returns : goal.returns

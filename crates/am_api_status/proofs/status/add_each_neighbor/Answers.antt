@@ -1,5 +1,5 @@
 use Rattle.std.proofs.Common.{arith}
-use Rattle.am_api_status.specs.Standings.{neighbor_data}
+use Rattle.am_api_status.specs.Statuses.{neighbor_data}
 use Rattle.am_api_status.proofs.Adding.{row_more}
 use Rattle.am_api_status.proofs.status.add_each_neighbor.Goals as goal
 

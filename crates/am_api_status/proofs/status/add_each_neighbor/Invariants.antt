@@ -1,6 +1,6 @@
 use Rattle.std.proofs.Common.{take, map}
 use Rattle.am_silence_json.specs.Tokens.{Adds, row_tokens}
-use Rattle.am_api_status.specs.Standings.{neighbor_data}
+use Rattle.am_api_status.specs.Statuses.{neighbor_data}
 use Rattle.am_api_status.proofs.status.add_each_neighbor.Given as goal
 
 -- those so far are added

@@ -1,6 +1,6 @@
 use Rattle.std.proofs.Common.{take, map}
 use Rattle.am_silence_json.specs.Tokens.{Adds, row_tokens}
-use Rattle.am_api_status.specs.Standings.{peer_data}
+use Rattle.am_api_status.specs.Statuses.{peer_data}
 use Rattle.am_api_status.proofs.status.add_each_peer.Given as goal
 
 -- the members so far are added

@@ -1,6 +1,6 @@
 use Rattle.std.proofs.Common.{map}
 use Rattle.am_silence_json.proofs.Bodies.{chain, list_is}
-use Rattle.am_api_status.specs.Standings.{peer_data}
+use Rattle.am_api_status.specs.Statuses.{peer_data}
 use Rattle.am_api_status.proofs.status.add_peers.Goals as goal
 
 pub returns : goal.returns

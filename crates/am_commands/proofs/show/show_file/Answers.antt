@@ -9,10 +9,10 @@ returns-in-Err-clause-stopped g c = λ failed. (
     c.in-Err.fault,
     refl,
     record {
-      asked = c.asked_by.result;
-      file = c.asked_by.ensures.file;
-      logs = c.asked_by.ensures.logs;
-      reading = c.asked_by.ensures.reading;
+      asked = c.request_of.result;
+      file = c.request_of.ensures.file;
+      logs = c.request_of.ensures.logs;
+      reading = c.request_of.ensures.reading;
       opened = c.in-Err.ensures;
     },
     refl,

@@ -4,8 +4,8 @@ use Rattle.am_member.proofs.Replied.{answer_bare}
 use Rattle.am_member.proofs.laws.lives_reply_as_the_bare_sets.Goals as goal
 
 pub returns : goal.returns
-returns c = λ standings start stand deeds turn request maps held life done is.
-    let steps = c.lives_are_steps.ensures standings start stand deeds life in (
+returns c = λ session_phases start stand deeds turn request maps held life done is.
+    let steps = c.lives_are_steps.ensures session_phases start stand deeds life in (
       steps.0,
       steps.1,
       λ calm. answer_bare (all_silences start steps.0) (all_entries start steps.0) stand turn.left request turn.bits turn.now turn.answer

@@ -1,8 +1,8 @@
 use Rattle.am_member.proofs.laws.lives_show_the_bare_sets.Goals as goal
 
 pub returns : goal.returns
-returns c = λ standings start new deeds maps life.
-    let steps = c.lives_are_steps.ensures standings start new deeds life in (
+returns c = λ session_phases start new deeds maps life.
+    let steps = c.lives_are_steps.ensures session_phases start new deeds life in (
       steps.0,
       steps.1,
       record {

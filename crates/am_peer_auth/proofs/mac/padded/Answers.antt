@@ -4,5 +4,5 @@ use Rattle.am_peer_auth.proofs.mac.padded.Goals as goal
 
 pub returns : goal.returns
 returns c =
-    ap (λ (l : List ℕ). c.copy_from_slice.new.self ++ l) (drop-replicate (length c.args.text.now) 64 0)
-    ∙ ap (λ (l : List ℕ). l ++ replicate (64 - length c.args.text.now) 0) c.copy_from_slice.ensures.after
+    ap (λ (l : List ℕ). c.copy_from_slice.new.self ++ l) (drop-replicate (length c.args.bytes.now) 64 0)
+    ∙ ap (λ (l : List ℕ). l ++ replicate (64 - length c.args.bytes.now) 0) c.copy_from_slice.ensures.after

@@ -5,6 +5,6 @@ use Rattle.am_peer_auth.proofs.seal.sealed_encoding.Given as goal
 
 abbrev pub invariant-loop-frame : goal.invariant-loop-frame
 invariant-loop-frame l = record {
-  text : l.text.items ≡ sealed_frames l.lock l.addressee l.fn.place (take l.frame-index l.frames);
+  encoding : l.encoding.items ≡ sealed_frames l.lock l.addressee l.fn.place (take l.frame-index l.frames);
   next : l.next ≡ after l.frame-index l.fn.place;
 }

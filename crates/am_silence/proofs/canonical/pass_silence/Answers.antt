@@ -1,7 +1,7 @@
 use Rattle.am_wire.proofs.Offsets.{stands_grown}
 use Rattle.am_silence.specs.declared.silence.Silence.{Silence}
 use Rattle.am_silence.proofs.Passed.{silence_passed}
-use Rattle.am_silence.proofs.Standing.{between_grown}
+use Rattle.am_silence.proofs.OffsetsKept.{between_grown}
 use Rattle.am_silence.proofs.canonical.pass_silence.Goals as goal
 
 pub returns-clause-passed : goal.returns-clause-passed

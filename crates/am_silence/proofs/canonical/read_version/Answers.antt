@@ -7,7 +7,7 @@ use Rattle.am_wire.proofs.Kept.{is_none}
 use Rattle.am_silence.specs.Mesh.{silence_numbers}
 use Rattle.am_silence.specs.Offsets.{StandIn}
 use Rattle.am_silence.proofs.Passed.{version_passed}
-use Rattle.am_silence.proofs.Standing.{stand_before}
+use Rattle.am_silence.proofs.OffsetsKept.{stand_before}
 use Rattle.am_silence.proofs.canonical.read_version.Goals as goal
 
 pub returns : goal.returns

@@ -4,7 +4,7 @@ use Rattle.am_silence.specs.declared.offsets.Offsets.{Offsets}
 use Rattle.am_silence.specs.declared.silence.Silence.{Silence}
 use Rattle.am_silence.specs.Offsets.{StandIn}
 use Rattle.am_silence.specs.Silences.{IsSilence}
-use Rattle.am_silence.proofs.Standing.{between_grown}
+use Rattle.am_silence.proofs.OffsetsKept.{between_grown}
 use Rattle.am_silence.proofs.offsets.write_silence.Goals as goal
 
 pub returns-clause-value : goal.returns-clause-value

@@ -1,5 +1,5 @@
 use Rattle.am_api_decisions.specs.Asking.{HoldsSame}
-use Rattle.am_api_decisions.specs.declared.asked.Question.{Question}
+use Rattle.am_api_decisions.specs.declared.parsed_call.Question.{Question}
 use Rattle.am_server.specs.Answered.{ForPages}
 use Rattle.am_server.specs.Calls.{IsUnderway}
 use Rattle.am_daemon.proofs.member.deciding.ask_on.Given as goal

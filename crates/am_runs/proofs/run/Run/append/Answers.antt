@@ -4,7 +4,7 @@ use Rattle.std.proofs.lemmas.List.{map-append}
 use Rattle.std.proofs.lemmas.List.Elements.{All-append}
 use Rattle.am_runs.specs.Records.{Record, step_of}
 use Rattle.am_runs.specs.Runs.{IsPossible, IsRun}
-use Rattle.am_runs.specs.Standings.{AreStandings}
+use Rattle.am_runs.specs.MemberIndexes.{AreMemberIndexes}
 use Rattle.am_runs.specs.Steps.{delivered_by, delivered_in}
 use Rattle.am_runs.proofs.Pasts.{delivered_in-push}
 use Rattle.am_runs.proofs.run.Run.append.Goals as goal
@@ -21,7 +21,7 @@ invariant_of-self g c =
       values = subst (All g.V.Version.is_value) (sym (ap delivered_in grown ∙ delivered_in-push (map step_of old) (step_of c.args.step)))
           (All-append g.V.Version.is_value (delivered_in (map step_of old)) (delivered_by (step_of c.args.step)) c.self.invariant.values
           (subst (All g.V.Version.is_value) c.versions.ensures c.versions_are_values.ensures));
-      stands = subst (AreStandings seen cmp c.note.new.standings.items) (sym grown)
-          (subst (λ ss. AreStandings seen cmp c.note.new.standings.items (map step_of ss ++ step_of c.args.step ∷ [])) c.deref.ensures.value
-          (c.note.ensures (subst (λ ss. AreStandings seen cmp c.self.inside.standings.items (map step_of ss)) (sym c.deref.ensures.value) c.self.invariant.stands)));
+      stands = subst (AreMemberIndexes seen cmp c.note.new.indexes.items) (sym grown)
+          (subst (λ ss. AreMemberIndexes seen cmp c.note.new.indexes.items (map step_of ss ++ step_of c.args.step ∷ [])) c.deref.ensures.value
+          (c.note.ensures (subst (λ ss. AreMemberIndexes seen cmp c.self.inside.indexes.items (map step_of ss)) (sym c.deref.ensures.value) c.self.invariant.stands)));
     }

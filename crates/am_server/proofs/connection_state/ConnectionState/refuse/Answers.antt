@@ -5,7 +5,7 @@ use Rattle.am_server.proofs.connection_state.ConnectionState.refuse.Goals as goa
 
 pub returns-clause-refused : goal.returns-clause-refused
 returns-clause-refused c refuses = record {
-  way = ap (λ (t : Talk). t.way) c.say.ensures.said;
+  auth_phase = ap (λ (t : Talk). t.auth_phase) c.say.ensures.said;
   session = ap (λ (t : Talk). t.session) c.say.ensures.said ∙ c.stop.ensures;
   waiting = ap (λ (t : Talk). t.waiting) c.say.ensures.said;
   saying = keeps_line _ _ _ (ap (λ (t : Talk). t.saying) c.say.ensures.said) (line_made _ _ _ c.refuse-making.ensures refuses c.finish.ensures);
@@ -13,7 +13,7 @@ returns-clause-refused c refuses = record {
 
 pub returns-clause-closes : goal.returns-clause-closes
 returns-clause-closes c = record {
-  way = ap (λ (t : Talk). t.way) c.say.ensures.said;
+  auth_phase = ap (λ (t : Talk). t.auth_phase) c.say.ensures.said;
   session = ap (λ (t : Talk). t.session) c.say.ensures.said ∙ c.stop.ensures;
   waiting = inr (ap (λ (t : Talk). t.waiting) c.say.ensures.said);
 }

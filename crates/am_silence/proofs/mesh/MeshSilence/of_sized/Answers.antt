@@ -9,7 +9,7 @@ use Rattle.am_silence.specs.Mesh.{Mesh, IsMesh, version_with, writes_mesh_silenc
 use Rattle.am_silence.specs.Silences.{writes_silence}
 use Rattle.am_silence.specs.Offsets.{StandIn}
 use Rattle.am_silence.specs.Spelled.{version_in, version_spelled}
-use Rattle.am_silence.proofs.Standing.{stand_before}
+use Rattle.am_silence.proofs.OffsetsKept.{stand_before}
 use Rattle.am_silence.proofs.mesh.MeshSilence.of_sized.Given as given
 use Rattle.am_silence.proofs.mesh.MeshSilence.of_sized.Goals as goal
 

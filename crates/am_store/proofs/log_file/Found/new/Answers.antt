@@ -1,5 +1,5 @@
 use Rattle.std.proofs.Common.{◌<◌, ◌≤◌, arith}
-use Rattle.am_store.proofs.Standing.{stand_in_ends}
+use Rattle.am_store.proofs.StandInBlocks.{stand_in_ends}
 use Rattle.am_store.proofs.log_file.Found.new.Goals as goal
 
 pub invariant_of-result : goal.invariant_of-result

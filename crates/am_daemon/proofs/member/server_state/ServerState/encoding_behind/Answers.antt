@@ -34,7 +34,7 @@ returns-clause-given g c =
     c.encoding_of.result c.config.result.now c.deref.result.now mid _ c.config.ensures c.deref.ensures.value
     (c.or_part.ensures.same ∙ ap (λ (l : List PutBy). record held { put_by = l }) (map-set put_by_of c.args.self.now.pending_frames.items c.args.peer c.take-put_by.new.self))
     (ap (λ (lock : Option Lock). record mid { queue = g.U.Backend.outbound c.encoding_of.new.self; lock = lock }) c.encoding_of.ensures.lock)
-    c.encoding_of.ensures.queue c.encoding_of.ensures.text c.encoding_of.ensures.unsent
+    c.encoding_of.ensures.queue c.encoding_of.ensures.encoding c.encoding_of.ensures.unsent
 
 pub returns-clause-part : goal.returns-clause-part
 returns-clause-part g c =
@@ -45,4 +45,4 @@ returns-clause-part g c =
     part_given (λ (bytes : Vec ℕ Global). bytes.items) c.args.instance.now c.args.peer c.args.answer.now held c.place-from.result _ c.config.result.now c.in-Some.frames.items c.deref.result.now _ _
     c.encoding_of.result (ap (λ (h : ForPeers). h.lock) c.or_part.ensures.same) c.config.ensures c.deref.ensures.value
     (c.place-from.ensures ∙ ap (λ (it : PutBy). place_in c.args.answer.now it.number) (sym there))
-    (λ none. c.in-Some.ensures.part (c.take-put_by.ensures.frames ∙ sym (ap (λ (it : PutBy). it.frames) there) ∙ none)) c.encoding_of.ensures.text
+    (λ none. c.in-Some.ensures.part (c.take-put_by.ensures.frames ∙ sym (ap (λ (it : PutBy). it.frames) there) ∙ none)) c.encoding_of.ensures.encoding

@@ -1,10 +1,10 @@
 //! The questions of requests.
 
 ghost use Rattle.std.specs.Prelude.{◌≡◌, ◌≤◌, All, IfOk, IfErr};
-ghost use Rattle.am_api_decisions.specs.Asked.{AreWithin, Asks, HasFault, IsAsked, IsAskedBy, IsQuestion, IsQuestionFault, IsRefusedFor};
+ghost use Rattle.am_api_decisions.specs.ParsedCalls.{AreWithin, Asks, HasFault, IsAsked, IsAskedBy, IsQuestion, IsQuestionFault, IsRefusedFor};
 
 use crate::cause::DecisionCause;
-use crate::message::Message;
+use crate::message::WebhookMessage;
 use crate::messages::{message_in, notice_in};
 use crate::notice::Notice;
 use crate::routes::{DecisionCall, call_of};
@@ -17,13 +17,13 @@ use std::alloc::Global;
 #[derive(Drop)]
 pub struct Question {
     /// The alerts of the group, and their receiver.
-    pub message: Message,
+    pub message: WebhookMessage,
     pub terms: Terms,
 }
 
 /// The question of a request.
 #[derive(Drop)]
-pub enum Asked {
+pub enum ParsedCall {
     /// The question whether a group is to be notified.
     Decide(Question),
     /// A notice to log that a group was notified.
@@ -79,25 +79,29 @@ fn question_in(alloc: Global, query: &str, body: &[u8]) -> Result<Question, Deci
 }
 
 /// Reads what a call with this body asks.
-fn asked_by(alloc: Global, call: DecisionCall<'_>, body: &[u8]) -> Result<Asked, DecisionCause>
+fn parsed_by(
+    alloc: Global,
+    call: DecisionCall<'_>,
+    body: &[u8],
+) -> Result<ParsedCall, DecisionCause>
     ensures asked { IfOk result (Asks call.entry body.now) }
     ensures refused { IfErr result (HasFault call.entry body.now) }
 {
     match call {
-        DecisionCall::Decide { query } => Ok(Asked::Decide(question_in(alloc, query, body)?)),
-        DecisionCall::Notified => Ok(Asked::Notified(notice_in(alloc, body)?)),
-        DecisionCall::Log => Ok(Asked::Log),
-        DecisionCall::Alerts => Ok(Asked::Alerts),
+        DecisionCall::Decide { query } => Ok(ParsedCall::Decide(question_in(alloc, query, body)?)),
+        DecisionCall::Notified => Ok(ParsedCall::Notified(notice_in(alloc, body)?)),
+        DecisionCall::Log => Ok(ParsedCall::Log),
+        DecisionCall::Alerts => Ok(ParsedCall::Alerts),
     }
 }
 
 /// Reads what a request asks, or finds its fault.
-fn asked_in(alloc: Global, request: &Request) -> Result<Asked, DecisionCause>
+fn parsed_in(alloc: Global, request: &Request) -> Result<ParsedCall, DecisionCause>
     ensures asked { IfOk result (IsAskedBy request.now) }
     ensures refused { IfErr result (IsRefusedFor request.now) }
 {
     let call = call_of(&request.method, &request.target)?;
-    let asked = asked_by(alloc, call, &request.body)?;
+    let asked = parsed_by(alloc, call, &request.body)?;
     Ok(asked)
 }
 
@@ -106,11 +110,11 @@ fn asked_in(alloc: Global, request: &Request) -> Result<Asked, DecisionCause>
 /// # Errors
 ///
 /// The line of the first fault: of the path, the method, a word of the query or the body; or that memory ran out.
-pub fn asked_of(alloc: Global, request: &Request) -> Result<Asked, Refusal>
+pub fn parse_call(alloc: Global, request: &Request) -> Result<ParsedCall, Refusal>
     // PROMISE: A request for a decision asks what its path, query and message say, or has its first fault.
     ensures { IsAsked request.now result }
 {
-    match asked_in(alloc, request) {
+    match parsed_in(alloc, request) {
         Ok(asked) => Ok(asked),
         Err(cause) => Err(cause.refusal_to(&request.method)),
     }

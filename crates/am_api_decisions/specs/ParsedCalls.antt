@@ -4,9 +4,9 @@ use Rattle.am_http.specs.Lines.{line_seen, told_to}
 use Rattle.am_http.specs.declared.refusal.Refusal.{Refusal}
 use Rattle.am_http.specs.declared.request.Request.{Request}
 use Rattle.am_matcher.specs.declared.labels.Label.{Label}
-use Rattle.am_api_decisions.specs.declared.asked.Asked.{Asked}
-use Rattle.am_api_decisions.specs.declared.asked.Asked.TheVariants as asked
-use Rattle.am_api_decisions.specs.declared.asked.Question.{Question}
+use Rattle.am_api_decisions.specs.declared.parsed_call.ParsedCall.{ParsedCall}
+use Rattle.am_api_decisions.specs.declared.parsed_call.ParsedCall.TheVariants as asked
+use Rattle.am_api_decisions.specs.declared.parsed_call.Question.{Question}
 use Rattle.am_api_decisions.specs.declared.cause.DecisionCause.{DecisionCause}
 use Rattle.am_api_decisions.specs.declared.cause.DecisionCause.TheVariants.{BadQuery, Memory}
 use Rattle.am_api_decisions.specs.declared.routes.DecisionCall.{DecisionCall}
@@ -32,7 +32,7 @@ IsQuestionFault query body Memory = ⊤
 IsQuestionFault query body cause = HasTerms query × IsMessageFault body cause
 
 -- A call with this body asks this.
-abbrev pub Asks : DecisionCall → List ℕ → Asked → Type 0
+abbrev pub Asks : DecisionCall → List ℕ → ParsedCall → Type 0
 Asks (calls.Decide query) body (asked.Decide question) = IsQuestion query.now body question
 Asks calls.Notified body (asked.Notified notice) = IsNoticeIn body notice
 Asks calls.Log body asked.Log = ⊤
@@ -51,7 +51,7 @@ abbrev pub IsCall : Request → Result DecisionCall DecisionCause → Type 0
 IsCall request call = IsCallOf (string_bytes request.method) (string_bytes request.target) call
 
 -- The request asks this, by its call.
-abbrev pub IsAskedBy : Request → Asked → Type 0
+abbrev pub IsAskedBy : Request → ParsedCall → Type 0
 IsAskedBy request what = (call : DecisionCall) × IsCall request (Ok call) × Asks call request.body.items what
 
 -- The request is refused for this cause: its path names nothing, or has no such method; or its call has a fault.
@@ -60,7 +60,7 @@ IsRefusedFor request cause = IsCall request (Err cause)
     ⊎ ((call : DecisionCall) × IsCall request (Ok call) × HasFault call request.body.items cause)
 
 -- The request asks this, by its call; or it is refused with the line of its first fault, as its method is told it.
-abbrev pub IsAsked : Request → Result Asked Refusal → Type 0
+abbrev pub IsAsked : Request → Result ParsedCall Refusal → Type 0
 IsAsked request (Ok what) = IsAskedBy request what
 IsAsked request (Err refusal) =
     (cause : DecisionCause) × (line_seen refusal ≡ told_to (string_bytes request.method) (line_of cause)) × IsRefusedFor request cause

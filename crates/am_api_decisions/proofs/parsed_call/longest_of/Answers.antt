@@ -3,8 +3,8 @@ use Rattle.std.proofs.Math.Nat.{le-max_left, le-max_right}
 use Rattle.std.proofs.lemmas.List.{take_all}
 use Rattle.std.proofs.lemmas.List.Elements.{All-more}
 use Rattle.am_matcher.specs.declared.labels.Label.{Label}
-use Rattle.am_api_decisions.specs.Asked.{AreWithin}
-use Rattle.am_api_decisions.proofs.asked.longest_of.Goals as goal
+use Rattle.am_api_decisions.specs.ParsedCalls.{AreWithin}
+use Rattle.am_api_decisions.proofs.parsed_call.longest_of.Goals as goal
 
 pub loop-label-preserved : goal.loop-label-preserved
 loop-label-preserved c =

@@ -1,5 +1,5 @@
 use Rattle.am_api_decisions.proofs.Faults.{body_fault}
-use Rattle.am_api_decisions.proofs.asked.question_in.Goals as goal
+use Rattle.am_api_decisions.proofs.parsed_call.question_in.Goals as goal
 
 pub returns-in-Err-clause-refused : goal.returns-in-Err-clause-refused
 returns-in-Err-clause-refused c =

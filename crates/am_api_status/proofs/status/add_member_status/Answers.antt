@@ -1,9 +1,9 @@
 use Rattle.am_silence_json.proofs.Bodies.{chain}
-use Rattle.am_api_status.specs.Standings.{standing_data}
-use Rattle.am_api_status.proofs.status.add_standing.Goals as goal
+use Rattle.am_api_status.specs.Statuses.{status_data}
+use Rattle.am_api_status.proofs.status.add_member_status.Goals as goal
 
 pub returns : goal.returns
-unfolding standing_data
+unfolding status_data
 returns c =
     let config = rw c.as_str.ensures.bytes at c.in_ok-add_config.ensures in
     let neighbors = rw c.as_slice.ensures.value at c.in_ok-add_neighbors.ensures in

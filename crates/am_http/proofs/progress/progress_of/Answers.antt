@@ -1,6 +1,6 @@
 use Rattle.std.proofs.Common.{arith}
-use Rattle.am_http.proofs.Standings.{bad_fields, open_body, whole_request, method_text}
-use Rattle.am_http.proofs.progress.standing_of.Goals as goal
+use Rattle.am_http.proofs.SessionPhases.{bad_fields, open_body, whole_request, method_text}
+use Rattle.am_http.proofs.progress.progress_of.Goals as goal
 
 pub returns-in-Err : goal.returns-in-Err
 returns-in-Err c =

@@ -1,4 +1,4 @@
--- The standings of members.
+-- What a run remembers of its members.
 -- X is the type of versions, and `seen` is what the merge sees of one.
 use Rattle.std.specs.Prelude.{◌≡◌, ℕ, List, Bool, true, Option, Some, None, IsTrue, ◌↔◌, MatchOption, if◌then◌else◌, slice_get}
 use Rattle.std.specs.declared.cmp.Ordering.{Ordering}
@@ -16,18 +16,18 @@ fault_after (Some first) stays number = Some first
 fault_after None stays number = if stays then None else Some number
 
 module _ {K X : Type 0} (seen : X → Version K) (cmp : K → K → Ordering) where
-  -- the greatest versions of a key in a member's standing
+  -- the greatest versions of a key in a member's index
   abbrev pub tops_at : MemberIndex X K → K → MaxTaken X
-  tops_at standing key = record { top = at seen cmp standing.taken key; saved = at seen cmp standing.saved key }
+  tops_at index key = record { top = at seen cmp index.taken key; saved = at seen cmp index.saved key }
 
   -- the member stays calm with this step of its own
   abbrev pub Stays : MemberIndex X K → RunStep X → Type 0
-  Stays standing (Took place now source versions frames) =
-      EachStep versions (λ done v. in_time seen (top_among seen cmp (seen v).key (at seen cmp standing.taken (seen v).key) done) standing.lasts.last now v ≡ true)
-  Stays standing (Back place now) = ⊥
-  Stays standing _ = Unit {0}
+  Stays index (Took place now source versions frames) =
+      EachStep versions (λ done v. in_time seen (top_among seen cmp (seen v).key (at seen cmp index.taken (seen v).key) done) index.lasts.last now v ≡ true)
+  Stays index (Back place now) = ⊥
+  Stays index _ = Unit {0}
 
-  -- the standing after a step of the member, and whether the member stays calm
+  -- the index after a step of the member, and whether the member stays calm
   pub record IsJudged (old new : MemberIndex X K) (step : RunStep X) (stays : Bool) : Type 0 where
     pub calm : IsTrue stays ↔ Stays old step
     pub tops : (key : K) → tops_at new key ≡ topped seen cmp key (tops_at old key) step
@@ -36,14 +36,14 @@ module _ {K X : Type 0} (seen : X → Version K) (cmp : K → K → Ordering) wh
     pub lasts : new.lasts ≡ old.lasts
     pub fault : new.fault ≡ old.fault
 
-  -- the standing of a member after steps, if it runs at first
-  pub record IsStanding (q : ℕ) (standing : MemberIndex X K) (steps : List (RunStep X)) : Type 0 where
-    pub runs : standing.runs ≡ runs_from q true steps
-    pub acted : standing.acted ≡ last_from q 0 steps
-    pub lasts : lasts_seen standing.lasts ≡ lasts_from q (record { last = None; saved = None }) steps
-    pub tops : (key : K) → tops_at standing key ≡ tops_from seen cmp q key (record { top = None; saved = None }) steps
-    pub fault : MatchOption standing.fault (EachStep steps (StaysCalm seen cmp q)) (IsFirstWithout steps (StaysCalm seen cmp q))
+  -- the index of a member after steps, if it runs at first
+  pub record IsMemberIndex (q : ℕ) (index : MemberIndex X K) (steps : List (RunStep X)) : Type 0 where
+    pub runs : index.runs ≡ runs_from q true steps
+    pub acted : index.acted ≡ last_from q 0 steps
+    pub lasts : lasts_seen index.lasts ≡ lasts_from q (record { last = None; saved = None }) steps
+    pub tops : (key : K) → tops_at index key ≡ tops_from seen cmp q key (record { top = None; saved = None }) steps
+    pub fault : MatchOption index.fault (EachStep steps (StaysCalm seen cmp q)) (IsFirstWithout steps (StaysCalm seen cmp q))
 
-  -- the standings of the first members after steps
-  abbrev pub AreStandings : List (MemberIndex X K) → List (RunStep X) → Type 0
-  AreStandings standings steps = (q : ℕ) (standing : MemberIndex X K) → slice_get standings q ≡ Some standing → IsStanding q standing steps
+  -- the indexes of the first members after steps
+  abbrev pub AreMemberIndexes : List (MemberIndex X K) → List (RunStep X) → Type 0
+  AreMemberIndexes indexes steps = (q : ℕ) (index : MemberIndex X K) → slice_get indexes q ≡ Some index → IsMemberIndex q index steps

@@ -51,8 +51,8 @@ versions_data version =
     member (codes "version") (string version) no_members))))))
 
 -- the whole status, with the text of the moment of the start
-unfoldable pub standing_data : MemberStatus → List ℕ → Data
-standing_data s start =
+unfoldable pub status_data : MemberStatus → List ℕ → Data
+status_data s start =
     object (
     member (codes "alertmanagers") (array (items_of (map neighbor_data s.alertmanagers.items))) (
     member (codes "cluster") (cluster_data s) (
