@@ -1,5 +1,5 @@
 -- Where the frames come from that wait for peers, over all calls of a member.
-use Rattle.std.proofs.Common.{◌≡◌, ◌⊎◌, ℕ, Bool, true, false, List, [], ◌∷◌, Contains, Option, None, Some, Result, Ok, Err, ap, arith, inl, inr, subst, ⊎_elim}
+use Rattle.std.proofs.Common.{◌≡◌, ◌⊎◌, ℕ, Bool, true, false, List, [], ◌∷◌, Contains, Option, None, Some, Result, Ok, Err, ap, arith, inl, inr, refl, subst, ⊎_elim}
 use Rattle.std.proofs.lemmas.List.Elements.{All-contains, All-contains_itself, All-filter, Contains-append_cases}
 use Rattle.std.specs.Prelude.{◌==◌, if◌then◌else◌, not}
 use Rattle.am_backend.specs.CommitStates.{disk_of}
@@ -26,6 +26,14 @@ use Rattle.am_daemon.proofs.Offers.{handed_waits}
 
 none_there : {A X : Type 0} (x : X) → Contains [] x → A
 none_there x (k, within, is) = absurd (omega arith)
+
+pub given_frames : (lock : Option Lock) (peer : ℕ) (frames : List Frame) (bytes : List ℕ) (old new : ForPeers) → AreGiven lock peer frames bytes old new → new.queue.frames ≡ old.queue.frames
+given_frames None peer frames bytes old new are = are.1.1
+given_frames (Some lock) peer frames bytes old new are = ap (λ (held : ForPeers). held.queue.frames) are.1.1
+
+pub lost_frames : (put_by : List Frame) (was is : Sent) → AreLost put_by was is → is.frames ≡ was.frames
+lost_frames put_by was is (inl none) = ap (λ (s : Sent). s.frames) none.1
+lost_frames put_by was is (inr left) = ap (λ (s : Sent). s.frames) left.2
 
 module _ (queued : ℕ × Frame) where
   -- what waits after waited before
@@ -58,10 +66,6 @@ module _ (queued : ℕ × Frame) where
   passes_all [] old new same there = subst (λ (held : ForPeers). Contains held.queue.frames queued) same there
   passes_all (mid ∷ between) old new all there = passes_all between old mid all.0 (passes mid new all.1 there)
 
-  given_frames : (lock : Option Lock) (peer : ℕ) (frames : List Frame) (bytes : List ℕ) (old new : ForPeers) → AreGiven lock peer frames bytes old new → new.queue.frames ≡ old.queue.frames
-  given_frames None peer frames bytes old new are = are.1.1
-  given_frames (Some lock) peer frames bytes old new are = ap (λ (held : ForPeers). held.queue.frames) are.1.1
-
   gives_frames : (peer : ℕ) (bytes : List ℕ) (old new : ForPeers) → GivesFrames peer bytes old new → NoMore old.queue new.queue
   gives_frames peer bytes old new (place, frames, queue, out, given) there = taken place frames old.queue queue out
       (subst (λ (fs : List (ℕ × Frame)). Contains fs queued) (given_frames old.lock peer frames bytes (record old { queue = queue }) new given.2) there)
@@ -72,10 +76,6 @@ module _ (queued : ℕ × Frame) where
 
   rests : (old new : ForPeers) → IsAtRest old new → NoMore old.queue new.queue
   rests old new rest there = passes_all rest.0.0 old new rest.0.1 there
-
-  lost_frames : (put_by : List Frame) (was is : Sent) → AreLost put_by was is → is.frames ≡ was.frames
-  lost_frames put_by was is (inl none) = ap (λ (s : Sent). s.frames) none.1
-  lost_frames put_by was is (inr left) = ap (λ (s : Sent). s.frames) left.2
 
   gives : (config : Settings) (peer : ℕ) (answer : List ℕ) (bytes : Option (List ℕ)) (old new : ForPeers) → IsGiven config peer answer bytes old new → NoMore old.queue new.queue
   gives config peer answer None old new (queue, lost, is) there = still old.queue queue (lost_frames (put_by_for old peer).frames old.queue queue lost)
@@ -103,7 +103,7 @@ module _ (queued : ℕ × Frame) where
   frame_sent : (disk : Option ℕ) (old ticked new : InstanceState) (came : ℕ × Frame) (now : ℕ) (answer : Result Outcome StepError) (was is : Sent) → MayTick old ticked →
       IsStep ticked (events.Frame came.0 came.1) now answer new → IsSentOn disk answer was is → ComesOf old was new is
   frame_sent disk old ticked new came now (Ok outcome) was is tick step sent there = ⊎_elim (λ before. inl before)
-      (λ behind. inr (inr (inr (ticked, came, now, outcome, tick, step, behind)))) (queues disk (sent_by outcome) was is sent there)
+      (λ behind. inr (sent_by outcome, inr (inr (ticked, came, now, outcome, tick, step, refl)), behind)) (queues disk (sent_by outcome) was is sent there)
   frame_sent disk old ticked new came now (Err error) was is tick step same there = inl (subst (λ (s : Sent). Contains s.frames queued) same there)
 
   frame_on : (came : Option (ℕ × Frame)) (disk : Option ℕ) (old ticked new : InstanceState) (was is : ForPeers) → MayTick old ticked → FrameIsSentOn came disk ticked was new is →
@@ -123,10 +123,10 @@ module _ (queued : ℕ × Frame) where
   does_by : (old new : InstanceState) (was is : Outlets) → IsQuiet old was new is ⊎ (SaidIsPassedOn old was new is ⊎ NoticeIsPassedOn old was new is) → ComesOf old was.queue new is.queue
   does_by old new was is (inl quiet) there = inl (subst (λ (o : Outlets). Contains o.queue.frames queued) quiet.stays there)
   does_by old new was is (inr (inl said)) there = ⊎_elim (λ before. inl before)
-      (λ sent. inr (inl (said.name, said.bits, said.now, said.said, said.answer, said.exchanged, sent)))
+      (λ sent. inr (said.answer.effects.outbox, inl (said.name, said.bits, said.now, said.said, said.answer, said.exchanged, refl), sent))
       (queues (disk_of was.store.commit_state) said.answer.effects.outbox was.queue is.queue said.passed.queued there)
   does_by old new was is (inr (inr notice)) there = ⊎_elim (λ before. inl before)
-      (λ sent. inr (inr (inl (notice.now, notice.notice, notice.answer, notice.noticed, sent))))
+      (λ sent. inr (notice.answer.outbox, inr (inl (notice.now, notice.notice, notice.answer, notice.noticed, refl)), sent))
       (queues (disk_of was.store.commit_state) notice.answer.outbox was.queue is.queue notice.passed.queued there)
 
   pub does_on : (old new : InstanceState) (was is : Outlets) → PassesOn old was new is → ComesOf old was.queue new is.queue
@@ -147,20 +147,17 @@ module _ (queued : ℕ × Frame) where
 
 -- ---- over calls
 
-module _ {S T : Type 0} (law : Service S T) (instance_of : S → InstanceState) (queue_of : S → Sent) (queued : ℕ × Frame) where
-  -- what waits after a call waited before, or the steps of the call sent it
-  abbrev From : S → S → Type 0
-  From s s' = ComesOf queued (instance_of s) (queue_of s) (instance_of s') (queue_of s')
-
-  pub any_call : ((s s' : S) → law.acts s s' → From s s')
-      → ((s : S) (peer : ℕ) (fault : LinkFault) (s' : S) → law.loses s peer fault s' → From s s')
-      → ((s : S) (peer : ℕ) (bytes : List ℕ) (s' : S) → law.answers s peer bytes s' → From s s')
-      → ((s : S) (peer : ℕ) (answer : List ℕ) (more : Option (List ℕ)) (s' : S) → law.gives s peer answer more s' → From s s')
-      → ((s : S) (peer : ℕ) (bytes : List ℕ) (s' : S) → law.offers s peer bytes s' → From s s')
-      → ((s : S) (peer : ℕ) (bytes : List ℕ) (s' : S) → law.asks s peer bytes s' → From s s')
-      → ((s : S) (session : T) (deed : Deed) (s' : S) (session' : T) → law.does s session deed s' session' → From s s')
-      → ((s : S) (session : T) (s' : S) → law.begins s session s' → From s s')
-      → (s s' : S) → IsAnyCall law s s' → From s s'
+module _ {S T : Type 0} (law : Service S T) (Holds : S → S → Type 0) where
+  -- this holds of each call, if it does of each kind of calls
+  pub any_call : ((s s' : S) → law.acts s s' → Holds s s')
+      → ((s : S) (peer : ℕ) (fault : LinkFault) (s' : S) → law.loses s peer fault s' → Holds s s')
+      → ((s : S) (peer : ℕ) (bytes : List ℕ) (s' : S) → law.answers s peer bytes s' → Holds s s')
+      → ((s : S) (peer : ℕ) (answer : List ℕ) (more : Option (List ℕ)) (s' : S) → law.gives s peer answer more s' → Holds s s')
+      → ((s : S) (peer : ℕ) (bytes : List ℕ) (s' : S) → law.offers s peer bytes s' → Holds s s')
+      → ((s : S) (peer : ℕ) (bytes : List ℕ) (s' : S) → law.asks s peer bytes s' → Holds s s')
+      → ((s : S) (session : T) (deed : Deed) (s' : S) (session' : T) → law.does s session deed s' session' → Holds s s')
+      → ((s : S) (session : T) (s' : S) → law.begins s session s' → Holds s s')
+      → (s s' : S) → IsAnyCall law s s' → Holds s s'
   any_call acted lost answered given offered asked did begun s s' (inl (inl call)) = acted s s' call
   any_call acted lost answered given offered asked did begun s s' (inl (inr (inl call))) = lost s call.0 call.1 s' call.2
   any_call acted lost answered given offered asked did begun s s' (inl (inr (inr (inl call)))) = answered s call.0 call.1 s' call.2
@@ -169,6 +166,11 @@ module _ {S T : Type 0} (law : Service S T) (instance_of : S → InstanceState) 
   any_call acted lost answered given offered asked did begun s s' (inl (inr (inr (inr (inr (inr call)))))) = asked s call.0 call.1 s' call.2
   any_call acted lost answered given offered asked did begun s s' (inr (inl call)) = did s call.0 call.1 s' call.2 call.3
   any_call acted lost answered given offered asked did begun s s' (inr (inr call)) = begun s call.0 s' call.1
+
+module _ {S T : Type 0} (law : Service S T) (instance_of : S → InstanceState) (queue_of : S → Sent) (queued : ℕ × Frame) where
+  -- what waits after a call waited before, or the steps of the call sent it
+  abbrev pub From : S → S → Type 0
+  From s s' = ComesOf queued (instance_of s) (queue_of s) (instance_of s') (queue_of s')
 
   pub calls_from : ((s s' : S) → IsAnyCall law s s' → From s s') → (first : S) (between : List S) (last : S) → AreCalls law first between last →
       Contains (queue_of last).frames queued → Contains (queue_of first).frames queued ⊎ IsSentIn instance_of queued first between last

@@ -1,3 +1,4 @@
+pub mod Accounts
 pub mod Acting
 pub mod Answering
 pub mod Calling

@@ -12,14 +12,15 @@ use Rattle.am_instance.specs.InstanceStates.{InstanceState}
 use Rattle.am_instance.specs.Sendings.{Sent}
 use Rattle.am_member.specs.Exchanging.{IsSessionAnswer}
 use Rattle.am_member.specs.declared.session_answer.SessionAnswer.{SessionAnswer}
+use Rattle.am_daemon.specs.Offers.{PutBy}
 use Rattle.am_daemon.specs.Sending.{IsPassedOn, IsQuiet, Outlets, PassesOn}
 
-abbrev both : Store → Sent → Outlets
-both store queue = record { store = store; queue = queue }
+abbrev all : Store → Sent → List PutBy → Outlets
+all store queue put_by = record { store = store; queue = queue; put_by = put_by }
 
--- both outlets are as they were
-pub outlets_are : (store store' : Store) (queue queue' : Sent) → store' ≡ store → queue' ≡ queue → both store' queue' ≡ both store queue
-outlets_are store store' queue queue' stored queued = ap (λ (s : Store). both s queue') stored ∙ ap (both store) queued
+-- the outlets are as they were, and so is what is put by
+pub outlets_are : (store store' : Store) (queue queue' : Sent) (put_by : List PutBy) → store' ≡ store → queue' ≡ queue → all store' queue' put_by ≡ all store queue put_by
+outlets_are store store' queue queue' put_by stored queued = ap (λ (s : Store). all s queue' put_by) stored ∙ ap (λ (q : Sent). all store q put_by) queued
 
 -- nothing but the moment changed
 pub quiet_on : (old new : InstanceState) (was is : Outlets) → IsQuiet old was new is → PassesOn old was new is

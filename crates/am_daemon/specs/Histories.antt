@@ -1,5 +1,5 @@
 -- The calls of a member, one after another, and the frames that their steps send.
-use Rattle.std.specs.Prelude.{◌⊎◌, ℕ, List, [], ◌∷◌, Option, Ok}
+use Rattle.std.specs.Prelude.{◌≡◌, ◌⊎◌, ℕ, List, [], ◌∷◌, Option, Ok}
 use Rattle.std.specs.List.{Contains}
 use Rattle.am_api_decisions.specs.Noticing.{IsNoticed}
 use Rattle.am_api_decisions.specs.declared.notice.Notice.{Notice}
@@ -10,7 +10,7 @@ use Rattle.am_gossip.specs.declared.frame.Frame.{Frame}
 use Rattle.am_http.specs.Sessions.{Spoken}
 use Rattle.am_instance.specs.InstanceStates.{InstanceState}
 use Rattle.am_instance.specs.OneStep.{IsStep}
-use Rattle.am_instance.specs.Sendings.{sent_by}
+use Rattle.am_instance.specs.Sendings.{Sent, sent_by}
 use Rattle.am_instance.specs.declared.event.Event.TheVariants as events
 use Rattle.am_instance.specs.declared.reply.Outcome.{Outcome}
 use Rattle.am_member.specs.Exchanging.{IsSessionAnswer}
@@ -30,15 +30,19 @@ abbrev pub AreCalls : {S T : Type 0} → Service S T → S → List S → S → 
 AreCalls law service [] service' = IsAnyCall law service service'
 AreCalls law service (next ∷ rest) service' = IsAnyCall law service next × AreCalls law next rest service'
 
--- Steps of what a connection said, of a notice, or of an Alertmanager's frame were made, and send this frame to this place.
-abbrev pub IsSentBetween : ℕ × Frame → InstanceState → InstanceState → Type 0
-IsSentBetween queued old new =
+-- Steps of what a connection said, of a notice, or of an Alertmanager's frame were made, and this is all that they send.
+abbrev pub AreSentBetween : Sent → InstanceState → InstanceState → Type 0
+AreSentBetween sent old new =
     ((name : Option (List ℕ)) × (bits : ℕ) × (now : ℕ) × (said : Spoken) × (answer : SessionAnswer) × IsSessionAnswer name bits now said old new answer
-    × Contains answer.effects.outbox.frames queued)
+    × (sent ≡ answer.effects.outbox))
     ⊎ (((now : ℕ) × (notice : Notice) × (answer : PendingAnswer) × WhenMade (λ answered. IsNoticed now notice old answered new) answer
-    × Contains answer.outbox.frames queued)
+    × (sent ≡ answer.outbox))
     ⊎ ((ticked : InstanceState) × (came : ℕ × Frame) × (now : ℕ) × (outcome : Outcome) × MayTick old ticked
-    × IsStep ticked (events.Frame came.0 came.1) now (Ok outcome) new × Contains (sent_by outcome).frames queued))
+    × IsStep ticked (events.Frame came.0 came.1) now (Ok outcome) new × (sent ≡ sent_by outcome)))
+
+-- such steps send this frame to this place
+abbrev pub IsSentBetween : ℕ × Frame → InstanceState → InstanceState → Type 0
+IsSentBetween queued old new = (sent : Sent) × AreSentBetween sent old new × Contains sent.frames queued
 
 -- the steps of one of the calls send it
 abbrev pub IsSentIn : {S : Type 0} → (S → InstanceState) → ℕ × Frame → S → List S → S → Type 0

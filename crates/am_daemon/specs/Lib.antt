@@ -1,3 +1,4 @@
+pub mod Accounts
 pub mod Calling
 pub mod Histories
 pub mod Members

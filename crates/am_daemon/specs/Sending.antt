@@ -1,5 +1,5 @@
 -- What becomes of what steps send.
-use Rattle.std.specs.Prelude.{◌≡◌, ◌⊎◌, ℕ, List, Option, None, Some, Result}
+use Rattle.std.specs.Prelude.{◌≡◌, ◌⊎◌, ℕ, List, map, Option, None, Some, Result}
 use Rattle.am_api_decisions.specs.Asking.{HoldsSame}
 use Rattle.am_api_decisions.specs.Noticing.{IsNoticed}
 use Rattle.am_api_decisions.specs.declared.notice.Notice.{Notice}
@@ -8,7 +8,8 @@ use Rattle.am_api_silences.specs.declared.answering.PendingAnswer.{PendingAnswer
 use Rattle.am_backend.specs.CommitStates.{disk_of}
 use Rattle.am_backend.specs.Outbound.{IsQueued, IsSentOn}
 use Rattle.am_backend.specs.Stores.{IsFollowed, Store}
-use Rattle.am_daemon.specs.Offers.{ForPeers, IsAtRest, OnlyCounts}
+use Rattle.am_daemon.specs.Offers.{ForPeers, IsAtRest, OnlyCounts, PutBy, put_by_of}
+use Rattle.am_daemon.specs.declared.member.server_state.ServerState.{ServerState}
 use Rattle.am_gossip.specs.declared.frame.Frame.{Frame}
 use Rattle.am_gossip.specs.declared.refusals.StepError.{StepError}
 use Rattle.am_http.specs.Sessions.{Spoken}
@@ -20,20 +21,22 @@ use Rattle.am_instance.specs.declared.reply.Outcome.{Outcome}
 use Rattle.am_member.specs.Exchanging.{IsSessionAnswer}
 use Rattle.am_member.specs.declared.session_answer.SessionAnswer.{SessionAnswer}
 
--- where what steps send goes: the store, and the frames that wait for peers
+-- where what steps send goes: the store, the frames that wait for peers, and what is put by for each peer, by place
 pub record Outlets : Type 0 where
   pub store : Store
   pub queue : Sent
+  pub put_by : List PutBy
 
--- those of a backend that has this store, and these frames that wait
-abbrev pub outlets : {U : Type 0} → (U → Store) → (U → Sent) → U → Outlets
-outlets store_of outbound backend = record { store = store_of backend; queue = outbound backend }
+-- those of a member's state whose backend has this store, and these frames that wait
+abbrev pub outlets : {U : Type 0} → (U → Store) → (U → Sent) → ServerState U → Outlets
+outlets store_of outbound state = record { store = store_of state.backend; queue = outbound state.backend; put_by = map put_by_of state.pending_frames.items }
 
 -- What was sent is passed on: with logs, what is for the place of the disk is logged, or the logs are known to lack it; and what is
--- for peers waits behind what waited before, in order, or memory ran out, and just those frames are counted.
+-- for peers waits behind what waited before, in order, or memory ran out, and just those frames are counted. What is put by stays.
 pub record IsPassedOn (sent : Sent) (old new : Outlets) : Type 0 where
   pub logged : IsFollowed sent old.store new.store
   pub queued : IsQueued (disk_of old.store.commit_state) sent old.queue new.queue
+  pub put_by : new.put_by ≡ old.put_by
 
 -- The steps of what a connection said were made, and just what they send is passed on.
 pub record SaidIsPassedOn (old : InstanceState) (was : Outlets) (new : InstanceState) (is : Outlets) : Type 0 where

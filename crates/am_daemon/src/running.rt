@@ -70,7 +70,7 @@ impl<U: Backend> Service for Member<'_, U> {
         member'.instance (for_peers U.outbound U.sealed_by member'.server.state) };
 
     ghost does = { λ member connection deed member' connection'. ((member'.lock ≡ member.lock)
-        × PassesOn member.instance (outlets U.store_of U.outbound member.server.state.backend) member'.instance (outlets U.store_of U.outbound member'.server.state.backend))
+        × PassesOn member.instance (outlets U.store_of U.outbound member.server.state) member'.instance (outlets U.store_of U.outbound member'.server.state))
         × Does member.lock deed member.instance (talk_of connection) member'.instance (talk_of connection') };
 
     fn begin(&mut self, entrance: Entrance) -> ConnectionState {

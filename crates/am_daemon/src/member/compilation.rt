@@ -47,7 +47,7 @@ impl<U: Backend> ServerState<'_, U> {
         said: SessionOutput,
     )
         ensures answered { IsAnswered (spoken said) instance.old (talk_of connection.old) instance.new (talk_of connection.new) }
-        ensures sent { PassesOn instance.old (outlets U.store_of U.outbound self.old.backend) instance.new (outlets U.store_of U.outbound self.new.backend) }
+        ensures sent { PassesOn instance.old (outlets U.store_of U.outbound self.old) instance.new (outlets U.store_of U.outbound self.new) }
     {
         if is_call(&said) {
             self.answer_call(instance, connection, said);
@@ -65,7 +65,7 @@ impl<U: Backend> ServerState<'_, U> {
     ) -> bool
         ensures refused { IsTrue result → IsClosed (talk_of connection.old) (talk_of connection.new) }
         ensures heard { ¬ IsTrue result → talk_of connection.new ≡ talk_of connection.old }
-        ensures stays { outlets U.store_of U.outbound self.new.backend ≡ outlets U.store_of U.outbound self.old.backend }
+        ensures stays { outlets U.store_of U.outbound self.new ≡ outlets U.store_of U.outbound self.old }
     {
         match post_bytes(said) {
             Some(bytes) if !self.backend.has_room_for_post(instance, bytes) => {
@@ -84,7 +84,7 @@ impl<U: Backend> ServerState<'_, U> {
         said: SessionOutput,
     )
         ensures answered { IsAnswered (spoken said) instance.old (talk_of connection.old) instance.new (talk_of connection.new) }
-        ensures sent { PassesOn instance.old (outlets U.store_of U.outbound self.old.backend) instance.new (outlets U.store_of U.outbound self.new.backend) }
+        ensures sent { PassesOn instance.old (outlets U.store_of U.outbound self.old) instance.new (outlets U.store_of U.outbound self.new) }
     {
         let alloc = self.alloc;
         match judging_of(alloc, instance, &said) {
@@ -106,7 +106,7 @@ impl<U: Backend> ServerState<'_, U> {
     ) -> Result<bool, Refusal>
         ensures same { instance.new ≡ instance.old }
         ensures refused { IfErr result (λ refusal. IsOwnLine (line_seen refusal)) }
-        ensures stays { outlets U.store_of U.outbound self.new.backend ≡ outlets U.store_of U.outbound self.old.backend }
+        ensures stays { outlets U.store_of U.outbound self.new ≡ outlets U.store_of U.outbound self.old }
     {
         match compilation.resume() {
             Ok(Judged::More) => Ok(false),
@@ -129,7 +129,7 @@ impl<U: Backend> ServerState<'_, U> {
     ) -> Result<bool, Refusal>
         ensures same { instance.new ≡ instance.old }
         ensures refused { IfErr result (λ refusal. IsOwnLine (line_seen refusal)) }
-        ensures stays { outlets U.store_of U.outbound self.new.backend ≡ outlets U.store_of U.outbound self.old.backend }
+        ensures stays { outlets U.store_of U.outbound self.new ≡ outlets U.store_of U.outbound self.old }
     {
         let now = self.backend.next_moment(instance.last());
         match self.ahead.keep(instance, compilation, now) {
@@ -149,7 +149,7 @@ impl<U: Backend> ServerState<'_, U> {
         compilation: PatternCompilation,
     )
         ensures answered { IsRequest (spoken said) → IsAnswered (spoken said) instance.old (talk_of connection.old) instance.new (talk_of connection.new) }
-        ensures sent { PassesOn instance.old (outlets U.store_of U.outbound self.old.backend) instance.new (outlets U.store_of U.outbound self.new.backend) }
+        ensures sent { PassesOn instance.old (outlets U.store_of U.outbound self.old) instance.new (outlets U.store_of U.outbound self.new) }
     {
         let mut compilation = compilation;
         match self.is_compiled(instance, &mut compilation) {
@@ -168,7 +168,7 @@ impl<U: Backend> ServerState<'_, U> {
         compilation: PatternCompilation,
     )
         ensures answered { IsAnswered (spoken said) instance.old (talk_of connection.old) instance.new (talk_of connection.new) }
-        ensures sent { PassesOn instance.old (outlets U.store_of U.outbound self.old.backend) instance.new (outlets U.store_of U.outbound self.new.backend) }
+        ensures sent { PassesOn instance.old (outlets U.store_of U.outbound self.old) instance.new (outlets U.store_of U.outbound self.new) }
     {
         if self.refuses(instance, connection, &said) {
             return;

@@ -58,7 +58,7 @@ pub fn count_said<U: Backend>(
     name: Option<&str>,
     said: &SessionOutput,
 )
-    ensures { outlets U.store_of U.outbound backend.new ≡ outlets U.store_of U.outbound backend.old }
+    ensures { (U.store_of backend.new ≡ U.store_of backend.old) × (U.outbound backend.new ≡ U.outbound backend.old) }
 {
     if let Some(request) = request_of(said) {
         account.ask(request, backend.now());
@@ -70,7 +70,7 @@ pub fn count_said<U: Backend>(
 
 /// Counts a connection that failed.
 pub fn count_broken<U: Backend>(backend: &mut U, account: &mut RequestRecord, why: Failure)
-    ensures stays { outlets U.store_of U.outbound backend.new ≡ outlets U.store_of U.outbound backend.old }
+    ensures stays { (U.store_of backend.new ≡ U.store_of backend.old) × (U.outbound backend.new ≡ U.outbound backend.old) }
     ensures lock { U.sealed_by backend.new ≡ U.sealed_by backend.old }
 {
     backend.count(Counted::Failed(failing_of(why)));
@@ -82,7 +82,7 @@ pub fn count_broken<U: Backend>(backend: &mut U, account: &mut RequestRecord, wh
 /// Counts a connection if it is done, and what it was answered.
 pub fn count_where_done<U: Backend>(backend: &mut U, connection: &mut ConnectionState)
     ensures talk { talk_of connection.new ≡ talk_of connection.old }
-    ensures stays { outlets U.store_of U.outbound backend.new ≡ outlets U.store_of U.outbound backend.old }
+    ensures stays { (U.store_of backend.new ≡ U.store_of backend.old) × (U.outbound backend.new ≡ U.outbound backend.old) }
     ensures lock { U.sealed_by backend.new ≡ U.sealed_by backend.old }
 {
     if connection.is_done() && connection.account.close() {
@@ -92,7 +92,7 @@ pub fn count_where_done<U: Backend>(backend: &mut U, connection: &mut Connection
 
 /// Counts the end of a connection now, and what it was answered.
 fn count_end<U: Backend>(backend: &mut U, account: &RequestRecord, status: &[u8])
-    ensures stays { outlets U.store_of U.outbound backend.new ≡ outlets U.store_of U.outbound backend.old }
+    ensures stays { (U.store_of backend.new ≡ U.store_of backend.old) × (U.outbound backend.new ≡ U.outbound backend.old) }
     ensures lock { U.sealed_by backend.new ≡ U.sealed_by backend.old }
 {
     backend.count(Counted::Ended);
@@ -109,7 +109,7 @@ fn count_end<U: Backend>(backend: &mut U, account: &RequestRecord, status: &[u8]
 
 /// Counts the step by which something was decided. Where all alerts are muted, there is none.
 pub fn count_decided<U: Backend>(backend: &mut U, why: Option<Why>)
-    ensures { outlets U.store_of U.outbound backend.new ≡ outlets U.store_of U.outbound backend.old }
+    ensures { (U.store_of backend.new ≡ U.store_of backend.old) × (U.outbound backend.new ≡ U.outbound backend.old) }
 {
     if matches!(why, Some(Why::Notify(_) | Why::Unjudged | Why::Skip)) {
         backend.count(Counted::Steps(StepLabel::Decide, 1));
@@ -118,7 +118,7 @@ pub fn count_decided<U: Backend>(backend: &mut U, why: Option<Why>)
 
 /// Counts the decision that is answered, if something is decided.
 pub fn count_decision<U: Backend>(backend: &mut U, why: Option<Why>)
-    ensures { outlets U.store_of U.outbound backend.new ≡ outlets U.store_of U.outbound backend.old }
+    ensures { (U.store_of backend.new ≡ U.store_of backend.old) × (U.outbound backend.new ≡ U.outbound backend.old) }
 {
     if let Some(why) = why {
         backend.count(Counted::Decided(label_of(why)));

@@ -245,7 +245,7 @@ impl<U: Backend> ServerState<'_, U> {
         // PROMISE: A program that sends pages is replied what it asks for: the decision of its question, what came of its notice, or the log's list.
         ensures given { (request : Request) → (spoken said).request ≡ Some (Read.Whole request) → (talk_of connection.old).saying ≡ Silent →
             IsGiven request instance.old instance.new (talk_of connection.new).saying }
-        ensures sent { PassesOn instance.old (outlets U.store_of U.outbound self.old.backend) instance.new (outlets U.store_of U.outbound self.new.backend) }
+        ensures sent { PassesOn instance.old (outlets U.store_of U.outbound self.old) instance.new (outlets U.store_of U.outbound self.new) }
     {
         connection.session.stop();
         let SessionOutput { request, .. } = said;
@@ -277,7 +277,7 @@ impl<U: Backend> ServerState<'_, U> {
     fn take_up(&mut self, instance: &mut Instance, request: Request) -> Called
         ensures steps { ForPages instance.old instance.new }
         ensures called { IsCalled request instance.old result instance.new }
-        ensures sent { PassesOn instance.old (outlets U.store_of U.outbound self.old.backend) instance.new (outlets U.store_of U.outbound self.new.backend) }
+        ensures sent { PassesOn instance.old (outlets U.store_of U.outbound self.old) instance.new (outlets U.store_of U.outbound self.new) }
     {
         let due = Due {
             request,
@@ -297,7 +297,7 @@ impl<U: Backend> ServerState<'_, U> {
     fn answer_in_line(&mut self, instance: &mut Instance, due: Due) -> Called
         ensures steps { ForPages instance.old instance.new }
         ensures called { IsCalled due.request instance.old result instance.new }
-        ensures sent { PassesOn instance.old (outlets U.store_of U.outbound self.old.backend) instance.new (outlets U.store_of U.outbound self.new.backend) }
+        ensures sent { PassesOn instance.old (outlets U.store_of U.outbound self.old) instance.new (outlets U.store_of U.outbound self.new) }
     {
         if is_long(&due.request) {
             Called::Later(CallProgress::Due(due))
@@ -310,7 +310,7 @@ impl<U: Backend> ServerState<'_, U> {
     pub(super) fn answer_due(&mut self, instance: &mut Instance, due: Due) -> Called
         ensures steps { ForPages instance.old instance.new }
         ensures called { IsCalled due.request instance.old result instance.new }
-        ensures sent { PassesOn instance.old (outlets U.store_of U.outbound self.old.backend) instance.new (outlets U.store_of U.outbound self.new.backend) }
+        ensures sent { PassesOn instance.old (outlets U.store_of U.outbound self.old) instance.new (outlets U.store_of U.outbound self.new) }
     {
         if due.stage == TurnStage::Unread {
             self.answer_unread(instance, due.request, due.limit)
@@ -328,7 +328,7 @@ impl<U: Backend> ServerState<'_, U> {
     ) -> Called
         ensures steps { ForPages instance.old instance.new }
         ensures called { IsCalled request instance.old result instance.new }
-        ensures sent { PassesOn instance.old (outlets U.store_of U.outbound self.old.backend) instance.new (outlets U.store_of U.outbound self.new.backend) }
+        ensures sent { PassesOn instance.old (outlets U.store_of U.outbound self.old) instance.new (outlets U.store_of U.outbound self.new) }
     {
         match parse_call(self.alloc, &request) {
             Ok(ParsedCall::Decide(question)) => match turn_of(&self.backend, instance, &question) {
@@ -364,7 +364,7 @@ impl<U: Backend> ServerState<'_, U> {
     fn take_turn(&mut self, instance: &mut Instance, turn: Turn) -> Called
         ensures steps { ForPages instance.old instance.new }
         ensures called { IsCalled (request_of turn) instance.old result instance.new }
-        ensures sent { PassesOn instance.old (outlets U.store_of U.outbound self.old.backend) instance.new (outlets U.store_of U.outbound self.new.backend) }
+        ensures sent { PassesOn instance.old (outlets U.store_of U.outbound self.old) instance.new (outlets U.store_of U.outbound self.new) }
     {
         self.turns.end();
         if self.stops {
@@ -378,7 +378,7 @@ impl<U: Backend> ServerState<'_, U> {
     pub(super) fn take_moment(&mut self, instance: &mut Instance, call: CallProgress) -> Called
         ensures steps { ForPages instance.old instance.new }
         ensures called { (request : Request) → IsProgressOf request call → IsCalled request instance.old result instance.new }
-        ensures sent { PassesOn instance.old (outlets U.store_of U.outbound self.old.backend) instance.new (outlets U.store_of U.outbound self.new.backend) }
+        ensures sent { PassesOn instance.old (outlets U.store_of U.outbound self.old) instance.new (outlets U.store_of U.outbound self.new) }
     {
         match call {
             CallProgress::Turn(turn) => self.take_turn(instance, turn),
@@ -393,7 +393,7 @@ impl<U: Backend> ServerState<'_, U> {
     fn answer_in_turn(&mut self, instance: &mut Instance, due: Due) -> Called
         ensures steps { ForPages instance.old instance.new }
         ensures called { IsCalled due.request instance.old result instance.new }
-        ensures sent { PassesOn instance.old (outlets U.store_of U.outbound self.old.backend) instance.new (outlets U.store_of U.outbound self.new.backend) }
+        ensures sent { PassesOn instance.old (outlets U.store_of U.outbound self.old) instance.new (outlets U.store_of U.outbound self.new) }
     {
         let Due {
             request,
@@ -425,7 +425,7 @@ impl<U: Backend> ServerState<'_, U> {
     ) -> Called
         ensures steps { ForPages instance.old instance.new }
         ensures called { (request : Request) → IsAsked request (Ok (ParsedCall.Decide question)) → IsOnly request unheard → IsCalled request instance.old result instance.new }
-        ensures quiet { IsQuiet instance.old (outlets U.store_of U.outbound self.old.backend) instance.new (outlets U.store_of U.outbound self.new.backend) }
+        ensures quiet { IsQuiet instance.old (outlets U.store_of U.outbound self.old) instance.new (outlets U.store_of U.outbound self.new) }
     {
         let alerts = question.message.alerts.len() as u64;
         self.backend.count(Counted::Steps(StepLabel::Mutes, alerts));
@@ -449,7 +449,7 @@ impl<U: Backend> ServerState<'_, U> {
     ) -> Called
         ensures steps { ForPages instance.old instance.new }
         ensures called { (request : Request) → IsProgressOf request (CallProgress.Deciding deliberation) → IsCalled request instance.old result instance.new }
-        ensures quiet { IsQuiet instance.old (outlets U.store_of U.outbound self.old.backend) instance.new (outlets U.store_of U.outbound self.new.backend) }
+        ensures quiet { IsQuiet instance.old (outlets U.store_of U.outbound self.old) instance.new (outlets U.store_of U.outbound self.new) }
     {
         let PendingDecision {
             deciding,
@@ -484,7 +484,7 @@ impl<U: Backend> ServerState<'_, U> {
         ensures called { (request : Request) (question : Question) (start : InstanceState) → HoldsSame start instance.old →
             IsAsked request (Ok (ParsedCall.Decide question)) → IsUnderway question reached.deciding → IsOnly request unheard →
             IsCalled request start result instance.new }
-        ensures quiet { IsQuiet instance.old (outlets U.store_of U.outbound self.old.backend) instance.new (outlets U.store_of U.outbound self.new.backend) }
+        ensures quiet { IsQuiet instance.old (outlets U.store_of U.outbound self.old) instance.new (outlets U.store_of U.outbound self.new) }
     {
         let Reached {
             deciding,
@@ -515,7 +515,7 @@ impl<U: Backend> ServerState<'_, U> {
         ensures called { (request : Request) (question : Question) (start : InstanceState) → HoldsSame start instance.old →
             IsAsked request (Ok (ParsedCall.Decide question)) → IsUnderway question deciding → IsOnly request unheard →
             IsCalled request start result instance.new }
-        ensures quiet { IsQuiet instance.old (outlets U.store_of U.outbound self.old.backend) instance.new (outlets U.store_of U.outbound self.new.backend) }
+        ensures quiet { IsQuiet instance.old (outlets U.store_of U.outbound self.old) instance.new (outlets U.store_of U.outbound self.new) }
     {
         let now = self.backend.next_moment(instance.last());
         let turn_seconds = seconds_in(self.backend.options().peer_timeout);
@@ -537,7 +537,7 @@ impl<U: Backend> ServerState<'_, U> {
         ensures called { (request : Request) (question : Question) (start : InstanceState) → HoldsSame start instance.old →
             IsAsked request (Ok (ParsedCall.Decide question)) → IsUnderway question deciding → IsOnly request unheard →
             IsCalled request start result instance.new }
-        ensures quiet { IsQuiet instance.old (outlets U.store_of U.outbound self.old.backend) instance.new (outlets U.store_of U.outbound self.new.backend) }
+        ensures quiet { IsQuiet instance.old (outlets U.store_of U.outbound self.old) instance.new (outlets U.store_of U.outbound self.new) }
     {
         let turn_seconds = seconds_in(self.backend.options().peer_timeout);
         let verdict = deciding.decide(self.alloc, instance, Timing { now, turn_seconds });
@@ -548,7 +548,7 @@ impl<U: Backend> ServerState<'_, U> {
     /// Answers with a decision, or keeps its request waiting for exchanges with the Alertmanagers, which begin now.
     fn answer_or_hear(&mut self, verdict: Verdict, unheard: Option<Request>) -> Called
         ensures gives { GivesOrWaits verdict.reply unheard result }
-        ensures stays { outlets U.store_of U.outbound self.new.backend ≡ outlets U.store_of U.outbound self.old.backend }
+        ensures stays { outlets U.store_of U.outbound self.new ≡ outlets U.store_of U.outbound self.old }
     {
         let is_notified = verdict.is_notified();
         let Verdict { reply, why } = verdict;
@@ -574,7 +574,7 @@ impl<U: Backend> ServerState<'_, U> {
     /// Keeps a request waiting for exchanges with the Alertmanagers that begin in a new round.
     fn wait_for_exchanges(&mut self, request: Request, span: Span) -> Called
         ensures put_off { IsPutOff request result }
-        ensures stays { outlets U.store_of U.outbound self.new.backend ≡ outlets U.store_of U.outbound self.old.backend }
+        ensures stays { outlets U.store_of U.outbound self.new ≡ outlets U.store_of U.outbound self.old }
     {
         let Span { since, limit } = span;
         self.round = self.round.saturating_add(1);
@@ -586,7 +586,7 @@ impl<U: Backend> ServerState<'_, U> {
     fn log_in_room(&mut self, instance: &mut Instance, notice: Notice, bytes: u64) -> Called
         ensures steps { ForPages instance.old instance.new }
         ensures called { (request : Request) → IsAsked request (Ok (ParsedCall.Notified notice)) → IsCalled request instance.old result instance.new }
-        ensures sent { PassesOn instance.old (outlets U.store_of U.outbound self.old.backend) instance.new (outlets U.store_of U.outbound self.new.backend) }
+        ensures sent { PassesOn instance.old (outlets U.store_of U.outbound self.old) instance.new (outlets U.store_of U.outbound self.new) }
     {
         if !self.backend.has_room_for_notice(instance, bytes) {
             return Called::Refused(Refusal::new(500, "state too large"));
@@ -604,7 +604,7 @@ impl<U: Backend> ServerState<'_, U> {
         ensures steps { ForPages instance.old instance.new }
         ensures called { (request : Request) → IsAsked request (Ok (ParsedCall.Notified notice)) → IsCalled request instance.old result instance.new }
         // PROMISE: What the step of a notice sends to peers waits behind what waited before, in order, or memory ran out, and just those frames are counted as not sent.
-        ensures sent { PassesOn instance.old (outlets U.store_of U.outbound self.old.backend) instance.new (outlets U.store_of U.outbound self.new.backend) }
+        ensures sent { PassesOn instance.old (outlets U.store_of U.outbound self.old) instance.new (outlets U.store_of U.outbound self.new) }
     {
         let now = self.backend.next_moment(instance.last());
         let PendingAnswer { making, outbox } = log_notice(self.alloc, instance, notice, now);

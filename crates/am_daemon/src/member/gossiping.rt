@@ -93,7 +93,7 @@ impl<U: Backend> ServerState<'_, U> {
 
     /// Counts an exchange with the replica at a place, which told everything, and lacked this many versions.
     fn note_exchange(&mut self, place: usize, lacked: u64)
-        ensures stays { outlets U.store_of U.outbound self.new.backend ≡ outlets U.store_of U.outbound self.old.backend }
+        ensures stays { outlets U.store_of U.outbound self.new ≡ outlets U.store_of U.outbound self.old }
         ensures peers { for_peers U.outbound U.sealed_by self.new ≡ for_peers U.outbound U.sealed_by self.old }
     {
         let since_1970 = self.backend.since_1970();
@@ -184,7 +184,7 @@ impl<U: Backend> Server<'_, U> {
 
     /// Reports which replicas weren't heard after a request that no longer waits began to wait for them, each once a minute.
     pub(super) fn tell_missed(&mut self, config: &Config, connection: &ConnectionState)
-        ensures { outlets U.store_of U.outbound self.new.state.backend ≡ outlets U.store_of U.outbound self.old.state.backend }
+        ensures { outlets U.store_of U.outbound self.new.state ≡ outlets U.store_of U.outbound self.old.state }
     {
         let Some(turn) = connection.turn() else {
             return;

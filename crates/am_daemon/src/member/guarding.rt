@@ -73,7 +73,7 @@ impl<U: Backend> ServerState<'_, U> {
         heard: Heard,
     )
         ensures answered { IsAnswered (spoken heard.said) instance.old (talk_of connection.old) instance.new (talk_of connection.new) }
-        ensures sent { PassesOn instance.old (outlets U.store_of U.outbound self.old.backend) instance.new (outlets U.store_of U.outbound self.new.backend) }
+        ensures sent { PassesOn instance.old (outlets U.store_of U.outbound self.old) instance.new (outlets U.store_of U.outbound self.new) }
     {
         let Heard { said, fault } = heard;
         self.hear(instance, connection, said);

@@ -85,7 +85,7 @@ impl<U: Backend> ServerState<'_, U> {
         said: SessionOutput,
     )
         ensures answered { IsAnswered (spoken said) instance.old (talk_of connection.old) instance.new (talk_of connection.new) }
-        ensures sent { PassesOn instance.old (outlets U.store_of U.outbound self.old.backend) instance.new (outlets U.store_of U.outbound self.new.backend) }
+        ensures sent { PassesOn instance.old (outlets U.store_of U.outbound self.old) instance.new (outlets U.store_of U.outbound self.new) }
     {
         let name = connection.session.name();
         let config = instance.config();
@@ -122,7 +122,7 @@ impl<U: Backend> ServerState<'_, U> {
         said: SessionOutput,
     )
         ensures answered { IsAnswered (spoken said) instance.old (talk_of connection.old) instance.new (talk_of connection.new) }
-        ensures sent { PassesOn instance.old (outlets U.store_of U.outbound self.old.backend) instance.new (outlets U.store_of U.outbound self.new.backend) }
+        ensures sent { PassesOn instance.old (outlets U.store_of U.outbound self.old) instance.new (outlets U.store_of U.outbound self.new) }
     {
         if is_nothing(&said) && connection.session.name().is_none() {
             return;
@@ -138,7 +138,7 @@ impl<U: Backend> ServerState<'_, U> {
         ensures refused { IsTrue result → Closes (talk_of connection.old) (talk_of connection.new) }
         ensures saying { (talk_of connection.new).saying ≡ (talk_of connection.old).saying }
         ensures heard { ¬ IsTrue result → talk_of connection.new ≡ talk_of connection.old }
-        ensures stays { outlets U.store_of U.outbound self.new.backend ≡ outlets U.store_of U.outbound self.old.backend }
+        ensures stays { outlets U.store_of U.outbound self.new ≡ outlets U.store_of U.outbound self.old }
     {
         let is_inner = match connection.session.name() {
             Some(name) => self.is_inner(config, name),
@@ -161,7 +161,7 @@ impl<U: Backend> ServerState<'_, U> {
     )
         ensures taken { IsTaken (spoken said) instance.old (talk_of connection.old) instance.new (talk_of connection.new) }
         // PROMISE: What the steps of what a connection says send to peers waits behind what waited before, in order, or memory ran out, and just those frames are counted as not sent.
-        ensures sent { PassesOn instance.old (outlets U.store_of U.outbound self.old.backend) instance.new (outlets U.store_of U.outbound self.new.backend) }
+        ensures sent { PassesOn instance.old (outlets U.store_of U.outbound self.old) instance.new (outlets U.store_of U.outbound self.new) }
     {
         self.backend.take(Incoming {
             silences: silences_said(&said),
@@ -194,7 +194,7 @@ impl<U: Backend> ServerState<'_, U> {
     ) -> SessionAnswer
         ensures exchanged { (bits : ℕ) × (now : ℕ) × IsSessionAnswer (name_of session.old) bits now (spoken said) instance.old instance.new result }
         ensures session { session.new ≡ left_at result.fault session.old }
-        ensures stays { outlets U.store_of U.outbound self.new.backend ≡ outlets U.store_of U.outbound self.old.backend }
+        ensures stays { outlets U.store_of U.outbound self.new ≡ outlets U.store_of U.outbound self.old }
     {
         let bits = random_bits(&mut self.random);
         let now = self.backend.next_moment(instance.last());
@@ -207,7 +207,7 @@ impl<U: Backend> ServerState<'_, U> {
         ensures says { SaysBy exchanged.reply (talk_of connection.old).saying (talk_of connection.new).saying }
         // PROMISE: With logs, the reply of a step that sends a version to the place of the disk waits for the next commit, as one that has changed something.
         ensures waits { IsSome exchanged.reply → SendsNews exchanged.effects.outbox (U.store_of self.old.backend) → WaitsAs true connection.new.work }
-        ensures passed { IsPassedOn exchanged.effects.outbox (outlets U.store_of U.outbound self.old.backend) (outlets U.store_of U.outbound self.new.backend) }
+        ensures passed { IsPassedOn exchanged.effects.outbox (outlets U.store_of U.outbound self.old) (outlets U.store_of U.outbound self.new) }
     {
         let SessionAnswer {
             reply,
@@ -249,7 +249,7 @@ impl<U: Backend> ServerState<'_, U> {
         asked: FrameRequests,
         fault: Option<ConnectionFault>,
     )
-        ensures { outlets U.store_of U.outbound self.new.backend ≡ outlets U.store_of U.outbound self.old.backend }
+        ensures { outlets U.store_of U.outbound self.new ≡ outlets U.store_of U.outbound self.old }
     {
         match fault {
             None => {
@@ -264,7 +264,7 @@ impl<U: Backend> ServerState<'_, U> {
 
     /// Remembers that frames of a peer, if there were any, were taken now.
     fn note_frames(&mut self, config: &Config, name: Option<&str>, asked: FrameRequests)
-        ensures { outlets U.store_of U.outbound self.new.backend ≡ outlets U.store_of U.outbound self.old.backend }
+        ensures { outlets U.store_of U.outbound self.new ≡ outlets U.store_of U.outbound self.old }
     {
         if !asked.has_frames {
             return;
@@ -278,7 +278,7 @@ impl<U: Backend> ServerState<'_, U> {
 
     /// Ends the first pull, if it is going on, when a peer has sent all it has, or now that each peer has.
     fn end_first_pull_after(&mut self, config: &Config, name: Option<&str>, asked: FrameRequests)
-        ensures { outlets U.store_of U.outbound self.new.backend ≡ outlets U.store_of U.outbound self.old.backend }
+        ensures { outlets U.store_of U.outbound self.new ≡ outlets U.store_of U.outbound self.old }
     {
         if !self.duties.waits_for_pull() {
             return;
@@ -290,7 +290,7 @@ impl<U: Backend> ServerState<'_, U> {
 
     /// Remembers what the frames of a peer asked for: a Tick, and, except during the first pull, all that is held here.
     fn schedule_transfer(&mut self, config: &Config, name: Option<&str>, asked: FrameRequests)
-        ensures { outlets U.store_of U.outbound self.new.backend ≡ outlets U.store_of U.outbound self.old.backend }
+        ensures { outlets U.store_of U.outbound self.new ≡ outlets U.store_of U.outbound self.old }
     {
         self.duties.owe_tick(asked.ticks);
         if !asked.asks || self.duties.waits_for_pull() {

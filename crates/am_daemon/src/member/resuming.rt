@@ -22,7 +22,7 @@ impl<U: Backend> ServerState<'_, U> {
     /// Continues what is still to be done for a connection. What waits for its turn goes on waiting.
     pub(super) fn resume(&mut self, instance: &mut Instance, connection: &mut ConnectionState)
         ensures taken_up { IsTakenUp (talk_of connection.old).waiting instance.old (talk_of connection.old) instance.new (talk_of connection.new) }
-        ensures sent { PassesOn instance.old (outlets U.store_of U.outbound self.old.backend) instance.new (outlets U.store_of U.outbound self.new.backend) }
+        ensures sent { PassesOn instance.old (outlets U.store_of U.outbound self.old) instance.new (outlets U.store_of U.outbound self.new) }
     {
         match mem::replace(&mut connection.work, ConnectionWork::Nothing) {
             ConnectionWork::Request(said) => self.answer_late(instance, connection, said),
@@ -50,7 +50,7 @@ impl<U: Backend> ServerState<'_, U> {
         ensures gone { KeepsGone (talk_of connection.old).saying (talk_of connection.new).saying }
         ensures given { (request : Request) → (talk_of connection.old).saying ≡ Silent → IsProgressOf request call →
             IsGiven request instance.old instance.new (talk_of connection.new).saying }
-        ensures sent { PassesOn instance.old (outlets U.store_of U.outbound self.old.backend) instance.new (outlets U.store_of U.outbound self.new.backend) }
+        ensures sent { PassesOn instance.old (outlets U.store_of U.outbound self.old) instance.new (outlets U.store_of U.outbound self.new) }
     {
         match call {
             CallProgress::Turn(turn) => connection.put_off(CallProgress::Turn(turn)),
@@ -78,7 +78,7 @@ impl<U: Backend> ServerState<'_, U> {
         said: SessionOutput,
     )
         ensures answered { IsAnswered (spoken said) instance.old (talk_of connection.old) instance.new (talk_of connection.new) }
-        ensures sent { PassesOn instance.old (outlets U.store_of U.outbound self.old.backend) instance.new (outlets U.store_of U.outbound self.new.backend) }
+        ensures sent { PassesOn instance.old (outlets U.store_of U.outbound self.old) instance.new (outlets U.store_of U.outbound self.new) }
     {
         if self.turns_away {
             connection.refuse_unready(self.alloc, Some(said));
@@ -96,7 +96,7 @@ impl<U: Backend> ServerState<'_, U> {
         ensures steps { ForPages instance.old instance.new }
         ensures lasts { Lasts (talk_of connection.old) (talk_of connection.new) }
         ensures given { IsGivenOn instance.old (talk_of connection.old).saying instance.new (talk_of connection.new).saying }
-        ensures sent { PassesOn instance.old (outlets U.store_of U.outbound self.old.backend) instance.new (outlets U.store_of U.outbound self.new.backend) }
+        ensures sent { PassesOn instance.old (outlets U.store_of U.outbound self.old) instance.new (outlets U.store_of U.outbound self.new) }
     {
         match mem::replace(&mut connection.work, ConnectionWork::Nothing) {
             ConnectionWork::Call(call) => {

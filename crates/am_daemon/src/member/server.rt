@@ -70,7 +70,7 @@ impl<U: Backend> Server<'_, U> {
     /// Asks each peer for all that it has, and hands it all that is held here, if that is due. During a first pull, replicas are
     /// asked, too.
     fn pull(&mut self, now: Instant)
-        ensures stays { outlets U.store_of U.outbound self.new.state.backend ≡ outlets U.store_of U.outbound self.old.state.backend }
+        ensures stays { outlets U.store_of U.outbound self.new.state ≡ outlets U.store_of U.outbound self.old.state }
         ensures peers { for_peers U.outbound U.sealed_by self.new.state ≡ for_peers U.outbound U.sealed_by self.old.state }
     {
         if !self.state.duties.is_pull_due(now) {

@@ -83,7 +83,7 @@ impl<U: Backend> ServerState<'_, U> {
 
     /// Asks each peer for all that it has, and hands it all that is held here.
     pub(super) fn pull_from_peers(&mut self)
-        ensures stays { outlets U.store_of U.outbound self.new.backend ≡ outlets U.store_of U.outbound self.old.backend }
+        ensures stays { outlets U.store_of U.outbound self.new ≡ outlets U.store_of U.outbound self.old }
         ensures peers { for_peers U.outbound U.sealed_by self.new ≡ for_peers U.outbound U.sealed_by self.old }
     {
         plan_exchanges(&mut self.transfers, &self.addresses);
@@ -92,7 +92,7 @@ impl<U: Backend> ServerState<'_, U> {
     /// Checks whether the first pull is over, whether the clock is behind, which lines are due, and whether the member is to
     /// stop.
     pub(super) fn look_around(&mut self, instance: &Instance, now: Instant)
-        ensures stays { outlets U.store_of U.outbound self.new.backend ≡ outlets U.store_of U.outbound self.old.backend }
+        ensures stays { outlets U.store_of U.outbound self.new ≡ outlets U.store_of U.outbound self.old }
         ensures peers { for_peers U.outbound U.sealed_by self.new ≡ for_peers U.outbound U.sealed_by self.old }
     {
         if self.duties.is_first_pull_over(now) {
@@ -120,7 +120,7 @@ impl<U: Backend> ServerState<'_, U> {
 
     /// Ends the first pull, since all that the peers have is here.
     pub(super) fn end_first_pull(&mut self)
-        ensures stays { outlets U.store_of U.outbound self.new.backend ≡ outlets U.store_of U.outbound self.old.backend }
+        ensures stays { outlets U.store_of U.outbound self.new ≡ outlets U.store_of U.outbound self.old }
         ensures peers { for_peers U.outbound U.sealed_by self.new ≡ for_peers U.outbound U.sealed_by self.old }
     {
         if let Some(now) = self.backend.now() {

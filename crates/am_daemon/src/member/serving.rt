@@ -65,7 +65,7 @@ impl<U: Backend> Server<'_, U> {
         ensures heard { IsScreened instance.old (talk_of connection.old) instance.new (talk_of connection.new)
             ⊎ IsLetIn lock.entry piece.now instance.old (talk_of connection.old) instance.new (talk_of connection.new) }
         // PROMISE: What the steps of what comes over a connection send to peers waits behind what waited before, in order, or memory ran out, and just those frames are counted as not sent.
-        ensures sent { PassesOn instance.old (outlets U.store_of U.outbound self.old.state.backend) instance.new (outlets U.store_of U.outbound self.new.state.backend) }
+        ensures sent { PassesOn instance.old (outlets U.store_of U.outbound self.old.state) instance.new (outlets U.store_of U.outbound self.new.state) }
     {
         if let Some(refusal) = connection.screen(piece, self.state.hosts.as_slice()) {
             return self.state.refuse(connection, &refusal);
@@ -81,7 +81,7 @@ impl<U: Backend> Server<'_, U> {
     pub fn end(&mut self, instance: &mut Instance, connection: &mut ConnectionState)
         ensures heard { (said : Spoken) × SaysEnd connection.old.session said × IsAnswered said instance.old
             (record (talk_of connection.old) { session = ended_under (name_of connection.old.session) }) instance.new (talk_of connection.new) }
-        ensures sent { PassesOn instance.old (outlets U.store_of U.outbound self.old.state.backend) instance.new (outlets U.store_of U.outbound self.new.state.backend) }
+        ensures sent { PassesOn instance.old (outlets U.store_of U.outbound self.old.state) instance.new (outlets U.store_of U.outbound self.new.state) }
     {
         let heard = connection.authenticator.end(&mut connection.session);
         self.state.hear_authenticated(instance, connection, heard);
@@ -90,7 +90,7 @@ impl<U: Backend> Server<'_, U> {
     /// Counts and reports a connection that was closed before its end.
     pub fn broken(&mut self, config: &Config, connection: &mut ConnectionState, broken: Broken)
         ensures talk { talk_of connection.new ≡ talk_of connection.old }
-        ensures stays { outlets U.store_of U.outbound self.new.state.backend ≡ outlets U.store_of U.outbound self.old.state.backend }
+        ensures stays { outlets U.store_of U.outbound self.new.state ≡ outlets U.store_of U.outbound self.old.state }
         ensures peers { for_peers U.outbound U.sealed_by self.new.state ≡ for_peers U.outbound U.sealed_by self.old.state }
     {
         if connection.turn().is_some() {
@@ -111,7 +111,7 @@ impl<U: Backend> Server<'_, U> {
     /// Goes on with a connection that waits.
     pub fn resume(&mut self, instance: &mut Instance, connection: &mut ConnectionState)
         ensures taken_up { IsTakenUp (talk_of connection.old).waiting instance.old (talk_of connection.old) instance.new (talk_of connection.new) }
-        ensures sent { PassesOn instance.old (outlets U.store_of U.outbound self.old.state.backend) instance.new (outlets U.store_of U.outbound self.new.state.backend) }
+        ensures sent { PassesOn instance.old (outlets U.store_of U.outbound self.old.state) instance.new (outlets U.store_of U.outbound self.new.state) }
     {
         self.state.resume(instance, connection);
     }
@@ -158,7 +158,7 @@ impl<U: Backend> Server<'_, U> {
         ensures steps { ForPages instance.old instance.new }
         ensures lasts { Lasts (talk_of connection.old) (talk_of connection.new) }
         ensures given { IsGivenOn instance.old (talk_of connection.old).saying instance.new (talk_of connection.new).saying }
-        ensures sent { PassesOn instance.old (outlets U.store_of U.outbound self.old.state.backend) instance.new (outlets U.store_of U.outbound self.new.state.backend) }
+        ensures sent { PassesOn instance.old (outlets U.store_of U.outbound self.old.state) instance.new (outlets U.store_of U.outbound self.new.state) }
     {
         self.tell_missed(instance.config(), connection);
         self.state.resume_in_turn(instance, connection);
@@ -175,7 +175,7 @@ impl<U: Backend> Server<'_, U> {
     /// Counts what is done of a connection.
     pub fn count_done(&mut self, connection: &mut ConnectionState)
         ensures talk { talk_of connection.new ≡ talk_of connection.old }
-        ensures stays { outlets U.store_of U.outbound self.new.state.backend ≡ outlets U.store_of U.outbound self.old.state.backend }
+        ensures stays { outlets U.store_of U.outbound self.new.state ≡ outlets U.store_of U.outbound self.old.state }
         ensures peers { for_peers U.outbound U.sealed_by self.new.state ≡ for_peers U.outbound U.sealed_by self.old.state }
     {
         count_where_done(&mut self.state.backend, connection);

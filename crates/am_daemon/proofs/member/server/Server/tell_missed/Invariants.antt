@@ -4,4 +4,4 @@ use Rattle.am_daemon.proofs.member.server.Server.tell_missed.Given as goal
 
 -- nothing is passed on
 abbrev pub invariant-loop-place : goal.invariant-loop-place
-invariant-loop-place g l = outlets g.U.Backend.store_of g.U.Backend.outbound l.self.state.backend ≡ outlets g.U.Backend.store_of g.U.Backend.outbound l.fn.self.state.backend
+invariant-loop-place g l = outlets g.U.Backend.store_of g.U.Backend.outbound l.self.state ≡ outlets g.U.Backend.store_of g.U.Backend.outbound l.fn.self.state

@@ -10,4 +10,4 @@ returns-clause-called g c = λ request asked only. c.resume_decision.ensures.cal
     (c.args.question, asked, subst (IsUnderway c.args.question) (sym c.new-deciding.ensures) (begun_underway c.args.question), only)
 
 pub returns-clause-quiet : goal.returns-clause-quiet
-returns-clause-quiet g c = quiet_then _ _ _ _ _ _ (same_self _) (outlets_are _ _ _ _ c.count.ensures.store c.count.ensures.outbound) c.resume_decision.ensures.quiet
+returns-clause-quiet g c = quiet_then _ _ _ _ _ _ (same_self _) (outlets_are _ _ _ _ _ c.count.ensures.store c.count.ensures.outbound) c.resume_decision.ensures.quiet

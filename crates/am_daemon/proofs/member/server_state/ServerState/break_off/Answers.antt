@@ -1,6 +1,7 @@
 use Rattle.am_server.proofs.Calls.{broken_off_answer}
 use Rattle.am_server.proofs.Steps.{broken_off_made}
 use Rattle.am_daemon.proofs.Calling.{given_called}
+use Rattle.am_daemon.proofs.Sending.{outlets_are}
 use Rattle.std.proofs.Common.{◌∙◌}
 use Rattle.am_daemon.proofs.member.server_state.ServerState.break_off.Goals as goal
 
@@ -16,4 +17,4 @@ returns-clause-called g c = λ request question start same asked underway only.
     c.break_off-verdict.result.reply _ underway same c.break_off-verdict.ensures.decided) c.answer_or_hear.ensures.gives
 
 pub returns-clause-quiet : goal.returns-clause-quiet
-returns-clause-quiet g c = record { same = c.break_off-verdict.ensures.same; stays = c.answer_or_hear.ensures.stays ∙ c.count_decided.ensures }
+returns-clause-quiet g c = record { same = c.break_off-verdict.ensures.same; stays = c.answer_or_hear.ensures.stays ∙ outlets_are _ _ _ _ _ c.count_decided.ensures.0 c.count_decided.ensures.1 }

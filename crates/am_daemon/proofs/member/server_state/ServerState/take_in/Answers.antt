@@ -9,4 +9,4 @@ returns-clause-taken g c = steps_taken _ _ _ _ _ _ _ _ c.defer_requests-said.ens
 
 pub returns-clause-sent : goal.returns-clause-sent
 returns-clause-sent g c = said_on _ _ _ _ _ _ _ c.make_steps-exchanged.result c.make_steps-exchanged.ensures.exchanged
-    (c.handle_frames.ensures ∙ (c.make_steps-exchanged.ensures.stays ∙ outlets_are _ _ _ _ c.take.ensures.store c.take.ensures.outbound)) c.reply.ensures.passed
+    (c.handle_frames.ensures ∙ (c.make_steps-exchanged.ensures.stays ∙ outlets_are _ _ _ _ _ c.take.ensures.store c.take.ensures.outbound)) c.reply.ensures.passed
