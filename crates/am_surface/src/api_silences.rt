@@ -7,11 +7,15 @@ use std::alloc::{AllocError, Global};
 
 /// Calls the public functions of am_api_silences that make no step.
 pub fn calls(alloc: Global) -> Option<()> {
-    let request = request(alloc)?;
-    let event: Result<Event, Refusal> = to_event(alloc, &request, 0u128);
-    holds(event.is_ok())?;
+    holds(means_an_event(alloc)?)?;
     replies(alloc)?;
     refusals(alloc)
+}
+
+fn means_an_event(alloc: Global) -> Option<bool> {
+    let request = request(alloc)?;
+    let event: Result<Event, Refusal> = to_event(alloc, &request, 0u128);
+    Some(event.is_ok())
 }
 
 /// Returns a request for the list of all silences.

@@ -128,11 +128,24 @@ fn number_of(error: StepError) -> usize {
 }
 
 fn events(alloc: Global) -> Option<()> {
+    holds(decides(alloc)?)?;
+    holds(comes())?;
+    holds(mutes(alloc)?)
+}
+
+fn decides(alloc: Global) -> Option<bool> {
     let (group, receiver) = (group_key(alloc)?, receiver(alloc)?);
     let event = decided(group, receiver, hashes(alloc)?, hashes(alloc)?, second()?);
-    holds(event_number(&event) == 4)?;
-    holds(event_number(&came(1, Frame::Tick)) == 2)?;
-    holds(event_number(&muting(labels(alloc)?)) == 5)
+    Some(event_number(&event) == 4)
+}
+
+fn comes() -> bool {
+    event_number(&came(1, Frame::Tick)) == 2
+}
+
+fn mutes(alloc: Global) -> Option<bool> {
+    let event = muting(labels(alloc)?);
+    Some(event_number(&event) == 5)
 }
 
 fn decided(
@@ -190,12 +203,25 @@ fn event_number(event: &Event) -> usize {
 }
 
 fn requests(alloc: Global) -> Option<()> {
-    let list = listing(Vec::new(alloc));
-    let get = getting(text(alloc, "a")?);
-    holds(request_number(&list) == 1 && request_number(&get) == 2)?;
-    let post = posting(posted(alloc)?, 0);
-    let delete = deleting(text(alloc, "a")?);
-    holds(request_number(&post) == 3 && request_number(&delete) == 4)
+    holds(request_number(&listing(Vec::new(alloc))) == 1)?;
+    holds(gets(alloc)?)?;
+    holds(posts(alloc)?)?;
+    holds(deletes(alloc)?)
+}
+
+fn gets(alloc: Global) -> Option<bool> {
+    let request = getting(text(alloc, "a")?);
+    Some(request_number(&request) == 2)
+}
+
+fn posts(alloc: Global) -> Option<bool> {
+    let request = posting(posted(alloc)?, 0);
+    Some(request_number(&request) == 3)
+}
+
+fn deletes(alloc: Global) -> Option<bool> {
+    let request = deleting(text(alloc, "a")?);
+    Some(request_number(&request) == 4)
 }
 
 fn listing(filters: Vec<Filter>) -> Request {
