@@ -51,6 +51,7 @@ ANCHORS = {
     "outlasts": ("am_store::no_crash_loses_a_version", "outlasts"),
     "parted": ("am_store::no_crash_loses_a_version", "parted"),
     "life": ("am_daemon::live", "lived"),
+    "frames": ("am_daemon::each_frame_goes_once", None),
     "kept": ("am_daemon::Server::release", "kept"),
     "commits": ("am_reactor::Service::release", "committed"),
 }
