@@ -107,7 +107,7 @@ logged_none store =
 
 -- ---- the frames for the disk, among those for all places
 
-for_append : (disk : ℕ) (xs ys : List (ℕ × Frame)) → frames_for disk (xs ++ ys) ≡ frames_for disk xs ++ frames_for disk ys
+pub for_append : (disk : ℕ) (xs ys : List (ℕ × Frame)) → frames_for disk (xs ++ ys) ≡ frames_for disk xs ++ frames_for disk ys
 for_append disk xs ys =
     ap (λ (queued : List (ℕ × Frame)). map (λ q. q.1) queued) (filter-append (λ q. q.0 == disk) xs ys)
     ∙ map-append (λ q. q.1) (filter (λ q. q.0 == disk) xs) (filter (λ q. q.0 == disk) ys)

@@ -55,7 +55,7 @@ pub record IsTaken (peer : ℕ) (frames : List Frame) (old new : Sent) : Type 0 
 abbrev pub AreGone : Sent → Sent → Type 0
 AreGone old new = ((old.frames ≡ []) × (new ≡ old)) ⊎ (new ≡ record (left_out (length old.frames) old) { frames = [] })
 
--- The bytes are the text of frames as it goes to a peer: that of the frames, or what is sealed for the peer's name from a place in
+-- The bytes are the encoding of frames as it goes to a peer: that of the frames, or what is sealed for the peer's name from a place in
 -- its connection on.
 abbrev pub IsEncodingFor : Option Lock → Settings → ℕ → Option Sequence → List Frame → List ℕ → Type 0
 IsEncodingFor None config peer from frames bytes = bytes ≡ flat_map frame_encoding frames

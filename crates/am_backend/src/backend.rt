@@ -208,7 +208,7 @@ pub trait Backend {
     fn is_sealed(&self) -> bool
         ensures { result ≡ is_some (sealed_by self.now) };
 
-    /// Returns the text of frames for a peer, sealed from a place in its connection on if members have a secret. If there is
+    /// Returns the encoding of frames for a peer, sealed from a place in its connection on if members have a secret. If there is
     /// none, the frames are told unsent.
     fn encoding_of(
         &mut self,
@@ -217,7 +217,7 @@ pub trait Backend {
         from: Option<Sequence>,
         frames: &[Frame],
     ) -> Option<Vec<u8>>
-        // PROMISE: The bytes for a peer are the text of just the frames that go to it, in order, or what is sealed for its name.
+        // PROMISE: The bytes for a peer are the encoding of just the frames that go to it, in order, or what is sealed for its name.
         ensures encoding { IfSome result (λ bytes. IsEncodingFor (sealed_by self.old) config.now peer from frames.now bytes.items) }
         ensures queue { (outbound self.new).frames ≡ (outbound self.old).frames }
         ensures unsent { IfNone result (outbound self.new ≡ left_out (length frames.now) (outbound self.old)) }

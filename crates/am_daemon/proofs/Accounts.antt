@@ -3,10 +3,10 @@ use Rattle.std.proofs.Common.{◌≡◌, ◌≢◌, ◌∙◌, ◌⊎◌, ◌==�
 use Rattle.am_peer_auth.specs.declared.seal.Lock.{Lock}
 use Rattle.std.proofs.lemmas.Bool.{cases_lt, ne_eqb}
 use Rattle.std.proofs.lemmas.Bool.Decides.{eqb_tells}
-use Rattle.std.proofs.lemmas.List.{get_or-set_other, get_or-set_same, get_or_past, length-set, append-nil, append_assoc, map-append}
-use Rattle.std.proofs.lemmas.List.Elements.{filter-append}
+use Rattle.std.proofs.lemmas.List.{get_or-set_other, get_or-set_same, get_or_past, length-set, append-nil, append_assoc}
 use Rattle.std.specs.List.{filter, flat_map}
 use Rattle.std.specs.Prelude.{if◌then◌else◌, slice_index_or}
+use Rattle.am_backend.proofs.Logged.{for_append}
 use Rattle.am_backend.specs.CommitStates.{disk_of}
 use Rattle.am_backend.specs.Outbound.{AreGone, IsQueued, IsSentOn, IsTaken, for_peers as for_peers_beside}
 use Rattle.am_gossip.specs.declared.frame.Frame.{Frame}
@@ -36,11 +36,6 @@ all_put departures = flat_map (λ departure. departure.put_by) departures
 
 module _ (peer : ℕ) where
   -- ---- the frames for the peer, among those for all places
-
-  for_append : (xs ys : List (ℕ × Frame)) → frames_for peer (xs ++ ys) ≡ frames_for peer xs ++ frames_for peer ys
-  for_append xs ys =
-      ap (λ (queued : List (ℕ × Frame)). map (λ q. q.1) queued) (filter-append (λ q. q.0 == peer) xs ys)
-      ∙ map-append (λ q. q.1) (filter (λ q. q.0 == peer) xs) (filter (λ q. q.0 == peer) ys)
 
   none_more : (q : ℕ × Frame) (rest : List (ℕ × Frame)) (b : Bool) → (q.0 == peer) ≡ b → frames_for peer rest ≡ [] → frames_for peer (cond (not b) (q ∷ rest) rest) ≡ []
   none_more q rest true is none = none
@@ -402,7 +397,7 @@ module _ (peer : ℕ) where
       last = is;
       departures = [];
       come = inr (sent, between, inl refl);
-      behind = ap (λ (queued : List (ℕ × Frame)). frames_for peer queued) (last ∙ ap (λ (s : Sent). s.frames) more) ∙ for_append before.frames (for_peers_beside disk sent.frames)
+      behind = ap (λ (queued : List (ℕ × Frame)). frames_for peer queued) (last ∙ ap (λ (s : Sent). s.frames) more) ∙ for_append peer before.frames (for_peers_beside disk sent.frames)
           ∙ ap (λ (queued : List (ℕ × Frame)). frames_for peer queued ++ frames_for peer (for_peers_beside disk sent.frames)) first;
       kept = kept;
       leave = stays_still is;
@@ -417,7 +412,7 @@ module _ (peer : ℕ) where
       mid = was;
       last = is;
       departures = [];
-      come = inr (sent, between, inr (refl, (before, after, first, none, last)));
+      come = inr (sent, between, inr (refl, last ∙ ap (λ (s : Sent). s.frames) none ∙ first));
       behind = sym (append-nil (waiting_for peer was));
       kept = refl;
       leave = (ap (λ (queued : List (ℕ × Frame)). frames_for peer queued) (last ∙ ap (λ (s : Sent). s.frames) none ∙ first), kept);

@@ -3,7 +3,7 @@
 use Rattle.std.specs.Prelude.{◌≡◌, ◌⊎◌, ℕ, List, [], ◌∷◌, ◌++◌, Option, Err}
 use Rattle.std.specs.List.{flat_map}
 use Rattle.am_api_decisions.specs.Asking.{HoldsSame}
-use Rattle.am_backend.specs.Outbound.{AreGone, IsTaken, for_peers as for_peers_beside, to_peers}
+use Rattle.am_backend.specs.Outbound.{AreGone, IsTaken, for_peers as for_peers_beside}
 use Rattle.am_daemon.specs.Histories.{AreSentBetween}
 use Rattle.am_daemon.specs.Offers.{AreGiven, AreHandedOn, ForPeers, IsGiven, IsLost, put_by_for}
 use Rattle.am_daemon.specs.Sending.{MayTick}
@@ -12,7 +12,7 @@ use Rattle.am_gossip.specs.declared.refusals.StepError.{StepError}
 use Rattle.am_instance.specs.Configs.{Settings}
 use Rattle.am_instance.specs.InstanceStates.{InstanceState}
 use Rattle.am_instance.specs.OneStep.{IsStep}
-use Rattle.am_instance.specs.Sendings.{Sent, without_more}
+use Rattle.am_instance.specs.Sendings.{Sent}
 use Rattle.am_instance.specs.declared.event.Event.TheVariants as events
 use Rattle.am_peers.specs.Queues.{frames_for}
 
@@ -34,16 +34,12 @@ NothingIsSent old new = HoldsSame old new
     ⊎ ((ticked : InstanceState) × MayTick old ticked
     × ((new ≡ ticked) ⊎ ((came : ℕ × Frame) × (now : ℕ) × (error : StepError) × IsStep ticked (events.Frame came.0 came.1) now (Err error) new)))
 
--- There is no memory for these to wait, and they are counted.
-abbrev pub AreCounted : Sent → Sent → Sent → Type 0
-AreCounted more old new = (before : Sent) × (after : Sent) × (before.frames ≡ old.frames) × (after ≡ without_more before more) × (new.frames ≡ after.frames)
-
--- These frames come to wait for a peer: none, where nothing is sent; all that steps sent to that peer; or none, where there is no memory
--- for those, and they are counted.
+-- These frames come to wait for a peer: none, if nothing is sent; all that steps sent to that peer; or none, if there is no memory for
+-- those, and what waits stays.
 abbrev pub Come : ℕ → Option ℕ → List Frame → InstanceState → Sent → InstanceState → Sent → Type 0
 Come peer disk came old was new is = ((came ≡ []) × NothingIsSent old new)
     ⊎ ((sent : Sent) × AreSentBetween sent old new
-    × ((came ≡ frames_for peer (for_peers_beside disk sent.frames)) ⊎ ((came ≡ []) × AreCounted (to_peers disk sent) was is)))
+    × ((came ≡ frames_for peer (for_peers_beside disk sent.frames)) ⊎ ((came ≡ []) × (is.frames ≡ was.frames))))
 
 -- frames of a peer that leave at once, and those of them that are put by: all, or none
 pub record Departure : Type 0 where

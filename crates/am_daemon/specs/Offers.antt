@@ -80,12 +80,12 @@ IsPutBy peer frames true old new = ((put_by_for old peer).is_open ≡ false) × 
 IsPutBy peer frames false old new = (new ≡ old) ⊎ (((put_by_for old peer).is_open ≡ true) × (new ≡ with_put_by peer (put_behind frames (put_by_for old peer)) old))
 
 -- No bytes are given for a peer's frames, by this lock: they are put by for a link that is open, or are dropped; or, if nothing is
--- sealed, there is no memory for their text, and they are counted.
+-- sealed, there is no memory for their encoding, and they are counted.
 abbrev pub AreKeptBack : Option Lock → ℕ → List Frame → ForPeers → ForPeers → Type 0
 AreKeptBack None peer frames old new = new ≡ record old { queue = left_out (length frames) old.queue }
 AreKeptBack (Some lock) peer frames old new = IsPutBy peer frames false old new
 
--- Bytes are given for a peer's frames, by this lock: their text; or none, which opens a link, and the frames are put by.
+-- Bytes are given for a peer's frames, by this lock: their encoding; or none, which opens a link, and the frames are put by.
 abbrev pub AreGiven : Option Lock → ℕ → List Frame → List ℕ → ForPeers → ForPeers → Type 0
 AreGiven None peer frames bytes old new = (bytes ≡ flat_map frame_encoding frames) × OnlyCounts old new
 AreGiven (Some lock) peer frames bytes old new = (bytes ≡ []) × IsPutBy peer frames true old new
@@ -142,11 +142,12 @@ abbrev pub AreNext : List Frame → List Frame → Type 0
 AreNext [] frames = (part : Frame) × (frames ≡ part ∷ [])
 AreNext (frame ∷ put_by) frames = frames ≡ frame ∷ put_by
 
--- No frames go to a peer next: none were put by, and no part is left; or there is no memory for the text of those, and they are counted.
+-- No frames go to a peer next: none were put by, and no part is left; or there is no memory for the encoding of those, and they are
+-- counted.
 abbrev pub AreLost : List Frame → Sent → Sent → Type 0
 AreLost put_by old new = ((put_by ≡ []) × (new ≡ old)) ⊎ ((frames : List Frame) × AreNext put_by frames × (new ≡ left_out (length frames) old))
 
--- What a peer is given over the link that answered: the text of the frames that go to it next, sealed from their place in the
+-- What a peer is given over the link that answered: the encoding of the frames that go to it next, sealed from their place in the
 -- connection on. Or nothing, and the link is closed.
 abbrev pub IsGiven : Settings → ℕ → List ℕ → Option (List ℕ) → ForPeers → ForPeers → Type 0
 IsGiven config peer answer (Some bytes) old new = (frames : List Frame) × AreNext (put_by_for old peer).frames frames

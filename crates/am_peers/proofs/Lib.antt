@@ -2,4 +2,3 @@ mod Cuts
 mod Signs
 mod Whole
 mod Decimals
-mod Queued

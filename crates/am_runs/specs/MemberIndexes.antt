@@ -1,4 +1,4 @@
--- What a run remembers of its members.
+-- The records of members in a run.
 -- X is the type of versions, and `seen` is what the merge sees of one.
 use Rattle.std.specs.Prelude.{◌≡◌, ℕ, List, Bool, true, Option, Some, None, IsTrue, ◌↔◌, MatchOption, if◌then◌else◌, slice_get}
 use Rattle.std.specs.declared.cmp.Ordering.{Ordering}

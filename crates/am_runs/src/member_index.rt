@@ -1,4 +1,4 @@
-//! What a run remembers of a member: the versions that it took, its last collection, and the first step after which it isn't calm.
+//! The record of a member in a run: the versions that it took, its last collection, and the first step after which it isn't calm.
 
 ghost use Rattle.std.specs.Prelude.{◌≡◌, ℕ, ◌++◌, ◌∷◌, [], ◌↔◌, IsTrue, true, map, IfOk, OnOk};
 ghost use Rattle.am_merge.specs.Maps.{at};
@@ -14,7 +14,7 @@ use am_merge::Held;
 use am_version_order::{Moment, Version};
 use std::alloc::{AllocError, Global};
 
-/// What a run remembers of a member.
+/// The record of a member in a run.
 #[derive(Drop)]
 pub struct MemberIndex<V: Version> {
     pub runs: bool,

@@ -1,4 +1,3 @@
-pub mod Growing
 mod Writes
 pub mod Groups
 pub mod Items
