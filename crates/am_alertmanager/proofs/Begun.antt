@@ -1,4 +1,4 @@
--- What was read of a row, as the lemmas of am_snapshot have it.
+-- The part of a row that was read, in the terms of am_snapshot's lemmas.
 use Rattle.std.proofs.Common.{ℕ, List, Option, Result}
 use Rattle.std.specs.declared.cmp.Ordering.{Ordering}
 use Rattle.am_version_order.specs.Versions.{Version}

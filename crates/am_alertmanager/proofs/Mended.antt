@@ -1,4 +1,4 @@
--- What a replica holds once it was sent what it lacks.
+-- The map of a replica once it was sent all that it lacks.
 use Rattle.std.proofs.Common.{◌≡◌, ℕ, zero, suc, ◌<◌, Bool, true, false, cond, List, [], ◌∷◌, length, get_or, Option, Some, None, refl, sym, ap, ◌∙◌, subst, arith, ltb}
 use Rattle.std.specs.Prelude.{All, Contains, filter}
 use Rattle.std.specs.declared.cmp.Ordering.{Ordering}

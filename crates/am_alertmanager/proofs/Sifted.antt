@@ -4,7 +4,7 @@ use Rattle.std.proofs.lemmas.Grind.{flat_map-append}
 use Rattle.am_version_order.specs.Versions.{Version}
 use Rattle.am_wire.specs.Writing.{delimited}
 use Rattle.am_snapshot.specs.Encodings.{row_encoding}
-use Rattle.am_alertmanager.specs.declared.tally.Tally.{Tally}
+use Rattle.am_alertmanager.specs.declared.tally.FilterTally.{FilterTally}
 use Rattle.am_alertmanager.specs.declared.tally.Withheld.{Withheld}
 use Rattle.am_alertmanager.specs.VersionFilters.{IsTallied, Tallies, AreChosen, AreNoted}
 use Rattle.am_alertmanager.specs.VersionFilters.AreChosen.{nothing, chosen, left_out}
@@ -35,11 +35,11 @@ module _ {X W : Type 0} (withholds : X → List W → List W → Type 0) where
   noted_behind v _ old mid new (noted first rest) notes = noted first (noted_behind v _ _ mid new rest notes)
 
 module _ {K X : Type 0} (passes : X → Bool → Type 0) (withholds : X → List (Withheld K) → List (Withheld K) → Type 0) where
-  tallies_none : (tally : Tally K) → Tallies passes withholds [] [] tally tally
+  tallies_none : (tally : FilterTally K) → Tallies passes withholds [] [] tally tally
   tallies_none tally = record { are = nothing; passed = λ _. omega arith; noted = nobody }
 
   -- one more that passes is counted
-  tallies_chosen : (looked some : List X) (v : X) (old mid new : Tally K) → passes v true → withholds v mid.withheld.items new.withheld.items
+  tallies_chosen : (looked some : List X) (v : X) (old mid new : FilterTally K) → passes v true → withholds v mid.withheld.items new.withheld.items
       → (mid.passed + 1 < 2 ^ 64 → new.passed ≡ mid.passed + 1) → Tallies passes withholds looked some old mid → Tallies passes withholds (looked ++ v ∷ []) (some ++ v ∷ []) old new
   tallies_chosen looked some v old mid new does notes counts so_far = record {
     are = chosen_behind passes v looked some does so_far.are;
@@ -52,7 +52,7 @@ module _ {K X : Type 0} (passes : X → Bool → Type 0) (withholds : X → List
   }
 
   -- one more that doesn't is not
-  tallies_left_out : (looked some : List X) (v : X) (old mid new : Tally K) → passes v false → withholds v mid.withheld.items new.withheld.items
+  tallies_left_out : (looked some : List X) (v : X) (old mid new : FilterTally K) → passes v false → withholds v mid.withheld.items new.withheld.items
       → new.passed ≡ mid.passed → Tallies passes withholds looked some old mid → Tallies passes withholds (looked ++ v ∷ []) some old new
   tallies_left_out looked some v old mid new fails notes same so_far = record {
     are = left_out_behind passes v looked some fails so_far.are;
@@ -61,7 +61,7 @@ module _ {K X : Type 0} (passes : X → Bool → Type 0) (withholds : X → List
   }
 
   -- the notes and the count are all that matters
-  pub same_tally : (all : List X) (old mid new : Tally K) → new.withheld.items ≡ mid.withheld.items → new.passed ≡ mid.passed
+  pub same_tally : (all : List X) (old mid new : FilterTally K) → new.withheld.items ≡ mid.withheld.items → new.passed ≡ mid.passed
       → IsTallied passes withholds all old mid → IsTallied passes withholds all old new
   same_tally all old mid new notes passed it = record {
     looked = it.looked;
@@ -77,21 +77,21 @@ module _ {K X : Type 0} (passes : X → Bool → Type 0) (withholds : X → List
 
   module _ (seen : X → Version K) where
     -- the row is that of the versions that pass, of those before the ones that are left, and the tally counts these
-    pub record IsSifting (all left : List X) (row : List ℕ) (old new : Tally K) : Type 0 where
+    pub record IsSifting (all left : List X) (row : List ℕ) (old new : FilterTally K) : Type 0 where
       pub looked : List X
       pub parts : all ≡ looked ++ left
       pub some : List X
       pub tallies : Tallies passes withholds looked some old new
       pub text : row ≡ row_encoding seen some
 
-    pub sifting_begins : (all : List X) (tally : Tally K) → IsSifting all all [] tally tally
+    pub sifting_begins : (all : List X) (tally : FilterTally K) → IsSifting all all [] tally tally
     sifting_begins all tally = record { looked = []; parts = refl; some = []; tallies = tallies_none tally; text = refl }
 
     one_behind : (looked : List X) (v : X) (left : List X) (all : List X) → all ≡ looked ++ v ∷ left → all ≡ (looked ++ v ∷ []) ++ left
     one_behind looked v left all parts = parts ∙ sym (append_assoc looked (v ∷ []) left)
 
     -- one that passes stands behind those before it
-    pub sifting_takes : (all : List X) (v : X) (left : List X) (row : List ℕ) (old mid new : Tally K) → passes v true → withholds v mid.withheld.items new.withheld.items
+    pub sifting_takes : (all : List X) (v : X) (left : List X) (row : List ℕ) (old mid new : FilterTally K) → passes v true → withholds v mid.withheld.items new.withheld.items
         → (mid.passed + 1 < 2 ^ 64 → new.passed ≡ mid.passed + 1) → IsSifting all (v ∷ left) row old mid → IsSifting all left (row ++ delimited (seen v).content) old new
     sifting_takes all v left row old mid new does notes counts so_far = record {
       looked = so_far.looked ++ v ∷ [];
@@ -106,7 +106,7 @@ module _ {K X : Type 0} (passes : X → Bool → Type 0) (withholds : X → List
     }
 
     -- one that doesn't is left out
-    pub sifting_skips : (all : List X) (v : X) (left : List X) (row : List ℕ) (old mid new : Tally K) → passes v false → withholds v mid.withheld.items new.withheld.items
+    pub sifting_skips : (all : List X) (v : X) (left : List X) (row : List ℕ) (old mid new : FilterTally K) → passes v false → withholds v mid.withheld.items new.withheld.items
         → new.passed ≡ mid.passed → IsSifting all (v ∷ left) row old mid → IsSifting all left row old new
     sifting_skips all v left row old mid new fails notes same so_far = record {
       looked = so_far.looked ++ v ∷ [];
@@ -117,5 +117,5 @@ module _ {K X : Type 0} (passes : X → Bool → Type 0) (withholds : X → List
     }
 
     -- what was looked at so far is tallied
-    pub tallied_so_far : (all left : List X) (row : List ℕ) (old new : Tally K) → IsSifting all left row old new → IsTallied passes withholds all old new
+    pub tallied_so_far : (all left : List X) (row : List ℕ) (old new : FilterTally K) → IsSifting all left row old new → IsTallied passes withholds all old new
     tallied_so_far all left row old new so_far = record { looked = so_far.looked; left = left; parts = so_far.parts; chosen = so_far.some; tallies = so_far.tallies }

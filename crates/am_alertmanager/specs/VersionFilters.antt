@@ -10,7 +10,7 @@ use Rattle.am_snapshot.specs.Encodings.{row_encoding}
 use Rattle.am_snapshot.specs.declared.pieces.RowPiece.{RowPiece}
 use Rattle.am_alertmanager.specs.declared.version_filter.VersionFilter.{VersionFilter}
 use Rattle.am_alertmanager.specs.declared.version_filter.VersionFilter.TheVariants.{Lacked, Given}
-use Rattle.am_alertmanager.specs.declared.tally.Tally.{Tally}
+use Rattle.am_alertmanager.specs.declared.tally.FilterTally.{FilterTally}
 use Rattle.am_alertmanager.specs.declared.tally.Withheld.{Withheld}
 
 -- exactly those of a list that pass a test were chosen, in order
@@ -27,13 +27,13 @@ pub data AreNoted {X W : Type 0} (withholds : X → List W → List W → Type 0
 module _ {K X : Type 0} (passes : X → Bool → Type 0) (withholds : X → List (Withheld K) → List (Withheld K) → Type 0) where
   -- of the versions that were looked at, those that pass are counted, as far as the number has room, and those that are withheld
   -- are recorded
-  pub record Tallies (looked chosen : List X) (old new : Tally K) : Type 0 where
+  pub record Tallies (looked chosen : List X) (old new : FilterTally K) : Type 0 where
     pub are : AreChosen passes looked chosen
     pub passed : old.passed + length chosen < 2 ^ 64 → new.passed ≡ old.passed + length chosen
     pub noted : AreNoted withholds looked old.withheld.items new.withheld.items
 
   -- this holds for a first part of all versions
-  pub record IsTallied (all : List X) (old new : Tally K) : Type 0 where
+  pub record IsTallied (all : List X) (old new : FilterTally K) : Type 0 where
     pub looked : List X
     pub left : List X
     pub parts : all ≡ looked ++ left
@@ -72,7 +72,7 @@ module _ {K X : Type 0} (seen : X → Version K) where
 
   -- The row has exactly those of the first versions that pass a test, which the tally counts, and the next key is that of the
   -- first version after them.
-  pub record IsSifted (passes : X → Bool → Type 0) (withholds : X → List (Withheld K) → List (Withheld K) → Type 0) (all : List X) (old new : Tally K)
+  pub record IsSifted (passes : X → Bool → Type 0) (withholds : X → List (Withheld K) → List (Withheld K) → Type 0) (all : List X) (old new : FilterTally K)
       (piece : RowPiece K) : Type 0 where
     pub looked : List X
     pub left : List X

@@ -4,7 +4,7 @@
 use crate::candidate::Candidate;
 use crate::reading::{begin_row, read_some};
 use crate::sifting::sift;
-use crate::tally::Tally;
+use crate::tally::FilterTally;
 use crate::version_filter::VersionFilter;
 use am_gossip::{Part, StateKey};
 use am_memberlist::AnswerError;
@@ -58,7 +58,7 @@ where
     stage: AnswerStage<V::Key>,
     given: Vec<u8>,
     /// The tally of the versions that the replica would be given, since it was last taken.
-    tally: Tally<V::Key>,
+    tally: FilterTally<V::Key>,
     /// The number of smaller messages that lost fields, since it was last taken.
     dropped: u64,
 }
@@ -104,14 +104,14 @@ where
             held,
             stage: AnswerStage::Reading,
             given: Vec::new(alloc),
-            tally: Tally::new(alloc),
+            tally: FilterTally::new(alloc),
             dropped: 0,
         }
     }
 
     /// Returns the tally of the versions that the replica would be given, since it was last taken.
-    pub fn take_tally(&mut self, alloc: Global) -> Tally<V::Key> {
-        mem::replace(&mut self.tally, Tally::new(alloc))
+    pub fn take_tally(&mut self, alloc: Global) -> FilterTally<V::Key> {
+        mem::replace(&mut self.tally, FilterTally::new(alloc))
     }
 
     /// Returns the number of smaller messages that lost fields since this was last called.
@@ -208,7 +208,7 @@ where
         from: Option<V::Key>,
     ) -> Result<Option<Part>, AllocError> {
         let left = left_of(&self.held, from.as_ref());
-        let mut lacked = Tally::new(alloc);
+        let mut lacked = FilterTally::new(alloc);
         let RowPiece { row, next } = sift(
             alloc,
             &VersionFilter::Lacked(own),

@@ -29,6 +29,6 @@ pub use refused::{Refused, why_refused};
 pub use replicas::{Came, Replicas};
 pub use reports::WithheldSilence;
 pub use sifting::sift;
-pub use tally::{Tally, Withheld};
+pub use tally::{FilterTally, Withheld};
 pub use told::{Telling, ToldRows};
 pub use version_filter::VersionFilter;

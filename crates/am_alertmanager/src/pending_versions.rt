@@ -5,7 +5,7 @@ ghost use Rattle.am_alertmanager.specs.PendingVersions.{HasNothingNew, IsSilent,
 
 use crate::candidate::Candidate;
 use crate::sifting::sift;
-use crate::tally::{Tally, Withheld};
+use crate::tally::{FilterTally, Withheld};
 use crate::version_filter::VersionFilter;
 use am_gossip::{Part, StateKey};
 use am_memberlist::{part_encoding, told_encoding};
@@ -45,7 +45,7 @@ fn message_of<V: Candidate>(
     key: StateKey,
     held: &Held<V>,
     now: Moment,
-    tally: &mut Tally<V::Key>,
+    tally: &mut FilterTally<V::Key>,
 ) -> Result<Option<Vec<u8>>, AllocError>
 where
     V::Key: Drop,
@@ -117,12 +117,12 @@ impl PendingVersions {
     }
 
     /// Counts what the replica lacked of the silences, and keeps what is withheld from it until that is reported.
-    pub(crate) fn count(&mut self, tally: Tally<Text>) -> Result<(), AllocError>
+    pub(crate) fn count(&mut self, tally: FilterTally<Text>) -> Result<(), AllocError>
         ensures counted { self.old.lacked + tally.passed < 2 ^ 64 → self.new.lacked ≡ self.old.lacked + tally.passed }
         ensures kept { OnOk result (self.new.withheld.items ≡ self.old.withheld.items ++ tally.withheld.items) }
         ensures unkept { OnErr result (self.new.withheld.items ≡ self.old.withheld.items) }
     {
-        let Tally { passed, withheld } = tally;
+        let FilterTally { passed, withheld } = tally;
         self.lack(passed);
         self.withhold(withheld)
     }
@@ -243,7 +243,7 @@ impl PendingVersions {
             return Ok(Some(message_with(alloc, key, &row)?));
         }
         let silences = mem::replace(&mut self.silences, Held::new(alloc));
-        let mut tally = Tally::new(alloc);
+        let mut tally = FilterTally::new(alloc);
         let message = message_of(alloc, StateKey::Sil, &silences, now, &mut tally)?;
         self.withhold(tally.withheld)?;
         if message.is_some() {
@@ -251,7 +251,7 @@ impl PendingVersions {
         }
         let entries = mem::replace(&mut self.entries, Held::new(alloc));
         self.waiting = 0;
-        let mut tally = Tally::new(alloc);
+        let mut tally = FilterTally::new(alloc);
         message_of(alloc, StateKey::Nfl, &entries, now, &mut tally)
     }
 }

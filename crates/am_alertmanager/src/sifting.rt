@@ -4,7 +4,7 @@ ghost use Rattle.std.specs.Prelude.{◌≡◌, IfOk, OnErr};
 ghost use Rattle.am_alertmanager.specs.VersionFilters.{IsSifted, IsTallied, Passes, Withholds};
 
 use crate::candidate::Candidate;
-use crate::tally::Tally;
+use crate::tally::FilterTally;
 use crate::version_filter::VersionFilter;
 use am_merge::Iter;
 use am_snapshot::RowPiece;
@@ -26,7 +26,7 @@ pub fn sift<V: Candidate>(
     versions: Iter<'_, V>,
     count: usize,
     most: usize,
-    tally: &mut Tally<V::Key>,
+    tally: &mut FilterTally<V::Key>,
 ) -> Result<RowPiece<V::Key>, AllocError>
 where
     V::Key: Drop,

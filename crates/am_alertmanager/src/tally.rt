@@ -17,18 +17,18 @@ pub struct Withheld<K> {
 
 /// The tally of versions at a filter: the number of those that passed, and those that were withheld.
 #[derive(Drop)]
-pub struct Tally<K> {
+pub struct FilterTally<K> {
     pub passed: u64,
     pub withheld: Vec<Withheld<K>>,
 }
 
-impl<K: Drop> Tally<K> {
+impl<K: Drop> FilterTally<K> {
     /// Returns the tally before any version came.
-    pub fn new(alloc: Global) -> Tally<K>
+    pub fn new(alloc: Global) -> FilterTally<K>
         ensures passed { result.passed ≡ 0 }
         ensures withheld { result.withheld.items ≡ [] }
     {
-        Tally {
+        FilterTally {
             passed: 0,
             withheld: Vec::new(alloc),
         }

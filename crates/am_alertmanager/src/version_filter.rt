@@ -6,7 +6,7 @@ ghost use Rattle.am_alertmanager.specs.VersionFilters.{IsHanded, Passes, Withhol
 use crate::candidate::Candidate;
 use crate::given::is_given;
 use crate::mending::is_lacked;
-use crate::tally::{Tally, Withheld};
+use crate::tally::{FilterTally, Withheld};
 use am_merge::Held;
 use am_version_order::{Moment, Version};
 use std::alloc::{AllocError, Global};
@@ -34,7 +34,7 @@ where
         &self,
         alloc: Global,
         version: &V,
-        tally: &mut Tally<V::Key>,
+        tally: &mut FilterTally<V::Key>,
     ) -> Result<bool, AllocError>
         ensures passes { IfOk result (Passes V.seen V.Key.cmp V.is_hazard self.now version.now) }
         // PROMISE: A version that isn't handed to a replica for its hazard is noted with it, and no other one.
@@ -56,7 +56,7 @@ fn is_handed<V: Candidate>(
     held: &Held<V>,
     version: &V,
     now: Moment,
-    tally: &mut Tally<V::Key>,
+    tally: &mut FilterTally<V::Key>,
 ) -> Result<bool, AllocError>
 where
     V::Key: Drop,

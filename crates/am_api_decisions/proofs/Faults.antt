@@ -1,4 +1,4 @@
--- What is at fault first: a word of the query, or the body.
+-- The first fault: a word of the query, or the body.
 use Rattle.std.proofs.Common.{List, ℕ}
 use Rattle.am_api_decisions.specs.ParsedCalls.{IsQuestionFault}
 use Rattle.am_api_decisions.specs.Bodies.{IsMessageFault}

@@ -1,4 +1,4 @@
--- What asking alerts and deciding leave as it was.
+-- Asking alerts and deciding leave the instance as it was.
 use Rattle.std.proofs.Common.{◌≡◌, ℕ, zero, suc, Bool, true, false, inl, inr, List, [], ◌∷◌, ◌++◌, map, take, Ok, Err, Result, refl, sym, ap, subst, ◌∙◌}
 use Rattle.am_http.specs.Lines.{RefusalLine}
 use Rattle.am_instance.specs.Deliveries.{Delivery, events_at, to_log, to_silences}

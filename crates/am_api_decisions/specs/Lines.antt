@@ -10,8 +10,8 @@ use Rattle.am_api_decisions.specs.declared.cause.DecisionCause.{DecisionCause}
 use Rattle.am_api_decisions.specs.declared.cause.DecisionCause.TheVariants.{NoSuchPath, MethodNotAllowed, BadQuery, BadJson, BadMessage, Truncated, Memory}
 use Rattle.am_api_decisions.specs.declared.cause.DecisionResource.{DecisionResource}
 use Rattle.am_api_decisions.specs.declared.cause.DecisionResource.TheVariants.{Decisions, Notices, Entries, Alerts}
-use Rattle.am_api_decisions.specs.declared.cause.Word.{Word}
-use Rattle.am_api_decisions.specs.declared.cause.Word.TheVariants.{Repeat, Resolved, Wait, Index}
+use Rattle.am_api_decisions.specs.declared.cause.QueryWord.{QueryWord}
+use Rattle.am_api_decisions.specs.declared.cause.QueryWord.TheVariants.{Repeat, Resolved, Wait, Index}
 
 -- the method of a resource
 abbrev pub allowed_at : DecisionResource → List ℕ
@@ -21,7 +21,7 @@ allowed_at Entries = codes "GET"
 allowed_at Alerts = codes "GET"
 
 -- the text for a word of the query
-abbrev pub bad_word : Word → List ℕ
+abbrev pub bad_word : QueryWord → List ℕ
 bad_word Repeat = codes "bad query: repeat"
 bad_word Resolved = codes "bad query: resolved"
 bad_word Wait = codes "bad query: wait"

@@ -3,8 +3,8 @@ use Rattle.std.specs.Prelude.{◌≡◌, ◌≢◌, ℕ, Bool, List, codes, Opti
 use Rattle.am_api_decisions.specs.Words.{word_in, number_or, truth_or, text_or}
 use Rattle.am_api_decisions.specs.declared.cause.DecisionCause.{DecisionCause}
 use Rattle.am_api_decisions.specs.declared.cause.DecisionCause.TheVariants.{BadQuery, Memory}
-use Rattle.am_api_decisions.specs.declared.cause.Word.{Word}
-use Rattle.am_api_decisions.specs.declared.cause.Word.TheVariants.{Repeat, Resolved, Wait, Index}
+use Rattle.am_api_decisions.specs.declared.cause.QueryWord.{QueryWord}
+use Rattle.am_api_decisions.specs.declared.cause.QueryWord.TheVariants.{Repeat, Resolved, Wait, Index}
 use Rattle.am_api_decisions.specs.declared.terms.Terms.{Terms}
 
 -- the number of seconds after which a notification is repeated: four hours if it is left out, and at least one second, and fewer
@@ -41,14 +41,14 @@ abbrev pub HasTerms : List ℕ → Type 0
 HasTerms query = (terms : Terms) × IsTerms query terms
 
 -- The word is the first one that is at fault.
-abbrev pub IsFirstBad : List ℕ → Word → Type 0
+abbrev pub IsFirstBad : List ℕ → QueryWord → Type 0
 IsFirstBad query Repeat = repeat_in query ≡ None
 IsFirstBad query Resolved = (repeat_in query ≢ None) × (resolved_in query ≡ None)
 IsFirstBad query Wait = (repeat_in query ≢ None) × (resolved_in query ≢ None) × (wait_in query ≡ None)
 IsFirstBad query Index = (repeat_in query ≢ None) × (resolved_in query ≢ None) × (wait_in query ≢ None) × (index_in query ≡ None)
 
 -- A word is refused for this cause: its value isn't valid, or memory ran out.
-abbrev pub IsWordFault : Type 0 → Word → DecisionCause → Type 0
+abbrev pub IsWordFault : Type 0 → QueryWord → DecisionCause → Type 0
 IsWordFault IsBad word (BadQuery named) = (named ≡ word) × IsBad
 IsWordFault IsBad word Memory = ⊤
 IsWordFault IsBad word _ = ⊥

@@ -69,13 +69,13 @@ impl Why {
 
 /// The reply to a question.
 #[derive(Drop)]
-pub struct Verdict {
+pub struct ReasonedReply {
     pub reply: ResponseBytes,
     /// The reason that the reply gives, or `None` if it says why nothing is decided.
     pub why: Option<Why>,
 }
 
-impl Verdict {
+impl ReasonedReply {
     /// Returns whether the group is to be notified. A refusal decides nothing.
     pub fn is_notified(&self) -> bool
         ensures { MatchOption self.now.why (result ≡ false) (λ why. result ≡ is_notified why) }
@@ -87,22 +87,22 @@ impl Verdict {
     }
 
     /// Returns the one whose reply says that there is no memory for another.
-    pub(crate) fn short() -> Verdict
+    pub(crate) fn short() -> ReasonedReply
         ensures short { IsNoMemory result.reply }
         ensures reason { GivesReason result.why result.reply }
     {
-        Verdict {
+        ReasonedReply {
             reply: short(),
             why: None,
         }
     }
 
     /// Returns the one whose reply is a refusal.
-    pub(crate) fn refusal(alloc: Global, line: &Refusal) -> Verdict
+    pub(crate) fn refusal(alloc: Global, line: &Refusal) -> ReasonedReply
         ensures line { Says (λ bytes. bytes ≡ line_bytes (line_seen line.now)) result.reply }
         ensures reason { GivesReason result.why result.reply }
     {
-        Verdict {
+        ReasonedReply {
             reply: tell(alloc, line),
             why: None,
         }

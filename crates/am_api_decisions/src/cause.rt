@@ -22,7 +22,7 @@ pub enum DecisionResource {
 
 /// A word of the query that may be at fault.
 #[derive(Clone, Copy)]
-pub enum Word {
+pub enum QueryWord {
     Repeat,
     Resolved,
     Wait,
@@ -37,7 +37,7 @@ pub enum DecisionCause {
     /// The resource has no such method.
     MethodNotAllowed(DecisionResource),
     /// The value of this word of the query isn't valid.
-    BadQuery(Word),
+    BadQuery(QueryWord),
     /// The body is no JSON object.
     BadJson,
     /// The message in the body lacks this key, or has a wrong value for it.
@@ -63,14 +63,14 @@ impl DecisionResource {
 }
 
 /// Returns the text for a word whose value isn't valid.
-const fn bad_word(word: Word) -> &'static str
+const fn bad_word(word: QueryWord) -> &'static str
     ensures { result.now ≡ bad_word word }
 {
     match word {
-        Word::Repeat => "bad query: repeat",
-        Word::Resolved => "bad query: resolved",
-        Word::Wait => "bad query: wait",
-        Word::Index => "bad query: index",
+        QueryWord::Repeat => "bad query: repeat",
+        QueryWord::Resolved => "bad query: resolved",
+        QueryWord::Wait => "bad query: wait",
+        QueryWord::Index => "bad query: index",
     }
 }
 

@@ -7,13 +7,13 @@ ghost use Rattle.am_api_decisions.specs.Deciding.{IsGoingOn, underway_of};
 ghost use Rattle.am_api_decisions.specs.Settling.{GivesReason, IsBrokenOff, IsDecided};
 
 use crate::alerts::ask;
-use crate::answer::Verdict;
+use crate::answer::ReasonedReply;
 use crate::group::Group;
 use crate::message::Alert;
 use crate::parsed_call::Question;
 use crate::settling::{JudgedGroup, Judgement, settle};
 use crate::table;
-use crate::tally::Tally;
+use crate::tally::AlertTally;
 use crate::timing::Timing;
 use am_http::Refusal;
 use am_instance::Instance;
@@ -28,7 +28,7 @@ use std::vec::IntoIter;
 pub struct Deciding {
     group: Group,
     left: IntoIter<Alert>,
-    tally: Tally,
+    tally: AlertTally,
     /// The number of bytes of the longest value of a label in all alerts.
     longest: usize,
 }
@@ -50,7 +50,7 @@ fn ask_one(
     alloc: Global,
     instance: &mut Instance,
     alert: Alert,
-    tally: &mut Tally,
+    tally: &mut AlertTally,
     now: Moment,
 ) -> Result<(), Refusal>
     ensures asked { OnOk result ((ids : List (List ℕ)) × IsMutesStep now alert.labels ids instance.old instance.new
@@ -79,7 +79,7 @@ impl Deciding {
         Deciding {
             group,
             left: message.alerts.into_iter(),
-            tally: Tally::new(alloc),
+            tally: AlertTally::new(alloc),
             longest,
         }
     }
@@ -136,7 +136,7 @@ impl Deciding {
     /// Decides whether to notify, and returns the reply. The alerts that are left are asked, as by
     /// [`Deciding::resume`], and then one step decides over those that no silence mutes, all at the moment of the timing. If every
     /// alert is muted, no step is made. The reply gives that moment, to the millisecond, and the length of the turns.
-    pub fn decide(self, alloc: Global, instance: &mut Instance, timing: Timing) -> Verdict
+    pub fn decide(self, alloc: Global, instance: &mut Instance, timing: Timing) -> ReasonedReply
         // PROMISE: The decision is over all alerts that no silence mutes, and its reply is the text of that answer.
         ensures decided { IsDecided timing self instance.old result.reply instance.new }
         // PROMISE: The reason that is handed on for counting is the one that the reply tells.
@@ -159,14 +159,14 @@ impl Deciding {
                 };
                 settle(alloc, instance, whole, timing)
             }
-            Err(refusal) => Verdict::refusal(alloc, &refusal),
+            Err(refusal) => ReasonedReply::refusal(alloc, &refusal),
         }
     }
 
     /// Decides whether to notify without asking the alerts that are left, and returns the reply: those alerts count
     /// as if no silence muted them. One step decides over these and those that no silence mutes; if the group is to be notified,
     /// the reply says that it isn't judged.
-    pub fn break_off(self, alloc: Global, instance: &mut Instance, timing: Timing) -> Verdict
+    pub fn break_off(self, alloc: Global, instance: &mut Instance, timing: Timing) -> ReasonedReply
         // PROMISE: A decision that is broken off leaves out no alert that wasn't asked, and says so.
         ensures decided { IsBrokenOff timing self instance.old result.reply instance.new }
         ensures reason { GivesReason result.why result.reply }
@@ -187,7 +187,7 @@ impl Deciding {
                 };
                 settle(alloc, instance, partial, timing)
             }
-            Err(_) => Verdict::short(),
+            Err(_) => ReasonedReply::short(),
         }
     }
 }

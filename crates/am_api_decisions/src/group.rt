@@ -3,7 +3,7 @@
 ghost use Rattle.std.specs.Prelude.{◌≡◌, IfOk};
 ghost use Rattle.am_api_decisions.specs.Settling.{decide_event, receiver_of};
 
-use crate::tally::Tally;
+use crate::tally::AlertTally;
 use crate::terms::Terms;
 use am_instance::Event;
 use am_nflog::{Hashes, Receiver};
@@ -35,7 +35,7 @@ impl Group {
     /// # Errors
     ///
     /// [`AllocError`] if memory runs out.
-    pub fn event(&self, alloc: Global, tally: &Tally) -> Result<Event, AllocError>
+    pub fn event(&self, alloc: Global, tally: &AlertTally) -> Result<Event, AllocError>
         ensures { IfOk result (λ event. event ≡ decide_event self.now tally.now) }
     {
         Ok(Event::Decide {

@@ -36,8 +36,8 @@ mod writing;
 mod xxhash;
 
 pub use alert::alert_hash;
-pub use answer::{DecisionReply, Muted, Verdict, Why};
-pub use cause::{DecisionCause, DecisionResource, Word};
+pub use answer::{DecisionReply, Muted, ReasonedReply, Why};
+pub use cause::{DecisionCause, DecisionResource, QueryWord};
 pub use deciding::Deciding;
 pub use entries::{LogWriting, begin_log};
 pub use error::MessageError;

@@ -7,12 +7,12 @@ ghost use Rattle.am_api_silences.specs.Replies.{Says, good_bytes};
 ghost use Rattle.am_api_decisions.specs.Settling.{GivesReason, IsAnswerBytes, IsAnswerOf, IsDecidedByStep, IsSettled, why_of};
 ghost use Rattle.am_api_decisions.specs.Settling.{IsDecisionBytes};
 
-use crate::answer::{DecisionReply, Verdict, Why};
+use crate::answer::{DecisionReply, ReasonedReply, Why};
 use crate::group::Group;
 use crate::replies::good;
 use crate::reply_bytes::write_answer;
 use crate::table;
-use crate::tally::Tally;
+use crate::tally::AlertTally;
 use crate::terms::Terms;
 use crate::timing::Timing;
 use am_api_silences::ResponseBytes;
@@ -35,7 +35,7 @@ pub enum Judgement {
 #[derive(Drop)]
 pub struct JudgedGroup {
     pub group: Group,
-    pub tally: Tally,
+    pub tally: AlertTally,
     pub judgement: Judgement,
 }
 
@@ -51,10 +51,10 @@ fn why_of(judgement: Judgement, decision: Decision) -> Why
 }
 
 /// Returns the answer that says what is decided of a group, and why.
-fn answer_of(timing: Timing, group: Group, tally: Tally, why: Why) -> DecisionReply
+fn answer_of(timing: Timing, group: Group, tally: AlertTally, why: Why) -> DecisionReply
     ensures { IsAnswerOf timing group tally why result }
 {
-    let Tally {
+    let AlertTally {
         firing,
         resolved,
         muted,
@@ -97,22 +97,28 @@ fn answered(alloc: Global, answer: &DecisionReply) -> Result<Vec<u8>, AllocError
 }
 
 /// Returns the reply that says what is decided of a group, and why.
-fn told_of(alloc: Global, timing: Timing, group: Group, tally: Tally, why: Why) -> Verdict
+fn told_of(
+    alloc: Global,
+    timing: Timing,
+    group: Group,
+    tally: AlertTally,
+    why: Why,
+) -> ReasonedReply
     ensures says { Says (IsAnswerBytes timing group tally why) result.reply }
     ensures reason { GivesReason result.why result.reply }
 {
     let answer = answer_of(timing, group, tally, why);
     match answered(alloc, &answer) {
-        Ok(bytes) => Verdict {
+        Ok(bytes) => ReasonedReply {
             reply: ResponseBytes::Own(bytes),
             why: Some(why),
         },
-        Err(_) => Verdict::short(),
+        Err(_) => ReasonedReply::short(),
     }
 }
 
 /// Returns the reply that says what a step decided of a group.
-fn told_by(alloc: Global, judged: JudgedGroup, timing: Timing, reply: Reply) -> Verdict
+fn told_by(alloc: Global, judged: JudgedGroup, timing: Timing, reply: Reply) -> ReasonedReply
     ensures says { Says (IsDecisionBytes judged.judgement timing judged.group judged.tally reply) result.reply }
     ensures reason { GivesReason result.why result.reply }
 {
@@ -126,7 +132,7 @@ fn told_by(alloc: Global, judged: JudgedGroup, timing: Timing, reply: Reply) -> 
             let why = why_of(judgement, decision);
             told_of(alloc, timing, group, tally, why)
         }
-        _ => Verdict::short(),
+        _ => ReasonedReply::short(),
     }
 }
 
@@ -136,16 +142,16 @@ fn decide_by_step(
     instance: &mut Instance,
     judged: JudgedGroup,
     timing: Timing,
-) -> Verdict
+) -> ReasonedReply
     ensures decided { IsDecidedByStep judged.judgement timing judged.group judged.tally instance.old result.reply instance.new }
     ensures reason { GivesReason result.why result.reply }
 {
     let Ok(event) = judged.group.event(alloc, &judged.tally) else {
-        return Verdict::short();
+        return ReasonedReply::short();
     };
     match instance.step(event, timing.now) {
         Ok(outcome) => told_by(alloc, judged, timing, outcome.reply),
-        Err(error) => Verdict::refusal(alloc, &table::refused(error)),
+        Err(error) => ReasonedReply::refusal(alloc, &table::refused(error)),
     }
 }
 
@@ -155,7 +161,7 @@ pub fn settle(
     instance: &mut Instance,
     judged: JudgedGroup,
     timing: Timing,
-) -> Verdict
+) -> ReasonedReply
     ensures settled { IsSettled judged.judgement timing judged.group judged.tally instance.old result.reply instance.new }
     ensures reason { GivesReason result.why result.reply }
 {

@@ -20,13 +20,13 @@ const MOST_NAMED: usize = 16;
 
 /// The tally of alerts: the hashes of those that no silence mutes, by whether they fire, and those that are muted.
 #[derive(Drop)]
-pub struct Tally {
+pub struct AlertTally {
     pub firing: Vec<u64>,
     pub resolved: Vec<u64>,
     pub muted: Vec<Muted>,
 }
 
-impl Model for Tally {
+impl Model for AlertTally {
     ghost use Rattle.std.specs.Prelude.{map};
     ghost use Rattle.am_api_decisions.specs.Asking.{Counted, silenced_in};
 
@@ -64,12 +64,12 @@ fn unnamed(ids: &[Text]) -> u64
     ids.len().saturating_sub(MOST_NAMED) as u64
 }
 
-impl Tally {
+impl AlertTally {
     /// Returns an empty tally. Takes no memory.
-    pub fn new(alloc: Global) -> Tally
+    pub fn new(alloc: Global) -> AlertTally
         ensures { result ≡ nothing_counted }
     {
-        Tally {
+        AlertTally {
             firing: Vec::new(alloc),
             resolved: Vec::new(alloc),
             muted: Vec::new(alloc),

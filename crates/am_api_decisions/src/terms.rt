@@ -4,9 +4,9 @@ ghost use Rattle.std.specs.Prelude.{◌≡◌, Some, None, IfOk, IfErr, codes};
 ghost use Rattle.am_api_decisions.specs.Words.{truth_or, word_in};
 ghost use Rattle.am_api_decisions.specs.Terms.{IsTerms, IsTermsFault, IsWordFault, index_in, integration_in, repeat_in};
 ghost use Rattle.am_api_decisions.specs.declared.cause.DecisionCause.TheVariants as causes;
-ghost use Rattle.am_api_decisions.specs.declared.cause.Word.TheVariants as words;
+ghost use Rattle.am_api_decisions.specs.declared.cause.QueryWord.TheVariants as words;
 
-use crate::cause::{DecisionCause, Word};
+use crate::cause::{DecisionCause, QueryWord};
 use crate::repeat::Repeat;
 use crate::words::{number_or, text_or, truth_or, word_in};
 use am_wire::Text;
@@ -37,12 +37,12 @@ fn repeat_in(alloc: Global, query: &str) -> Result<Repeat, DecisionCause>
     };
     match number_or(14_400, 1, 9_223_372_036, word) {
         Some(seconds) => Ok(Repeat { seconds }),
-        None => Err(DecisionCause::BadQuery(Word::Repeat)),
+        None => Err(DecisionCause::BadQuery(QueryWord::Repeat)),
     }
 }
 
 /// Reads a word of a query that is a truth value.
-fn truth_in(alloc: Global, query: &str, name: &str, word: Word) -> Result<bool, DecisionCause>
+fn truth_in(alloc: Global, query: &str, name: &str, word: QueryWord) -> Result<bool, DecisionCause>
     ensures read { IfOk result (λ truth. truth_or (word_in name.now query.now) ≡ Some truth) }
     ensures refused { IfErr result (IsWordFault (truth_or (word_in name.now query.now) ≡ None) word) }
 {
@@ -79,7 +79,7 @@ fn index_in(alloc: Global, query: &str) -> Result<u32, DecisionCause>
     };
     match number_or(0, 0, 4_294_967_295, word) {
         Some(index) => Ok(index as u32),
-        None => Err(DecisionCause::BadQuery(Word::Index)),
+        None => Err(DecisionCause::BadQuery(QueryWord::Index)),
     }
 }
 
@@ -95,8 +95,8 @@ pub fn terms_in(alloc: Global, query: &str) -> Result<Terms, DecisionCause>
     ensures refused { IfErr result (IsTermsFault query.now) }
 {
     let repeat = repeat_in(alloc, query)?;
-    let send_resolved = truth_in(alloc, query, "resolved", Word::Resolved)?;
-    let waits = truth_in(alloc, query, "wait", Word::Wait)?;
+    let send_resolved = truth_in(alloc, query, "resolved", QueryWord::Resolved)?;
+    let waits = truth_in(alloc, query, "wait", QueryWord::Wait)?;
     let integration = integration_in(alloc, query)?;
     let index = index_in(alloc, query)?;
     Ok(Terms {

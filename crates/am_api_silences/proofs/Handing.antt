@@ -1,4 +1,4 @@
--- What is served, by what was read.
+-- The service of a request, by the bytes that were read.
 use Rattle.std.proofs.Common.{◌≡◌, ℕ, List, Option, None, Ok, sym, subst}
 use Rattle.am_http.specs.declared.request.Read.{Read}
 use Rattle.am_http.specs.declared.request.Read.TheVariants.{More, Whole, Refused}

@@ -1,4 +1,4 @@
--- What a making is finished with.
+-- The end of a reply in the making.
 use Rattle.std.proofs.Common.{◌≡◌, ℕ, List, [], sym, subst, ◌∙◌, ap}
 use Rattle.am_silence.specs.Mesh.{Mesh}
 use Rattle.am_silence.specs.declared.matcher.Matcher.{Matcher}

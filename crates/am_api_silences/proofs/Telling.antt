@@ -1,4 +1,4 @@
--- What is told in a reply.
+-- The text of a reply.
 use Rattle.std.proofs.Common.{◌≡◌, ℕ, List, Bor, sym, subst, ◌∙◌, ap}
 use Rattle.am_http.specs.Lines.{line_seen}
 use Rattle.am_http.specs.declared.refusal.Refusal.{Refusal}

@@ -2,12 +2,12 @@
 use Rattle.std.specs.Prelude.{ℕ, Bool, true, false, List, [], map, codes}
 use Rattle.serde_json.specs.Data.{Data, unsigned, number, string, array, object, member, no_members}
 use Rattle.serde_json.specs.View.{items_of}
-use Rattle.am_api_status.specs.declared.status.Peer.{Peer}
+use Rattle.am_api_status.specs.declared.status.ClusterPeer.{ClusterPeer}
 use Rattle.am_api_status.specs.declared.status.MemberStatus.{MemberStatus}
 use Rattle.am_api_status.specs.declared.status.Neighbor.{Neighbor}
 
 -- a member of the cluster: peerStatus
-abbrev pub peer_data : Peer → Data
+abbrev pub peer_data : ClusterPeer → Data
 peer_data peer = object (member (codes "address") (string peer.address) (member (codes "name") (string peer.name) no_members))
 
 -- an Alertmanager beside the member: where it is asked, what it lacked when it was last heard, and how often silences weren't

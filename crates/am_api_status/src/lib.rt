@@ -8,4 +8,4 @@ mod status;
 
 pub use replies::{metrics_reply, not_ready, page_reply, receivers_reply, well_reply};
 pub use routes::{StatusCall, StatusResource, call_of, resource_of};
-pub use status::{MemberStatus, Neighbor, Peer, status_reply};
+pub use status::{ClusterPeer, MemberStatus, Neighbor, status_reply};

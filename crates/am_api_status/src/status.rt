@@ -21,7 +21,7 @@ use std::alloc::{AllocError, Global};
 
 /// A member of a cluster, as it is shown.
 #[derive(Drop)]
-pub struct Peer {
+pub struct ClusterPeer {
     pub name: Text,
     /// The address at which the member listens.
     pub address: Text,
@@ -49,7 +49,7 @@ pub struct MemberStatus {
     /// True if the member answers requests.
     pub is_ready: bool,
     /// All members, including this one.
-    pub peers: Vec<Peer>,
+    pub peers: Vec<ClusterPeer>,
     /// The Alertmanagers beside the member.
     pub alertmanagers: Vec<Neighbor>,
     /// The options that the member was started with.
@@ -61,7 +61,7 @@ pub struct MemberStatus {
 }
 
 /// Adds a member of the cluster.
-fn add_peer(out: &mut Writer, peer: &Peer) -> Result<(), AllocError>
+fn add_peer(out: &mut Writer, peer: &ClusterPeer) -> Result<(), AllocError>
     ensures { OnOk result (Adds out.old out.new (data_tokens (peer_data peer.now))) }
 {
     add(out, Token::BeginObject)?;
@@ -72,7 +72,7 @@ fn add_peer(out: &mut Writer, peer: &Peer) -> Result<(), AllocError>
 }
 
 /// Adds members of the cluster, without brackets.
-fn add_each_peer(out: &mut Writer, peers: &[Peer]) -> Result<(), AllocError>
+fn add_each_peer(out: &mut Writer, peers: &[ClusterPeer]) -> Result<(), AllocError>
     ensures { OnOk result (Adds out.old out.new (row_tokens (map peer_data peers.now))) }
 {
     for peer in peers {
@@ -82,7 +82,7 @@ fn add_each_peer(out: &mut Writer, peers: &[Peer]) -> Result<(), AllocError>
 }
 
 /// Adds the list of the members of the cluster.
-fn add_peers(out: &mut Writer, peers: &[Peer]) -> Result<(), AllocError>
+fn add_peers(out: &mut Writer, peers: &[ClusterPeer]) -> Result<(), AllocError>
     ensures { OnOk result (Adds out.old out.new
         (key (codes "peers") ∷ data_tokens (array (items_of (map peer_data peers.now))))) }
 {

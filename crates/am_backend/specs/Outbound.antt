@@ -36,11 +36,11 @@ to_peers disk sent = record sent { frames = for_peers disk sent.frames }
 abbrev pub left_out : ℕ → Sent → Sent
 left_out count sent = record sent { memory = capped (sent.memory + count) }
 
--- What is sent to peers waits behind what waited before, in order; or memory ran out, and just those frames are counted.
+-- The frames that are sent to peers wait behind those that waited, in order; or memory ran out, and just they are counted.
 abbrev pub IsQueued : Option ℕ → Sent → Sent → Sent → Type 0
 IsQueued disk sent old new = Gathers (to_peers disk sent) old new
 
--- What a step that was made sends to peers is queued, and one that was refused sends nothing.
+-- The frames that a step sends to peers are queued, and a step that was refused sends none.
 abbrev pub IsSentOn : Option ℕ → Result Outcome StepError → Sent → Sent → Type 0
 IsSentOn disk (Ok outcome) old new = IsQueued disk (sent_by outcome) old new
 IsSentOn disk (Err error) old new = new ≡ old

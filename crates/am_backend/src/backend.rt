@@ -20,7 +20,7 @@ use am_instance::{Config, Event, FrameSender, Instance, Place};
 use am_metrics::{Metrics, StepLabel};
 use am_options::{Options, Process};
 use am_peer_auth::Sequence;
-use am_peers::{ConnectionFault, Parted, split_by_peer};
+use am_peers::{ConnectionFault, SplitQueue, split_by_peer};
 use am_reactor::LinkFault;
 use am_version_order::Moment;
 use std::fs::File;
@@ -412,7 +412,7 @@ impl<R: AllocGlobal + Clock + Eprint + Files<File = File>> Backend for SystemBac
         let alloc = self.rt.alloc();
         let frames = mem::replace(&mut self.queue, Vec::new(alloc));
         let count = frames.len();
-        let Ok(Parted { own, others }) = split_by_peer(alloc, place, frames) else {
+        let Ok(SplitQueue { own, others }) = split_by_peer(alloc, place, frames) else {
             self.tell_left_out(config, None, count);
             return None;
         };

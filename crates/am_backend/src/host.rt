@@ -7,7 +7,14 @@ use std::random::RandomSource;
 use std::rt::{Clock, Files};
 
 /// The parts of a runtime that a member uses. Its files are those of the system, since they are locked.
-pub trait Host: AllocGlobal + Clock + Eprint + Files<File = File> + Input + Net + RandomSource {}
+pub trait MemberRuntime: AllocGlobal
+    + Clock
+    + Eprint
+    + Files<File = File>
+    + Input
+    + Net
+    + RandomSource {}
 
-impl<R: AllocGlobal + Clock + Eprint + Files<File = File> + Input + Net + RandomSource> Host
-    for R {}
+impl<
+    R: AllocGlobal + Clock + Eprint + Files<File = File> + Input + Net + RandomSource,
+> MemberRuntime for R {}

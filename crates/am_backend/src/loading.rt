@@ -9,10 +9,10 @@ ghost use Rattle.am_backend.specs.Stores.{store_of};
 use crate::commit_state::{CommitState, DISK};
 use crate::compaction::Compacting;
 use crate::counting::since_1970;
-use crate::host::Host;
-use crate::room::Room;
+use crate::host::MemberRuntime;
+use crate::room::FileRoom;
 use crate::system_backend::SystemBackend;
-use am_diagnostics::{Advance, DiagnosticPrinter, Fault, Watch};
+use am_diagnostics::{Advance, ClockWatch, DiagnosticPrinter, Fault};
 use am_instance::{Config, ConfigError, Instance};
 use am_metrics::Metrics;
 use am_nflog::MeshEntry;
@@ -146,7 +146,7 @@ fn loaded_of(
 /// # Errors
 ///
 /// The [`Fault`] of its file.
-pub fn secret_of<R: Host>(rt: &R, options: &Options<'_>) -> Result<Option<Secret>, Fault> {
+pub fn secret_of<R: MemberRuntime>(rt: &R, options: &Options<'_>) -> Result<Option<Secret>, Fault> {
     let Some(path) = options.secret else {
         return Ok(None);
     };
@@ -193,10 +193,10 @@ fn backend_of<'a, R: AllocGlobal + Clock>(
         silences,
         log,
     } = loaded;
-    let silences_room = Room::of(instance.silences(), options.most_bytes);
-    let log_room = Room::of(instance.log(), options.most_bytes);
+    let silences_room = FileRoom::of(instance.silences(), options.most_bytes);
+    let log_room = FileRoom::of(instance.log(), options.most_bytes);
     let commit_state = CommitState::new(instance.config().place_named(DISK));
-    let is_changed = silences.owes_save() || log.owes_save();
+    let is_changed = silences.needs_save() || log.needs_save();
     let backend = SystemBackend {
         rt,
         options,
@@ -209,7 +209,7 @@ fn backend_of<'a, R: AllocGlobal + Clock>(
         compacting: Compacting::new(),
         queue: Vec::new(rt.alloc()),
         lines,
-        watch: Watch::new(),
+        watch: ClockWatch::new(),
         advance: Advance::begin(rt, Duration::from_secs(options.retention_seconds)),
         figures,
         is_changed,
@@ -217,7 +217,7 @@ fn backend_of<'a, R: AllocGlobal + Clock>(
     (instance, backend)
 }
 
-impl<'a, R: Host> SystemBackend<'a, R> {
+impl<'a, R: MemberRuntime> SystemBackend<'a, R> {
     /// Loads the instance from its files, and returns it with its backend.
     ///
     /// # Errors

@@ -11,7 +11,7 @@ const COUNT_EVERY: u64 = 1_000;
 
 /// The most bytes that the row of a state may have, and the most that it can have now.
 #[derive(Clone, Copy)]
-pub struct Room {
+pub struct FileRoom {
     most: u32,
     /// The number of bytes that the row had when it was last counted.
     counted: u64,
@@ -21,10 +21,10 @@ pub struct Room {
     next_count: Option<Instant>,
 }
 
-impl Room {
+impl FileRoom {
     /// Returns the room of a state that holds these versions, whose row may have at most `most` bytes.
-    pub fn of<V: Version>(held: &Held<V>, most: u32) -> Room {
-        let mut room = Room {
+    pub fn of<V: Version>(held: &Held<V>, most: u32) -> FileRoom {
+        let mut room = FileRoom {
             most,
             counted: 0,
             come: 0,

@@ -11,8 +11,8 @@ ghost use Rattle.am_backend.specs.Stores.{IsFollowed, store_of};
 use crate::commit_state::CommitState;
 use crate::compaction::Compacting;
 use crate::counting::count_unsent;
-use crate::room::Room;
-use am_diagnostics::{Advance, Diagnostic, DiagnosticPrinter, Fault, Watch};
+use crate::room::FileRoom;
+use am_diagnostics::{Advance, ClockWatch, Diagnostic, DiagnosticPrinter, Fault};
 use am_gossip::Frame;
 use am_instance::{Config, Event, FrameSender, Instance, Place, Unsent};
 use am_metrics::Metrics;
@@ -35,9 +35,9 @@ pub struct SystemBackend<'a, R> {
     /// The file of the notification log.
     pub(crate) log: StateFile,
     /// The room that is left for silences.
-    pub(crate) silences_room: Room,
+    pub(crate) silences_room: FileRoom,
     /// The room that is left for entries of the log.
-    pub(crate) log_room: Room,
+    pub(crate) log_room: FileRoom,
     /// The state of what is to be in the logs, if they are kept.
     pub(crate) commit_state: CommitState,
     /// The files that are written anew while the member serves.
@@ -46,7 +46,7 @@ pub struct SystemBackend<'a, R> {
     pub(crate) queue: Vec<(Place, Frame)>,
     /// The lines of faults that the member printed.
     pub(crate) lines: DiagnosticPrinter,
-    pub(crate) watch: Watch,
+    pub(crate) watch: ClockWatch,
     /// The watch on how far the clock went, compared with the time that has passed.
     pub(crate) advance: Advance,
     /// The figures that the member counts.

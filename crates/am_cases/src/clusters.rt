@@ -5,7 +5,7 @@ use crate::members::{name_at, print_held, say_config, times};
 use am_cluster::carried::{AnyVersion, SplitVersions, versions_in_frame};
 use am_cluster::{Cluster, ClusterError, SettleError};
 use am_instance::ConfigError;
-use am_part_cases::common::{Brittle, Call, Case, CaseFault, Cut, Pieces, cut};
+use am_part_cases::common::{Brittle, Case, CaseFault, Cut, Pieces, TriedCall, cut};
 use am_part_cases::{given, put, say};
 use am_replay::{LineRefusal, OutputLine, ReplayError, append_line, run};
 use am_schedule::Line;
@@ -110,7 +110,7 @@ fn say_members(case: &Case, cluster: &Cluster, number: u64) {
 #[derive(Clone, Copy)]
 struct Playing;
 
-impl Call for Playing {
+impl TriedCall for Playing {
     fn make(&self, case: &Case, reader: &mut Pieces<'_>, writer: &mut Brittle) -> Option<Cut> {
         match run(case.alloc, reader, writer) {
             Ok(()) => case.put("played"),

@@ -7,7 +7,7 @@ use am_api_silences::{ServeFault, Served, serve};
 use am_connection::{Ended, SendError, connection, send};
 use am_gossip::{Frame, FrameError};
 use am_instance::{Instance, StepError};
-use am_part_cases::common::{Brittle, Call, Case, CaseFault, Cut, How, Pieces, cut, phrase};
+use am_part_cases::common::{Brittle, Case, CaseFault, Cut, How, Pieces, TriedCall, cut, phrase};
 use am_part_cases::{given, put, say};
 use am_peers::ConnectionFault as Cause;
 use am_version_order::Moment;
@@ -105,7 +105,7 @@ fn fail_without_memory(case: &Case, seen: &Seen, reply: &[u8]) {
     }
 }
 
-impl Call for Coming<'_> {
+impl TriedCall for Coming<'_> {
     fn make(&self, case: &Case, reader: &mut Pieces<'_>, writer: &mut Brittle) -> Option<Cut> {
         let mut member = copied(case, self.instance)?;
         let seen = self.come(case, &mut member, reader, writer);
@@ -214,7 +214,7 @@ struct Sending<'a> {
     frames: &'a [Frame],
 }
 
-impl Call for Sending<'_> {
+impl TriedCall for Sending<'_> {
     fn make(&self, case: &Case, _reader: &mut Pieces<'_>, writer: &mut Brittle) -> Option<Cut> {
         match send(case.alloc, self.name, self.frames, writer) {
             Ok(count) => put!(case; count, " bytes"),

@@ -1,4 +1,4 @@
--- What is said of a reply, where a step was answered by one.
+-- A statement about a reply, from one about the step that it answers.
 use Rattle.std.proofs.Common.{◌≡◌, Result, Ok, Err, refl}
 use Rattle.std.specs.Prelude.{IfOk}
 use Rattle.am_instance.specs.declared.reply.Reply.{Reply}

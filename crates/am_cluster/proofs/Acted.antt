@@ -1,4 +1,4 @@
--- What is known of the step of an instance, for writing it down.
+-- The facts about an instance's step that recording it needs.
 use Rattle.am_wire.specs.declared.unknown.Unknown.TheVariants.{Drop}
 use Rattle.std.proofs.Common.{◌≡◌, ◌⊎◌, inl, inr, arith, ℕ, Bool, true, false, cond, eqb, ltb, List, [], Result, Ok, Err, refl, sym, subst, length, not, IfOk, ◌<◌, ◌∙◌}
 use Rattle.std.specs.Prelude.{All, Contains, IfSome, None, ◌≤◌}

@@ -1,4 +1,4 @@
--- What an answered step was.
+-- The step behind an answer.
 use Rattle.am_wire.specs.declared.unknown.Unknown.TheVariants.{Drop}
 use Rattle.std.proofs.Common.{◌≡◌, inl, inr, ◌∙◌, ◌<◌, ◌≤◌, ℕ, Bool, true, false, List, [], Some, None, Option, Result, Ok, Err, ap, refl, sym, subst, length}
 use Rattle.std.specs.Prelude.{option_and_then, if◌then◌else◌}

@@ -1,4 +1,4 @@
--- How many silences a step makes.
+-- The number of silences that a step makes.
 use Rattle.std.proofs.Common.{◌≡◌, ℕ, ◌≤◌, List, [], ◌∷◌, Bool, true, false, length, sym, subst, arith}
 use Rattle.std.specs.Prelude.{Option, Some, None}
 use Rattle.am_silence.specs.Mesh.{Mesh}

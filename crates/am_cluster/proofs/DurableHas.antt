@@ -1,4 +1,4 @@
--- What came live to a durable member it has, whatever it was started from.
+-- A durable member has whatever came to it live, whichever file it was started from.
 use Rattle.std.proofs.Common.{◌≡◌, inl, inr, ℕ, ◌+◌, ◌<◌, ◌≤◌, Bool, true, false, ◌||◌, cond, eqb, ltb, List, [], ◌∷◌, ◌++◌, Option, Some, None, refl, sym, ap, ◌∙◌, subst, arith, append_assoc, append-nil}
 use Rattle.std.specs.Prelude.{Contains, All, IfSome}
 use Rattle.std.specs.List.{list_any}

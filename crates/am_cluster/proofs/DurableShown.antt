@@ -1,4 +1,4 @@
--- What durable members show, and what of them is told of one run of a cluster.
+-- Durable members show what one run of a cluster tells of them.
 use Rattle.std.proofs.Common.{◌≡◌, ℕ, ◌<◌, Bool, true, false, List, [], Option, Some, None, append-nil, refl, sym, ◌∙◌, subst, length}
 use Rattle.std.specs.Prelude.{Contains}
 use Rattle.std.specs.declared.cmp.Ordering.{Ordering}

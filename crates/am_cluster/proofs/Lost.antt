@@ -1,4 +1,4 @@
--- What a search finds among frames in flight, and a cluster after one was lost.
+-- The search for a frame in flight, and a cluster after one was lost.
 use Rattle.std.proofs.Common.{◌≡◌, inl, inr, ℕ, ◌<◌, ◌≤◌, zero, suc, List, [], ◌∷◌, ◌++◌, Some, None, Result, Ok, Err, sym, ap, ◌∙◌, subst, slice_get, length, get_or, take, drop, arith}
 use Rattle.std.specs.Prelude.{Contains, MatchOption}
 use Rattle.std.specs.List.{AllByRecursion}

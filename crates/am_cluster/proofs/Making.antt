@@ -1,4 +1,4 @@
--- What a step makes is made now.
+-- The versions that a step makes are made now.
 use Rattle.std.proofs.Common.{◌≡◌, ℕ, List, [], ◌∷◌, ◌++◌, Bool, true, false, ap, refl, sym, subst, ◌∙◌}
 use Rattle.std.specs.Prelude.{Option, Some, None, if◌then◌else◌, map, All}
 use Rattle.std.proofs.lemmas.List.Elements.{All-nil, All-cons}

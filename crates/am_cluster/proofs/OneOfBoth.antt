@@ -1,4 +1,4 @@
--- What members show, as one of both runs tells it.
+-- Members show the same in the terms of either run.
 use Rattle.std.proofs.Common.{◌≡◌, ◌∙◌, ◌+◌, ◌<◌, ◌≤◌, ◌++◌, ◌∷◌, ℕ, List, ap, refl, sym, subst, length}
 use Rattle.std.specs.Prelude.{All, Some, true}
 use Rattle.am_merge.specs.Maps.{if_live}

@@ -1,4 +1,4 @@
--- What is known of an answer is what writing it down asks for.
+-- Answers have all that recording them asks for.
 use Rattle.am_wire.specs.declared.unknown.Unknown.TheVariants.{Drop}
 use Rattle.std.proofs.Common.{◌≡◌, ◌⊎◌, inl, inr, ℕ, Bool, true, false, cond, List, [], ◌∷◌, ◌++◌, Result, Ok, Err, append-nil, refl, sym, ap, ◌∙◌, subst, map, take}
 use Rattle.am_gossip.specs.declared.frame.Frame.{Frame}

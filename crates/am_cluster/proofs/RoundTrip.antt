@@ -1,4 +1,4 @@
--- What is written into a frame is read again.
+-- A frame that was written is read again.
 use Rattle.std.proofs.Common.{◌≡◌, ℕ, ◌≤◌, true, List, [], ◌∷◌, ◌++◌, length, map, ap, refl, sym, ◌∙◌, arith, append-nil, length-append}
 use Rattle.std.specs.Prelude.{None, Result, Ok, nat_le}
 use Rattle.std.specs.List.{All}

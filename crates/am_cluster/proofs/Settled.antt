@@ -1,4 +1,4 @@
--- What a settle leaves: the join of what all members held that was live, everywhere.
+-- After a settle, everybody holds the join of all that was held and live.
 use Rattle.am_wire.specs.declared.unknown.Unknown.TheVariants.{Drop}
 use Rattle.std.proofs.Common.{◌≡◌, ◌≢◌, ◌⊎◌, inl, inr, ℕ, zero, suc, ◌+◌, ◌-◌, ◌<◌, ◌≤◌, Bool, true, false, cond, eqb, List, [], ◌∷◌, ◌++◌, Option, Some, None, Result, Ok, Err, refl, sym, ap, ◌∙◌, subst, slice_get, length, map, set, arith, append-nil}
 use Rattle.std.specs.Prelude.{All, OnOk}

@@ -42,8 +42,8 @@ takings now vs = map (λ v. (Delivered v, now)) vs
 abbrev pub arrivals : {X : Type 0} → (Delivery → MapEvent X) → ℕ → List Delivery → Events X
 arrivals event_of now ds = map (λ d. (event_of d, now)) ds
 
--- What is told of a state: how its keys are ordered, what is its own of versions of both states, that versions of the other
--- one change nothing of its map, and what an instance has of it before a step and after it.
+-- The facts about a state: the order of its keys, its own among versions of both states, that versions of the other one change nothing
+-- of its map, and its map in an instance before a step and after it.
 pub record IsStateOf {K X : Type 0} (state : StateOf K X) : Type 0 where
   pub keys : IsKeyOrder state.cmp
   pub none : state.versions_in [] ≡ []

@@ -1,4 +1,4 @@
--- What came of what is asked of a member, and of a delivery, as a step's record tells it.
+-- The outcome of a request to a member, and of a delivery, in the terms of a step's record.
 use Rattle.std.proofs.Common.{◌≡◌, ◌⊎◌, inl, inr, ◌∙◌, ℕ, Option, None, Result, sym, subst}
 use Rattle.std.specs.Prelude.{MatchOption}
 use Rattle.am_instance.specs.declared.reply.Reply.{Reply}

@@ -1,4 +1,4 @@
--- What came of an event at a member, for the cluster.
+-- The outcome of an event at a member, in the terms of the cluster.
 use Rattle.am_wire.specs.declared.unknown.Unknown.TheVariants.{Drop}
 use Rattle.std.proofs.Common.{◌≡◌, inr, ℕ, ◌-◌, max, true, List, [], ◌∷◌, ◌++◌, Some, Result, sym, ap, ◌∙◌, subst, length, set}
 use Rattle.std.specs.Prelude.{All}

@@ -1,4 +1,4 @@
--- What is held of a key fits what was taken of it: it is the greatest, or the greatest was collected and nothing of the key is live.
+-- The held version of a key fits those that were taken: it is the greatest, or the greatest was collected and none of the key is live.
 use Rattle.std.proofs.Common.{◌≡◌, ◌⊎◌, inl, inr, ℕ, ◌<◌, ◌≤◌, Bool, true, false, List, [], ◌∷◌, ◌++◌, Option, Some, None, refl, sym, ap, ◌∙◌, subst, arith}
 use Rattle.std.specs.Prelude.{Contains}
 use Rattle.std.proofs.lemmas.Bool.{cases_lt}

@@ -1,4 +1,4 @@
--- Whether sources differ, at the end of a walk on which nothing is told.
+-- The answer whether sources differ, at the end of a walk on which nothing is printed.
 use Rattle.std.proofs.Common.{ℕ, List, [], map}
 use Rattle.std.specs.Prelude.{Bool}
 use Rattle.std.specs.declared.cmp.Ordering.{Ordering}

@@ -1,4 +1,4 @@
--- What a reader of rows answers without unknown fields, by what it answers with them.
+-- The answers of a reader of rows without unknown fields, from its answers with them.
 use Rattle.std.proofs.Common.{◌≡◌, ℕ, ◌<◌, ◌^◌, List, length, Option, Some, Result, Ok, Err, inl, inr, ap, sym, subst, ◌∙◌}
 use Rattle.am_wire.specs.declared.error.WireError.{WireError}
 use Rattle.am_wire.specs.declared.reader.RowFault.{RowFault}

@@ -1,4 +1,4 @@
--- Where a fold stops that isn't written.
+-- The stop of a fold that isn't written.
 use Rattle.std.proofs.Common.{ℕ, List, Option, refl}
 use Rattle.std.specs.List.{AllZip}
 use Rattle.std.specs.declared.cmp.Ordering.{Ordering}

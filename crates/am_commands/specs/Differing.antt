@@ -21,7 +21,7 @@ use Rattle.am_snapshot.specs.declared.error.SnapshotError.{SnapshotError}
 use Rattle.am_snapshot.specs.declared.error.SnapshotError.TheVariants.{Write, Memory}
 use Rattle.am_commands.specs.declared.diff.Comparison.{Comparison}
 use Rattle.am_commands.specs.declared.opened.Keys.TheVariants.{Repeated}
-use Rattle.am_commands.specs.declared.opened.Reading.{Reading}
+use Rattle.am_commands.specs.declared.opened.ReadOptions.{ReadOptions}
 use Rattle.am_commands.specs.declared.fault.SourceFault.{SourceFault}
 use Rattle.am_commands.specs.declared.fault.Stopped.{Stopped}
 use Rattle.am_commands.specs.declared.fault.Stopped.TheVariants as stopped
@@ -39,7 +39,7 @@ diff_comparison job now is_live = record {
 }
 
 -- the way in which a job reads each of its sources; with a server among them unknown fields are dropped
-abbrev pub diff_reading : DiffJob → Bool → Reading
+abbrev pub diff_reading : DiffJob → Bool → ReadOptions
 diff_reading job is_live = record { state = job.state; keys = Repeated; most = MOST_MESSAGE_BYTES; unknown = (if is_live then Drop else Keep) }
 
 -- the sources that a job compares

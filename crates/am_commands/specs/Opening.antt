@@ -9,7 +9,7 @@ use Rattle.am_commands.specs.declared.fault.SourceFault.{SourceFault}
 use Rattle.am_commands.specs.declared.fault.Stopped.{Stopped}
 use Rattle.am_commands.specs.declared.fault.Stopped.TheVariants as stopped
 use Rattle.am_commands.specs.declared.opened.SourceRequest.{SourceRequest}
-use Rattle.am_commands.specs.declared.opened.Reading.{Reading}
+use Rattle.am_commands.specs.declared.opened.ReadOptions.{ReadOptions}
 use Rattle.am_commands.specs.declared.source.Input.{Input}
 
 -- a source as it is named: its name, and its path or its address
@@ -25,10 +25,10 @@ named_of word = record { name = word.name.now; file = word.file.now }
 pub record Wanted : Type 0 where
   pub names : List Named
   pub has_logs : Bool
-  pub reading : Reading
+  pub reading : ReadOptions
 
 -- the sources that these words name
-abbrev pub wanted_by : List SourceWord → Bool → Reading → Wanted
+abbrev pub wanted_by : List SourceWord → Bool → ReadOptions → Wanted
 wanted_by words has_logs reading = record { names = map named_of words; has_logs = has_logs; reading = reading }
 
 module _ {S : Type 0} (opens : SourceRequest → Result S SourceFault → Type 0) (wanted : Wanted) where

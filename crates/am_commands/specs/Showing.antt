@@ -13,14 +13,14 @@ use Rattle.am_report.specs.Json.Views.{view_line}
 use Rattle.am_wire.specs.declared.rows.TheConstants.{MOST_MESSAGE_BYTES}
 use Rattle.am_options.specs.declared.source.TheConstants.{STANDARD_INPUT}
 use Rattle.am_options.specs.declared.job.ShowJob.{ShowJob}
-use Rattle.am_options.specs.declared.job.Form.{Form}
-use Rattle.am_options.specs.declared.job.Form.TheVariants.{Lines, Json}
+use Rattle.am_options.specs.declared.job.ViewForm.{ViewForm}
+use Rattle.am_options.specs.declared.job.ViewForm.TheVariants.{Lines, Json}
 use Rattle.am_commands.specs.declared.fault.SourceFault.{SourceFault}
 use Rattle.am_commands.specs.declared.fault.Stopped.{Stopped}
 use Rattle.am_commands.specs.declared.fault.Stopped.TheVariants as stopped
 use Rattle.am_commands.specs.declared.opened.SourceRequest.{SourceRequest}
 use Rattle.am_commands.specs.declared.opened.Keys.TheVariants.{Once}
-use Rattle.am_commands.specs.declared.opened.Reading.{Reading}
+use Rattle.am_commands.specs.declared.opened.ReadOptions.{ReadOptions}
 
 -- the path, or that of standard input where there is none
 abbrev pub file_or_input : Option (Bor (List ℕ)) → List ℕ
@@ -28,7 +28,7 @@ file_or_input None = STANDARD_INPUT.now
 file_or_input (Some file) = file.now
 
 -- the way in which a job reads its file
-abbrev pub show_reading : ShowJob → Reading
+abbrev pub show_reading : ShowJob → ReadOptions
 show_reading job = record { state = job.state; keys = Once; most = MOST_MESSAGE_BYTES; unknown = job.unknown }
 
 module _ {S : Type 0} (opens : SourceRequest → Result S SourceFault → Type 0) (job : ShowJob) where
@@ -46,7 +46,7 @@ module _ {S : Type 0} (opens : SourceRequest → Result S SourceFault → Type 0
       ((fault : SourceFault) × (at ≡ stopped.Source 0 fault) × OpensFile (Err fault) × (new ≡ old)) ⊎ ((source : S) × OpensFile (Ok source) × stops source at)
 
 -- the view of a map at a moment, in lines or in JSON
-abbrev pub shown_text : {K X : Type 0} → (X → Version K) → (ℕ → List X → List ℕ) → (ℕ → X → Data) → Form → ℕ → List X → List ℕ
+abbrev pub shown_text : {K X : Type 0} → (X → Version K) → (ℕ → List X → List ℕ) → (ℕ → X → Data) → ViewForm → ℕ → List X → List ℕ
 shown_text seen lines value Lines now held = lines now held
 shown_text seen lines value Json now held = view_line seen value now held
 

@@ -12,18 +12,18 @@ ghost use Rattle.am_report.specs.Less.{less_word};
 
 use crate::fault::{SourceFault, Stopped, report_stopped};
 use crate::figures::write_figures;
-use crate::host::{Host, Streams};
-use crate::live::Shown;
+use crate::host::{CommandRuntime, Streams};
+use crate::live::ShownSource;
 use crate::losses::{HasLosses, warn_of_sources};
 use crate::moment::{moment_of, warn};
-use crate::opened::{Keys, Opened, Reading, Row, SourceRequest, open};
+use crate::opened::{Keys, OpenedSource, ReadOptions, Row, SourceRequest, open};
 use crate::replica::told_by;
 use crate::source::{Input, Source, inputs_of, read_sources};
 use am_diagnostics::{report, status};
 use am_nflog::MeshEntry;
 use am_options::{DiffForm, DiffJob, PullJob, StateName};
 use am_report::{
-    Compared, InJson, LineFormat, Replica, ReportLine, has_later_source, write_differences,
+    Compared, HeldSource, InJson, LineFormat, ReportLine, has_later_source, write_differences,
     write_differences_json,
 };
 use am_silence::MeshSilence;
@@ -36,7 +36,7 @@ use std::mem;
 use std::time::Duration;
 
 /// Compares the sources of a job, and returns the exit status of the program.
-pub fn run_diff<'a, R: Host>(rt: &'a R, streams: Streams, job: &DiffJob<'a>) -> u8 {
+pub fn run_diff<'a, R: CommandRuntime>(rt: &'a R, streams: Streams, job: &DiffJob<'a>) -> u8 {
     let now = match moment_of(rt, job.now) {
         Ok(now) => now,
         Err(fault) => return report(rt, fault),
@@ -44,7 +44,7 @@ pub fn run_diff<'a, R: Host>(rt: &'a R, streams: Streams, job: &DiffJob<'a>) -> 
     let Streams { input, mut output } = streams;
     let time_limit = job.time_limit;
     if job.is_live() {
-        let shown = |asked| Ok(Shown::new(rt, input, time_limit, asked));
+        let shown = |asked| Ok(ShownSource::new(rt, input, time_limit, asked));
         return diff_named::<R, MeshSilence, _, _, _>(rt, job, now, true, shown, &mut output);
     }
     let opened = |asked| open_source(rt, input, time_limit, asked);
@@ -61,7 +61,7 @@ pub fn run_diff<'a, R: Host>(rt: &'a R, streams: Streams, job: &DiffJob<'a>) -> 
 /// Opens the sources of a job, and compares them at a moment. Returns the exit status of the program.
 fn diff_named<
     'a,
-    R: Host,
+    R: CommandRuntime,
     V: ReportLine + InJson,
     S: Source<V> + HasLosses,
     F: Fn(SourceRequest<'a>) -> Result<S, SourceFault>,
@@ -108,7 +108,7 @@ fn name_of<'a>(job: &DiffJob<'a>, stopped: &Stopped) -> Option<&'a str> {
 
 /// The outcome of a comparison.
 #[derive(Clone, Copy)]
-pub struct Outcome {
+pub struct DiffOutcome {
     /// True if there is a difference.
     pub found: bool,
     /// True if something that was read was updated after the moment.
@@ -116,7 +116,7 @@ pub struct Outcome {
 }
 
 /// Warns of an early moment, and returns the exit status of the program.
-fn tell<R: Host>(rt: &R, job: &DiffJob<'_>, outcome: Outcome) -> u8
+fn tell<R: CommandRuntime>(rt: &R, job: &DiffJob<'_>, outcome: DiffOutcome) -> u8
     ensures { result ≡ (if outcome.found then 5 else 0) }
 {
     if outcome.has_later {
@@ -156,7 +156,7 @@ fn comparison_of(job: &DiffJob<'_>, now: Moment, is_live: bool) -> Comparison
 
 /// Returns how the rows of sources are read: with the fields of versions that aren't known here, unless a server is among
 /// the sources, since API v2 shows none of them.
-fn reading_of(job: &DiffJob<'_>, is_live: bool) -> Reading
+fn reading_of(job: &DiffJob<'_>, is_live: bool) -> ReadOptions
     ensures { result ≡ diff_reading job.entry.now is_live }
 {
     let unknown = if is_live {
@@ -164,7 +164,7 @@ fn reading_of(job: &DiffJob<'_>, is_live: bool) -> Reading
     } else {
         Unknown::Keep
     };
-    Reading {
+    ReadOptions {
         state: job.state,
         keys: Keys::Repeated,
         most: MOST_MESSAGE_BYTES as u32,
@@ -173,12 +173,12 @@ fn reading_of(job: &DiffJob<'_>, is_live: bool) -> Reading
 }
 
 /// Opens a source: what a replica tells, beside which no logs stand, a file, or standard input.
-pub fn open_source<R: Host>(
+pub fn open_source<R: CommandRuntime>(
     rt: &R,
     input: Stdin,
     time_limit: Duration,
     asked: SourceRequest<'_>,
-) -> Result<Opened<BufReader<Row>>, SourceFault> {
+) -> Result<OpenedSource<BufReader<Row>>, SourceFault> {
     let SourceRequest { word, reading, .. } = asked;
     let Some(replica) = word.replica() else {
         return open(rt, input, asked);
@@ -189,7 +189,7 @@ pub fn open_source<R: Host>(
         replica,
         time_limit,
     };
-    Ok(Opened {
+    Ok(OpenedSource {
         row: Some(told_by(rt, &pull)?),
         logs: None,
         reading,
@@ -199,7 +199,7 @@ pub fn open_source<R: Host>(
 /// Writes all differences of maps in the form that is asked for. Returns whether there is one.
 fn write_report<V: ReportLine + InJson, W: Write>(
     alloc: Global,
-    replicas: &[Replica<'_, V>],
+    replicas: &[HeldSource<'_, V>],
     how: &Comparison,
     writer: &mut W,
 ) -> Result<bool, SnapshotError>
@@ -235,7 +235,7 @@ pub fn diff_sources<V: ReportLine + InJson, S: Source<V>, W: Write>(
     inputs: &mut [Input<'_, S>],
     how: &Comparison,
     writer: &mut W,
-) -> Result<Outcome, Stopped>
+) -> Result<DiffOutcome, Stopped>
     // PROMISE: `diff` prints exactly the lines, or the array, of all keys at which its sources differ.
     ensures told { IfOk result (λ outcome. (sources : List (NamedMap V)) ×
         AllZip (IsRead V.seen V.Key.cmp S.gives) inputs.old sources ×
@@ -247,7 +247,7 @@ pub fn diff_sources<V: ReportLine + InJson, S: Source<V>, W: Write>(
     ensures stopped { IfErr result (StopsDiff V.seen V.Key.cmp V.begins V.told V.more (less_word V.seen V.unknown_of V.known_of) V.key_data V.named V.value how.now
         S.gives S.stops inputs.old W.contents writer.old writer.new) }
 {
-    let replicas: Vec<Replica<'_, V>> = match read_sources(alloc, inputs) {
+    let replicas: Vec<HeldSource<'_, V>> = match read_sources(alloc, inputs) {
         Ok(replicas) => replicas,
         Err(stopped) => return Err(stopped),
     };
@@ -255,7 +255,7 @@ pub fn diff_sources<V: ReportLine + InJson, S: Source<V>, W: Write>(
     let written = write_report(alloc, &replicas, how, writer);
     mem::forget(replicas);
     match written {
-        Ok(found) => Ok(Outcome { found, has_later }),
+        Ok(found) => Ok(DiffOutcome { found, has_later }),
         Err(error) => Err(Stopped::Output(error)),
     }
 }

@@ -3,9 +3,9 @@
 ghost use Rattle.std.specs.Prelude.{◌≡◌, ◌≤◌, ◌++◌, ◌∷◌, [], OnOk};
 ghost use Rattle.am_commands.specs.Statuses.{source_status, stopped_status};
 
-use crate::host::Host;
+use crate::host::CommandRuntime;
 use am_diagnostics::{Fault, report, report_source, status};
-use am_report::Word;
+use am_report::EscapedWord;
 use am_snapshot::SnapshotError;
 use am_store::{FileFault, LogFault};
 use std::alloc::AllocError;
@@ -90,7 +90,7 @@ pub fn add<T: Drop>(all: &mut Vec<T>, more: T) -> Result<(), AllocError>
 
 /// Prints on standard error why a command stopped, behind the name of the source that is at fault if it has one, or the path
 /// of its log, and to a person what it means. Returns the exit status of the program.
-pub fn report_stopped<R: Host>(rt: &R, name: Option<&str>, stopped: &Stopped) -> u8
+pub fn report_stopped<R: CommandRuntime>(rt: &R, name: Option<&str>, stopped: &Stopped) -> u8
     // PROMISE: A command's status is that of the first fault.
     ensures status { result ≡ stopped_status stopped.now }
 
@@ -103,7 +103,7 @@ pub fn report_stopped<R: Host>(rt: &R, name: Option<&str>, stopped: &Stopped) ->
 }
 
 /// Prints the fault of a source.
-fn report_of_source<R: Host>(rt: &R, name: Option<&str>, fault: &SourceFault) -> u8
+fn report_of_source<R: CommandRuntime>(rt: &R, name: Option<&str>, fault: &SourceFault) -> u8
     ensures status { result ≡ source_status fault.now }
     ensures some { (1 ≤ result) × (result ≤ 4) }
 {
@@ -112,8 +112,8 @@ fn report_of_source<R: Host>(rt: &R, name: Option<&str>, fault: &SourceFault) ->
         (SourceFault::Own(fault), None) => report(rt, *fault),
         (SourceFault::Log(path, fault), _) => report_source(rt, path.as_str(), Fault::File(*fault)),
         (SourceFault::Words(words), name) => {
-            let name = Word(name.unwrap_or("").as_bytes());
-            let words = Word(words);
+            let name = EscapedWord(name.unwrap_or("").as_bytes());
+            let words = EscapedWord(words);
             let remark = rt.audience().told("the replica told this error");
             let _ = eprintln!(rt; "am_tool: {name} Gossip Error {words}{remark}");
             status::REFUSED

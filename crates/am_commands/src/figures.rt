@@ -8,7 +8,9 @@ ghost use Rattle.am_report.specs.Views.{StopsWriting};
 ghost use Rattle.am_commands.specs.Figures.{AreFigures, IsFound, StopsFigures};
 
 use am_metrics::{Family, MetricLabel, MetricType, Number, Sample, write_families};
-use am_report::{Compared, InJson, MergeCursor, Replica, greatest_of, next_difference, sides_of};
+use am_report::{
+    Compared, HeldSource, InJson, MergeCursor, greatest_of, next_difference, sides_of,
+};
 use am_snapshot::SnapshotError;
 use am_version_order::{Moment, Version};
 use am_wire::{Text, send};
@@ -17,7 +19,7 @@ use std::io::Write;
 
 /// At how many keys a source lacks the greatest version.
 #[derive(Clone, Copy)]
-struct Tally {
+struct SourceLag {
     /// The replica holds none there.
     missing: u64,
     /// The replica holds a lesser one.
@@ -27,12 +29,12 @@ struct Tally {
 /// The tallies of sources, and whether there is a difference.
 #[derive(Drop)]
 struct Tallies {
-    each: Vec<Tally>,
+    each: Vec<SourceLag>,
     found: bool,
 }
 
 /// Counts what sources lack at the key where a walk is.
-fn count_here<V: Version>(each: &mut [Tally], sides: &[MergeCursor<'_, V>]) {
+fn count_here<V: Version>(each: &mut [SourceLag], sides: &[MergeCursor<'_, V>]) {
     let greatest = greatest_of(sides);
     for (tally, cursor) in each.iter_mut().zip(sides) {
         match (cursor.here(), greatest) {
@@ -45,7 +47,7 @@ fn count_here<V: Version>(each: &mut [Tally], sides: &[MergeCursor<'_, V>]) {
 
 /// Counts what is left of all differences on a walk. Returns whether there is one.
 fn count_left<V: Version>(
-    each: &mut [Tally],
+    each: &mut [SourceLag],
     sides: &mut [MergeCursor<'_, V>],
     compared: Compared,
     now: Moment,
@@ -64,7 +66,7 @@ fn count_left<V: Version>(
 /// Counts all differences of sources.
 fn tallies_of<V: Version>(
     alloc: Global,
-    replicas: &[Replica<'_, V>],
+    replicas: &[HeldSource<'_, V>],
     compared: Compared,
     now: Moment,
 ) -> Result<Tallies, AllocError>
@@ -72,7 +74,7 @@ fn tallies_of<V: Version>(
 {
     let mut each = Vec::with_capacity(alloc, replicas.len())?;
     for _ in replicas {
-        each.push(Tally {
+        each.push(SourceLag {
             missing: 0,
             behind: 0,
         })?;
@@ -111,8 +113,8 @@ fn sample_of(
 fn versions_family<V: Version>(
     alloc: Global,
     kind: &'static str,
-    replicas: &[Replica<'_, V>],
-    each: &[Tally],
+    replicas: &[HeldSource<'_, V>],
+    each: &[SourceLag],
 ) -> Result<Family, AllocError> {
     let mut samples = Vec::new(alloc);
     for (replica, tally) in replicas.iter().zip(each) {
@@ -157,7 +159,7 @@ struct Figures {
 /// Returns the figures of all differences of sources.
 fn figures_of<V: InJson>(
     alloc: Global,
-    replicas: &[Replica<'_, V>],
+    replicas: &[HeldSource<'_, V>],
     compared: Compared,
     now: Moment,
 ) -> Result<Figures, AllocError>
@@ -180,7 +182,7 @@ fn figures_of<V: InJson>(
 /// is not tried again. [`SnapshotError::Memory`] if memory runs out, before a byte goes out.
 pub fn write_figures<V: InJson, W: Write>(
     alloc: Global,
-    replicas: &[Replica<'_, V>],
+    replicas: &[HeldSource<'_, V>],
     compared: Compared,
     now: Moment,
     writer: &mut W,

@@ -6,9 +6,9 @@ ghost use Rattle.am_commands.specs.Opening.{named_of, AreOpened, StopsOpening, C
 ghost use Rattle.am_commands.specs.Telling.{IsTold, StopsTelling};
 
 use crate::fault::{SourceFault, Stopped, add, report_stopped};
-use crate::host::{Host, Streams};
+use crate::host::{CommandRuntime, Streams};
 use crate::losses::{HasLosses, warn_of_sources};
-use crate::opened::{Keys, Reading, SourceRequest, Unopened};
+use crate::opened::{Keys, ReadOptions, SourceRequest, Unopened};
 use crate::source::{Input, Source, inputs_of, join_sources};
 use am_diagnostics::status;
 use am_merge::Held;
@@ -22,7 +22,7 @@ use std::io::Write;
 use std::mem;
 
 /// Writes the fold of what a job names to standard output, and returns the exit status of the program.
-pub fn run_fold<'a, R: Host>(rt: &'a R, streams: Streams, job: &FoldJob<'a>) -> u8 {
+pub fn run_fold<'a, R: CommandRuntime>(rt: &'a R, streams: Streams, job: &FoldJob<'a>) -> u8 {
     let Streams { input, mut output } = streams;
     let source_of = |asked| Ok(Unopened::new(rt, input, asked));
     match job.state {
@@ -36,7 +36,7 @@ pub fn run_fold<'a, R: Host>(rt: &'a R, streams: Streams, job: &FoldJob<'a>) -> 
 /// Folds the files of a job, or standard input if it names none, and returns the exit status of the program.
 fn fold_files<
     'a,
-    R: Host,
+    R: CommandRuntime,
     V: Version,
     S: Source<V> + HasLosses,
     F: Fn(SourceRequest<'a>) -> Result<S, SourceFault>,
@@ -84,7 +84,7 @@ fn inputs_named<'a, S: Drop, F: Fn(SourceRequest<'a>) -> Result<S, SourceFault>>
     ensures stopped { IfErr result (StopsOpening (F.post source_of) (fold_wants job.entry.now)) }
 {
     let words = words_of(alloc, &job.files)?;
-    let reading = Reading {
+    let reading = ReadOptions {
         state: job.state,
         keys: Keys::Repeated,
         most: job.most,

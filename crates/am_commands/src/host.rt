@@ -7,7 +7,7 @@ use std::net::{Net, TcpStream};
 use std::rt::{Clock, Files};
 
 /// The parts of a runtime that a command uses. Its files are those of the system, as the logs beside them are.
-pub trait Host: AllocGlobal
+pub trait CommandRuntime: AllocGlobal
     + Clock
     + Eprint
     + Files<File = File>
@@ -16,7 +16,7 @@ pub trait Host: AllocGlobal
 
 impl<
     R: AllocGlobal + Clock + Eprint + Files<File = File> + HasAudience + Net<Stream = TcpStream>,
-> Host for R {}
+> CommandRuntime for R {}
 
 /// The standard streams of the process.
 #[derive(Clone, Copy)]

@@ -22,7 +22,7 @@ mod source;
 
 pub use diff::run_diff;
 pub use fold::run_fold;
-pub use host::{Host, Streams};
+pub use host::{CommandRuntime, Streams};
 pub use mend::run_mend;
 pub use pull::run_pull;
 pub use push::run_push;

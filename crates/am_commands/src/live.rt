@@ -8,7 +8,7 @@ ghost use Rattle.am_silence.specs.Mesh.{mesh_version};
 
 use crate::diff::open_source;
 use crate::fault::SourceFault;
-use crate::host::Host;
+use crate::host::CommandRuntime;
 use crate::losses::HasLosses;
 use crate::opened::SourceRequest;
 use crate::source::Source;
@@ -24,7 +24,7 @@ use std::io::Stdin;
 use std::time::Duration;
 
 /// A source that is read as API v2 shows it: a server that is asked then, or a file that is opened then.
-pub struct Shown<'a, R> {
+pub struct ShownSource<'a, R> {
     rt: &'a R,
     input: Stdin,
     /// The most time that a connection to a server may last.
@@ -32,17 +32,17 @@ pub struct Shown<'a, R> {
     asked: SourceRequest<'a>,
 }
 
-impl<'a, R: Host> Shown<'a, R> {
+impl<'a, R: CommandRuntime> ShownSource<'a, R> {
     /// Returns a source that is asked for, and isn't read yet.
     pub fn new(
         rt: &'a R,
         input: Stdin,
         time_limit: Duration,
         asked: SourceRequest<'a>,
-    ) -> Shown<'a, R>
+    ) -> ShownSource<'a, R>
         ensures { result.asked ≡ asked.entry }
     {
-        Shown {
+        ShownSource {
             rt,
             input,
             time_limit,
@@ -51,7 +51,7 @@ impl<'a, R: Host> Shown<'a, R> {
     }
 }
 
-impl<'a, R> Drop for Shown<'a, R> {
+impl<'a, R> Drop for ShownSource<'a, R> {
     fn drop(self) {
         let Self {
             rt: _,
@@ -62,7 +62,7 @@ impl<'a, R> Drop for Shown<'a, R> {
     }
 }
 
-impl<'a, R> HasLosses for Shown<'a, R> {
+impl<'a, R> HasLosses for ShownSource<'a, R> {
     /// Adds none: API v2 shows no fields that aren't known here.
     fn add_losses(&self, _losses: &mut Losses) -> Result<(), AllocError> {
         Ok(())
@@ -70,7 +70,7 @@ impl<'a, R> HasLosses for Shown<'a, R> {
 }
 
 /// No clause says what a server or a path gives; what it gives is the map.
-impl<'a, R: Host> Source<MeshSilence> for Shown<'a, R> {
+impl<'a, R: CommandRuntime> Source<MeshSilence> for ShownSource<'a, R> {
     ghost use Rattle.std.specs.Prelude.{⊤};
 
     ghost gives = { λ _ _. ⊤ };
@@ -89,7 +89,7 @@ impl<'a, R: Host> Source<MeshSilence> for Shown<'a, R> {
 }
 
 /// Returns what API v2 shows of a source that is opened.
-fn shown_by_row<R: Host>(
+fn shown_by_row<R: CommandRuntime>(
     alloc: Global,
     rt: &R,
     input: Stdin,
@@ -118,7 +118,7 @@ fn shown_of(alloc: Global, held: &Held<MeshSilence>) -> Result<Held<MeshSilence>
 }
 
 /// Returns the silences that a server shows.
-fn shown_by_server<R: Host>(
+fn shown_by_server<R: CommandRuntime>(
     rt: &R,
     server: &HttpServer<'_>,
     time_limit: Duration,

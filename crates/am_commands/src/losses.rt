@@ -1,6 +1,6 @@
 //! Warnings for a person about the fields that messages lose.
 
-use crate::host::Host;
+use crate::host::CommandRuntime;
 use crate::source::Input;
 use am_diagnostics::Audience;
 use am_options::StateName;
@@ -9,7 +9,7 @@ use am_wire::Unknown;
 use std::alloc::{AllocError, Global};
 
 /// Returns a reader that notes the losses of a state's versions, if a person reads standard error.
-pub fn watch_for<R: Host>(rt: &R, state: StateName) -> Option<LossReader> {
+pub fn watch_for<R: CommandRuntime>(rt: &R, state: StateName) -> Option<LossReader> {
     let kind = match state {
         StateName::Silences => MessageKind::Silence,
         StateName::Log => MessageKind::Entry,
@@ -31,7 +31,7 @@ pub trait HasLosses: Drop {
 }
 
 /// Warns a person about what the versions of a source lose. Says nothing if memory runs out.
-pub fn warn_of_source<R: Host, S: HasLosses>(rt: &R, unknown: Unknown, source: &S) {
+pub fn warn_of_source<R: CommandRuntime, S: HasLosses>(rt: &R, unknown: Unknown, source: &S) {
     let mut all = Losses::none(rt.alloc());
     if source.add_losses(&mut all).is_ok() {
         warn(rt, unknown, &all);
@@ -39,7 +39,11 @@ pub fn warn_of_source<R: Host, S: HasLosses>(rt: &R, unknown: Unknown, source: &
 }
 
 /// Warns a person about what the versions of sources lose. Says nothing if memory runs out.
-pub fn warn_of_sources<R: Host, S: HasLosses>(rt: &R, unknown: Unknown, inputs: &[Input<'_, S>]) {
+pub fn warn_of_sources<R: CommandRuntime, S: HasLosses>(
+    rt: &R,
+    unknown: Unknown,
+    inputs: &[Input<'_, S>],
+) {
     let mut all = Losses::none(rt.alloc());
     for input in inputs {
         if input.source.add_losses(&mut all).is_err() {
@@ -50,7 +54,7 @@ pub fn warn_of_sources<R: Host, S: HasLosses>(rt: &R, unknown: Unknown, inputs: 
 }
 
 /// Warns a person about what the versions of rows lose. Says nothing if memory runs out.
-pub fn warn_of_rows<R: Host>(rt: &R, state: StateName, rows: &[Vec<u8>]) {
+pub fn warn_of_rows<R: CommandRuntime>(rt: &R, state: StateName, rows: &[Vec<u8>]) {
     let Some(mut watch) = watch_for(rt, state) else {
         return;
     };
@@ -63,7 +67,7 @@ pub fn warn_of_rows<R: Host>(rt: &R, state: StateName, rows: &[Vec<u8>]) {
 }
 
 /// Warns a person about what the versions of a row lose. Says nothing if memory runs out.
-pub fn warn_of_row<R: Host>(rt: &R, state: StateName, row: &[u8]) {
+pub fn warn_of_row<R: CommandRuntime>(rt: &R, state: StateName, row: &[u8]) {
     if let Some(mut watch) = watch_for(rt, state)
         && watch.take(row).is_ok()
     {
@@ -73,7 +77,7 @@ pub fn warn_of_row<R: Host>(rt: &R, state: StateName, row: &[u8]) {
 
 /// Tells a person how many messages lose fields, and which: silences, entries and the versions around them if their unknown
 /// fields are dropped, and the smaller messages in them. Says nothing if memory runs out.
-fn warn<R: Host>(rt: &R, unknown: Unknown, losses: &Losses) {
+fn warn<R: CommandRuntime>(rt: &R, unknown: Unknown, losses: &Losses) {
     if unknown == Unknown::Drop {
         let _ = warn_of(rt, "", &losses.versions, " (--keep-unknown keeps them)");
     }
@@ -81,7 +85,7 @@ fn warn<R: Host>(rt: &R, unknown: Unknown, losses: &Losses) {
 }
 
 /// Says how many messages lose fields, if one does, and the numbers of these.
-fn warn_of<R: Host>(
+fn warn_of<R: CommandRuntime>(
     rt: &R,
     size: &'static str,
     lost: &Lost,

@@ -2,7 +2,7 @@
 //! lacks.
 
 use crate::fault::{SourceFault, Stopped, add, report_stopped};
-use crate::host::{Host, Streams};
+use crate::host::{CommandRuntime, Streams};
 use crate::losses::warn_of_rows;
 use crate::mending::{Addressee, Mending};
 use crate::moment::moment_of;
@@ -13,7 +13,7 @@ use am_diagnostics::{Fault, report, status};
 use am_merge::Held;
 use am_nflog::MeshEntry;
 use am_options::{MendJob, PullJob, StateName};
-use am_report::{Compared, LineFormat, Replica, ReportLine, write_differences};
+use am_report::{Compared, HeldSource, LineFormat, ReportLine, write_differences};
 use am_silence::MeshSilence;
 use am_snapshot::load_bytes;
 use am_version_order::{Moment, Version};
@@ -22,7 +22,7 @@ use std::alloc::{AllocError, Global};
 use std::io::{Stdout, Write};
 
 /// Compares running replicas, mends them if that is asked for, and returns the exit status of the program.
-pub fn run_mend<R: Host>(rt: &R, streams: Streams, job: &MendJob<'_>) -> u8 {
+pub fn run_mend<R: CommandRuntime>(rt: &R, streams: Streams, job: &MendJob<'_>) -> u8 {
     let now = match moment_of(rt, job.now) {
         Ok(now) => now,
         Err(fault) => return report(rt, fault),
@@ -46,7 +46,7 @@ fn name_of<'a>(job: &MendJob<'a>, stopped: &Stopped) -> Option<&'a str> {
 
 /// Writes how replicas differ. Where they are to be mended, sends each what it lacks, and compares them again. Returns whether
 /// they differ at the end.
-fn mend<R: Host, V: Candidate + Message + ReportLine>(
+fn mend<R: CommandRuntime, V: Candidate + Message + ReportLine>(
     rt: &R,
     mut output: Stdout,
     job: &MendJob<'_>,
@@ -74,12 +74,12 @@ fn mend<R: Host, V: Candidate + Message + ReportLine>(
 /// The maps that replicas hold, and the rows in which they told them.
 #[derive(Drop)]
 struct Pulled<'a, V: Version> {
-    replicas: Vec<Replica<'a, V>>,
+    replicas: Vec<HeldSource<'a, V>>,
     rows: Vec<Vec<u8>>,
 }
 
 /// Asks all replicas, one after the other.
-fn pull_all<'a, R: Host, V: Version + Message>(
+fn pull_all<'a, R: CommandRuntime, V: Version + Message>(
     rt: &R,
     job: &MendJob<'a>,
 ) -> Result<Pulled<'a, V>, Stopped> {
@@ -92,13 +92,17 @@ fn pull_all<'a, R: Host, V: Version + Message>(
         let row = row_now(rt, replica, pulled.rows.len())?;
         let held = held_in(alloc, &row, pulled.rows.len())?;
         add(&mut pulled.rows, row)?;
-        add(&mut pulled.replicas, Replica::new(replica.name, held))?;
+        add(&mut pulled.replicas, HeldSource::new(replica.name, held))?;
     }
     Ok(pulled)
 }
 
 /// Returns the row of what the replica of this number holds now.
-fn row_now<R: Host>(rt: &R, replica: &PullJob<'_>, number: usize) -> Result<Vec<u8>, Stopped> {
+fn row_now<R: CommandRuntime>(
+    rt: &R,
+    replica: &PullJob<'_>,
+    number: usize,
+) -> Result<Vec<u8>, Stopped> {
     match exchange(rt, replica, NO_STATES) {
         Ok(row) => Ok(row),
         Err(fault) => Err(Stopped::Source { number, fault }),
@@ -123,7 +127,7 @@ fn held_in<V: Version + Message>(
 /// Writes the differences of replicas in long lines. Returns whether there is one.
 fn tell<V: ReportLine, W: Write>(
     alloc: Global,
-    replicas: &[Replica<'_, V>],
+    replicas: &[HeldSource<'_, V>],
     now: Moment,
     output: &mut W,
 ) -> Result<bool, Stopped> {
@@ -139,7 +143,10 @@ fn tell<V: ReportLine, W: Write>(
 }
 
 /// Returns the join of what replicas hold.
-fn join_all<V: Version>(alloc: Global, replicas: &[Replica<'_, V>]) -> Result<Held<V>, AllocError> {
+fn join_all<V: Version>(
+    alloc: Global,
+    replicas: &[HeldSource<'_, V>],
+) -> Result<Held<V>, AllocError> {
     let mut all = Held::new(alloc);
     for replica in replicas {
         if all.merge(replica.held(), Moment::LEAST).is_err() {
@@ -150,10 +157,10 @@ fn join_all<V: Version>(alloc: Global, replicas: &[Replica<'_, V>]) -> Result<He
 }
 
 /// Sends each replica what it lacks, and writes what that is.
-fn send_all<R: Host, V: Candidate + Message + ReportLine, W: Write>(
+fn send_all<R: CommandRuntime, V: Candidate + Message + ReportLine, W: Write>(
     rt: &R,
     job: &MendJob<'_>,
-    replicas: &[Replica<'_, V>],
+    replicas: &[HeldSource<'_, V>],
     mending: &Mending<V>,
     output: &mut W,
 ) -> Result<(), Stopped> {
@@ -176,7 +183,7 @@ fn send_all<R: Host, V: Candidate + Message + ReportLine, W: Write>(
 /// Writes which versions replicas lack though they were sent.
 fn tell_refused<V: Candidate + Message + ReportLine, W: Write>(
     alloc: Global,
-    replicas: &[Replica<'_, V>],
+    replicas: &[HeldSource<'_, V>],
     mending: &Mending<V>,
     output: &mut W,
 ) -> Result<(), Stopped> {

@@ -6,7 +6,7 @@ ghost use Rattle.am_wire.specs.Inputs.{sound};
 ghost use Rattle.am_commands.specs.Sending.{is_sent, IsSending, IsSendingOf};
 
 use crate::fault::SourceFault;
-use crate::host::Host;
+use crate::host::CommandRuntime;
 use crate::replica::{exchange, key_of};
 use am_alertmanager::{Candidate, Refused, is_lacked, lacked, why_refused};
 use am_diagnostics::Fault;
@@ -23,18 +23,18 @@ use std::alloc::{AllocError, Global};
 
 /// The versions that are sent, and their rows as they were read.
 #[derive(Drop)]
-pub struct Sent<V: Version> {
+pub struct SentVersions<V: Version> {
     rows: Vec<u8>,
     pub versions: Held<V>,
 }
 
-impl<V: Version> Sent<V> {
+impl<V: Version> SentVersions<V> {
     /// Sends the rows to a replica, in one exchange, if there are any.
     ///
     /// # Errors
     ///
     /// Why the replica didn't answer.
-    pub fn send<R: Host>(&self, rt: &R, to: &PullJob<'_>) -> Result<(), SourceFault> {
+    pub fn send<R: CommandRuntime>(&self, rt: &R, to: &PullJob<'_>) -> Result<(), SourceFault> {
         if self.rows.is_empty() {
             return Ok(());
         }
@@ -79,13 +79,13 @@ impl<V: Candidate + Message + ReportLine> Mending<V> {
     /// # Errors
     ///
     /// A row at fault, and want of memory.
-    pub fn to_send(&self, alloc: Global, held: &Held<V>) -> Result<Sent<V>, SnapshotError>
+    pub fn to_send(&self, alloc: Global, held: &Held<V>) -> Result<SentVersions<V>, SnapshotError>
         // PROMISE: `push` and `mend` send messages of the rows that were read, each of a version that is to be sent and has no hazard,
         // and leave out no key of these.
         ensures { IfOk result (λ sent. IsSendingOf V.seen V.Key.cmp (V.reads Unknown.Keep) V.is_hazard self.now.all self.now.moment held.now
             (flat_map (λ row. rows_of row.items) self.now.rows.items) sent.rows.items sent.versions) }
     {
-        let mut sent = Sent {
+        let mut sent = SentVersions {
             rows: Vec::new(alloc),
             versions: Held::new(alloc),
         };
@@ -100,7 +100,7 @@ impl<V: Candidate + Message + ReportLine> Mending<V> {
         &self,
         alloc: Global,
         held: &Held<V>,
-        sent: &mut Sent<V>,
+        sent: &mut SentVersions<V>,
         row: &[u8],
     ) -> Result<(), SnapshotError>
         ensures { OnOk result ((before : List (List ℕ))
@@ -123,7 +123,7 @@ impl<V: Candidate + Message + ReportLine> Mending<V> {
         &self,
         alloc: Global,
         held: &Held<V>,
-        sent: &mut Sent<V>,
+        sent: &mut SentVersions<V>,
         text: &[u8],
     ) -> Result<(), SnapshotError>
         ensures { OnOk result ((before : List (List ℕ))
@@ -156,10 +156,10 @@ impl<V: Candidate + Message + ReportLine> Mending<V> {
         out: &mut String,
         to: Addressee<'_>,
         held: &Held<V>,
-        sent: &Sent<V>,
+        sent: &SentVersions<V>,
     ) -> Result<bool, AllocError> {
         for version in sent.versions.iter() {
-            append_line(out, version, Said::of("send"), to, self.moment)?;
+            append_line(out, version, RelationWords::of("send"), to, self.moment)?;
         }
         let mut holds_back = false;
         for version in lacked(alloc, held, &self.all)? {
@@ -173,13 +173,17 @@ impl<V: Candidate + Message + ReportLine> Mending<V> {
 
     /// Returns what the line of a version that the replica lacks and isn't sent says: that it is later than the moment, or that
     /// it is refused for its hazard.
-    fn why_held_back(&self, alloc: Global, version: &V) -> Result<Option<Said>, AllocError> {
+    fn why_held_back(
+        &self,
+        alloc: Global,
+        version: &V,
+    ) -> Result<Option<RelationWords>, AllocError> {
         if self.moment < version.updated() {
-            return Ok(Some(Said::of("later")));
+            return Ok(Some(RelationWords::of("later")));
         }
         Ok(match version.hazard(alloc)? {
-            Some(Hazard::Pattern) => Some(Said::refused(" by pattern")),
-            Some(Hazard::Matcher) => Some(Said::refused(" by matcher")),
+            Some(Hazard::Pattern) => Some(RelationWords::refused(" by pattern")),
+            Some(Hazard::Matcher) => Some(RelationWords::refused(" by matcher")),
             None => None,
         })
     }
@@ -200,7 +204,13 @@ impl<V: Candidate + Message + ReportLine> Mending<V> {
         for version in lacked(alloc, held, &self.all)? {
             if self.why_held_back(alloc, version)?.is_none() {
                 let why = why_refused(held.get(version.key()), version, self.moment);
-                append_line(out, version, Said::refused(cause(why)), to, self.moment)?;
+                append_line(
+                    out,
+                    version,
+                    RelationWords::refused(cause(why)),
+                    to,
+                    self.moment,
+                )?;
                 found = true;
             }
         }
@@ -210,21 +220,21 @@ impl<V: Candidate + Message + ReportLine> Mending<V> {
 
 /// The word for a version in its line, and the last words of the line.
 #[derive(Clone, Copy)]
-struct Said {
+struct RelationWords {
     relation: &'static str,
     cause: &'static str,
 }
 
-impl Said {
-    fn of(relation: &'static str) -> Said {
-        Said {
+impl RelationWords {
+    fn of(relation: &'static str) -> RelationWords {
+        RelationWords {
             relation,
             cause: "",
         }
     }
 
-    fn refused(cause: &'static str) -> Said {
-        Said {
+    fn refused(cause: &'static str) -> RelationWords {
+        RelationWords {
             relation: "refused",
             cause,
         }
@@ -244,7 +254,7 @@ fn cause(why: Refused) -> &'static str {
 fn append_line<V: ReportLine>(
     out: &mut String,
     version: &V,
-    said: Said,
+    said: RelationWords,
     to: Addressee<'_>,
     moment: Moment,
 ) -> Result<(), AllocError> {

@@ -1,6 +1,6 @@
 //! The moment at which maps are shown and compared.
 
-use crate::host::Host;
+use crate::host::CommandRuntime;
 use am_diagnostics::{Audience, Fault};
 use am_peers::later_moment;
 use am_silence_json::moments::write_moment;
@@ -10,7 +10,7 @@ use am_version_order::Moment;
 const YEAR_2000: i64 = 946_684_800;
 
 /// Returns the moment that the command line names, or the clock's if it names none.
-pub fn moment_of<R: Host>(rt: &R, named: Option<Moment>) -> Result<Moment, Fault> {
+pub fn moment_of<R: CommandRuntime>(rt: &R, named: Option<Moment>) -> Result<Moment, Fault> {
     if let Some(now) = named {
         return Ok(now);
     }
@@ -22,7 +22,7 @@ pub fn moment_of<R: Host>(rt: &R, named: Option<Moment>) -> Result<Moment, Fault
 
 /// Says to a person that the moment that the command line names is before what was read, where it is so early that it may have
 /// been meant in seconds.
-pub fn warn<R: Host>(rt: &R, named: Option<Moment>) {
+pub fn warn<R: CommandRuntime>(rt: &R, named: Option<Moment>) {
     let (Some(now), Audience::Person) = (named, rt.audience()) else {
         return;
     };

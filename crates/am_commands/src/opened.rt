@@ -5,7 +5,7 @@ ghost use Rattle.am_merge.specs.Maps.{IsMap};
 ghost use Rattle.am_commands.specs.Rows.{GivesOpened, GivesRow, StopsRow};
 
 use crate::fault::SourceFault;
-use crate::host::Host;
+use crate::host::CommandRuntime;
 use crate::losses::{HasLosses, watch_for};
 use crate::replica::ToldRow;
 use crate::rows::take_within;
@@ -24,19 +24,19 @@ use std::io::{self, BufReader, ErrorKind, Read, Stdin};
 
 /// The place where the row of a source stands.
 #[derive(Drop)]
-pub enum Origin {
+pub enum RowOrigin {
     File(WholeFile),
     StandardInput(Stdin),
     /// The row that a replica told when it was asked by its gossip.
     Replica(ToldRow),
 }
 
-impl Read for Origin {
+impl Read for RowOrigin {
     fn read(&mut self, buf: &mut [u8]) -> io::Result<usize> {
         match self {
-            Origin::File(file) => file.read(buf),
-            Origin::StandardInput(input) => input.read(buf),
-            Origin::Replica(row) => row.read(buf),
+            RowOrigin::File(file) => file.read(buf),
+            RowOrigin::StandardInput(input) => input.read(buf),
+            RowOrigin::Replica(row) => row.read(buf),
         }
     }
 }
@@ -44,7 +44,7 @@ impl Read for Origin {
 /// The row of a source.
 #[derive(Drop)]
 pub struct Row {
-    origin: Origin,
+    origin: RowOrigin,
     /// The reader that notes the losses of its versions for a person.
     watch: Option<LossReader>,
 }
@@ -73,7 +73,11 @@ fn noted(watch: Option<LossReader>, bytes: &[u8]) -> Option<LossReader> {
 /// # Errors
 ///
 /// [`ErrorKind::OutOfMemory`] if memory runs out.
-pub fn row_from<R: Host>(rt: &R, state: StateName, origin: Origin) -> io::Result<BufReader<Row>> {
+pub fn row_from<R: CommandRuntime>(
+    rt: &R,
+    state: StateName,
+    origin: RowOrigin,
+) -> io::Result<BufReader<Row>> {
     let watch = watch_for(rt, state);
     BufReader::new(rt.alloc(), Row { origin, watch })
 }
@@ -83,22 +87,22 @@ pub fn row_from<R: Host>(rt: &R, state: StateName, origin: Origin) -> io::Result
 /// # Errors
 ///
 /// [`FileFault::NotAFile`] of a directory, and what the system says.
-fn open_row<R: Host>(
+fn open_row<R: CommandRuntime>(
     rt: &R,
     state: StateName,
     input: Stdin,
     file: &str,
 ) -> Result<BufReader<Row>, FileFault> {
     let origin = if file == STANDARD_INPUT {
-        Origin::StandardInput(input)
+        RowOrigin::StandardInput(input)
     } else {
-        Origin::File(open_file(rt, file)?)
+        RowOrigin::File(open_file(rt, file)?)
     };
     Ok(row_from(rt, state, origin)?)
 }
 
 /// Opens a file, or a pipe that stands in its place.
-fn open_file<R: Host>(rt: &R, file: &str) -> Result<WholeFile, FileFault> {
+fn open_file<R: CommandRuntime>(rt: &R, file: &str) -> Result<WholeFile, FileFault> {
     if fs::metadata(rt, file)?.is_dir() {
         return Err(FileFault::NotAFile);
     }
@@ -116,7 +120,7 @@ pub enum Keys {
 
 /// The way in which the row of a source is read.
 #[derive(Clone, Copy)]
-pub struct Reading {
+pub struct ReadOptions {
     /// The state whose versions it has.
     pub state: StateName,
     pub keys: Keys,
@@ -132,20 +136,20 @@ pub struct SourceRequest<'a> {
     pub word: SourceWord<'a>,
     /// True if the logs beside its file are read too.
     pub has_logs: bool,
-    pub reading: Reading,
+    pub reading: ReadOptions,
 }
 
 /// A source that is opened: its row, and the logs beside it.
 #[derive(Drop)]
-pub struct Opened<R: Drop> {
+pub struct OpenedSource<R: Drop> {
     /// None if logs stand beside no file.
     pub row: Option<R>,
     /// None if no logs are asked for.
     pub logs: Option<Logs>,
-    pub reading: Reading,
+    pub reading: ReadOptions,
 }
 
-impl HasLosses for Opened<BufReader<Row>> {
+impl HasLosses for OpenedSource<BufReader<Row>> {
     fn add_losses(&self, losses: &mut Losses) -> Result<(), AllocError> {
         match &self.row {
             Some(row) => match &row.get_ref().watch {
@@ -158,7 +162,7 @@ impl HasLosses for Opened<BufReader<Row>> {
 }
 
 /// Reads the source to its end: the map of its row, joined with what the logs have.
-impl<V: Version + Message, R: Read + Drop> Source<V> for Opened<R> {
+impl<V: Version + Message, R: Read + Drop> Source<V> for OpenedSource<R> {
     ghost use Rattle.am_commands.specs.Rows.{GivesOpened, StopsOpened, UnlessLogged};
 
     ghost gives = { λ opened held. UnlessLogged opened.logs (GivesOpened V.seen (V.reads opened.reading.unknown) R.remaining opened.reading.keys opened.row held) };
@@ -167,7 +171,7 @@ impl<V: Version + Message, R: Read + Drop> Source<V> for Opened<R> {
         UnlessLogged opened.logs (StopsOpened V.seen (V.reads opened.reading.unknown) R.remaining opened.reading.keys opened.reading.most opened.row fault) };
 
     fn read(&mut self, alloc: Global) -> Result<Held<V>, SourceFault> {
-        let Reading { most, unknown, .. } = self.reading;
+        let ReadOptions { most, unknown, .. } = self.reading;
         let held = match read_row(alloc, &mut self.row, self.reading) {
             Ok(held) => held,
             Err(error) => return Err(SourceFault::Own(Fault::Snapshot(error))),
@@ -183,7 +187,7 @@ impl<V: Version + Message, R: Read + Drop> Source<V> for Opened<R> {
 fn read_row<V: Version + Message, R: Read + Drop>(
     alloc: Global,
     row: &mut Option<R>,
-    reading: Reading,
+    reading: ReadOptions,
 ) -> Result<Held<V>, SnapshotError>
     ensures order { IfOk result (IsMap V.seen V.Key.cmp) }
     ensures given { IfOk result (GivesOpened V.seen (V.reads reading.unknown) R.remaining reading.keys row.old) }
@@ -205,7 +209,7 @@ fn read_row<V: Version + Message, R: Read + Drop>(
 fn take_or_load<V: Version + Message, R: Read>(
     alloc: Global,
     row: &mut R,
-    reading: Reading,
+    reading: ReadOptions,
 ) -> Result<Held<V>, SnapshotError>
     ensures order { IfOk result (IsMap V.seen V.Key.cmp) }
     ensures given { IfOk result (λ held. IfSome (R.remaining row.old) (λ bytes. GivesRow V.seen (V.reads reading.unknown) reading.keys bytes held)) }
@@ -248,11 +252,11 @@ pub fn join_logs<V: Version + Message>(
 /// # Errors
 ///
 /// Of the log or the file that isn't opened.
-pub fn open<R: Host>(
+pub fn open<R: CommandRuntime>(
     rt: &R,
     input: Stdin,
     asked: SourceRequest<'_>,
-) -> Result<Opened<BufReader<Row>>, SourceFault> {
+) -> Result<OpenedSource<BufReader<Row>>, SourceFault> {
     let SourceRequest {
         word: SourceWord { file, .. },
         has_logs,
@@ -264,12 +268,12 @@ pub fn open<R: Host>(
     };
     // (behind the logs, so that nothing is missed that goes from them into the file meanwhile)
     match open_row(rt, reading.state, input, file) {
-        Ok(row) => Ok(Opened {
+        Ok(row) => Ok(OpenedSource {
             row: Some(row),
             logs,
             reading,
         }),
-        Err(FileFault::File(ErrorKind::NotFound)) if are_there(&logs) => Ok(Opened {
+        Err(FileFault::File(ErrorKind::NotFound)) if are_there(&logs) => Ok(OpenedSource {
             row: None,
             logs,
             reading,
@@ -279,7 +283,11 @@ pub fn open<R: Host>(
 }
 
 /// Opens the logs beside a source, if these are asked for. Standard input has none.
-fn logs_beside<R: Host>(rt: &R, file: &str, has_logs: bool) -> Result<Option<Logs>, LogFault> {
+fn logs_beside<R: CommandRuntime>(
+    rt: &R,
+    file: &str,
+    has_logs: bool,
+) -> Result<Option<Logs>, LogFault> {
     if has_logs && file != STANDARD_INPUT {
         Ok(Some(Logs::open(rt, file)?))
     } else {
@@ -304,7 +312,7 @@ pub struct Unopened<'a, R> {
     losses: Losses,
 }
 
-impl<'a, R: Host> Unopened<'a, R> {
+impl<'a, R: CommandRuntime> Unopened<'a, R> {
     /// Returns a source that is asked for, and isn't read yet.
     pub fn new(rt: &'a R, input: Stdin, asked: SourceRequest<'a>) -> Unopened<'a, R>
         ensures { result.asked ≡ asked.entry }
@@ -336,7 +344,7 @@ impl<'a, R> Drop for Unopened<'a, R> {
 }
 
 /// No clause says what a path opens; what is opened gives the map.
-impl<'a, V: Version + Message, R: Host> Source<V> for Unopened<'a, R> {
+impl<'a, V: Version + Message, R: CommandRuntime> Source<V> for Unopened<'a, R> {
     ghost use Rattle.std.specs.Prelude.{⊤};
 
     ghost gives = { λ _ _. ⊤ };

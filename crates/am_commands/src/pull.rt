@@ -1,7 +1,7 @@
 //! A state of a running replica, as a snapshot.
 
 use crate::fault::{SourceFault, Stopped, report_stopped};
-use crate::host::{Host, Streams};
+use crate::host::{CommandRuntime, Streams};
 use crate::losses::warn_of_row;
 use crate::replica::{NO_STATES, answer_of, row_of};
 use am_diagnostics::{Fault, status};
@@ -12,7 +12,7 @@ use am_snapshot::{SnapshotError, sort_row};
 use am_wire::Unknown;
 
 /// Writes a state of a replica to standard output, and returns the exit status of the program.
-pub fn run_pull<R: Host>(rt: &R, streams: Streams, job: &PullJob<'_>) -> u8 {
+pub fn run_pull<R: CommandRuntime>(rt: &R, streams: Streams, job: &PullJob<'_>) -> u8 {
     match pull(rt, streams, job) {
         Ok(()) => status::DONE,
         Err(stopped) => report_stopped(rt, Some(job.name), &stopped),
@@ -20,7 +20,7 @@ pub fn run_pull<R: Host>(rt: &R, streams: Streams, job: &PullJob<'_>) -> u8 {
 }
 
 /// Writes what a replica holds to standard output, in the order of the keys.
-fn pull<R: Host>(rt: &R, streams: Streams, job: &PullJob<'_>) -> Result<(), Stopped> {
+fn pull<R: CommandRuntime>(rt: &R, streams: Streams, job: &PullJob<'_>) -> Result<(), Stopped> {
     let Streams {
         input: _,
         mut output,

@@ -6,7 +6,7 @@ ghost use Rattle.am_wire.specs.Inputs.{AreMessages};
 ghost use Rattle.am_merge.specs.Views.{HoldsBest};
 
 use crate::fault::{Stopped, add, report_stopped};
-use crate::host::{Host, Streams};
+use crate::host::{CommandRuntime, Streams};
 use crate::losses::warn_of_rows;
 use crate::mending::{Addressee, Mending};
 use crate::moment::moment_of;
@@ -28,7 +28,7 @@ use std::io::{Read, Write};
 const IT: Addressee<'static> = Addressee { name: None };
 
 /// Sends a replica what it lacks of the row on standard input, and returns the exit status of the program.
-pub fn run_push<R: Host>(rt: &R, streams: Streams, job: &PushJob<'_>) -> u8 {
+pub fn run_push<R: CommandRuntime>(rt: &R, streams: Streams, job: &PushJob<'_>) -> u8 {
     let now = match moment_of(rt, job.now) {
         Ok(now) => now,
         Err(fault) => return report(rt, fault),
@@ -45,7 +45,7 @@ pub fn run_push<R: Host>(rt: &R, streams: Streams, job: &PushJob<'_>) -> u8 {
 }
 
 /// Sends a replica what it lacks. Returns whether it lacks something then, or would be sent something.
-fn push<R: Host, V: Candidate + Message + ReportLine>(
+fn push<R: CommandRuntime, V: Candidate + Message + ReportLine>(
     rt: &R,
     streams: Streams,
     job: &PushJob<'_>,
@@ -98,7 +98,10 @@ pub fn write_text<W: Write>(output: &mut W, text: &[u8]) -> Result<(), Stopped> 
 }
 
 /// Returns what a replica holds now.
-fn held_now<R: Host, V: Version + Message>(rt: &R, job: &PushJob<'_>) -> Result<Held<V>, Stopped> {
+fn held_now<R: CommandRuntime, V: Version + Message>(
+    rt: &R,
+    job: &PushJob<'_>,
+) -> Result<Held<V>, Stopped> {
     match held_by(rt, &job.to) {
         Ok(held) => Ok(held),
         Err(fault) => Err(Stopped::of_first(fault)),

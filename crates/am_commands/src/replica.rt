@@ -1,8 +1,8 @@
 //! Running replicas, which are asked by their gossip.
 
 use crate::fault::SourceFault;
-use crate::host::Host;
-use crate::opened::{Origin, Row, row_from};
+use crate::host::CommandRuntime;
+use crate::opened::{Row, RowOrigin, row_from};
 use am_diagnostics::Fault;
 use am_gossip::StateKey;
 use am_memberlist::{AnswerError, Said, read_message, request_encoding, row_in, unpack_answer};
@@ -52,7 +52,7 @@ pub fn key_of(state: StateName) -> StateKey {
 
 /// A replica's message, as far as one state goes.
 #[derive(Clone, Copy)]
-enum Answer<'m> {
+enum ReplicaAnswer<'m> {
     /// The row of the state that was asked for.
     Row(&'m [u8]),
     /// The words of its error.
@@ -61,14 +61,18 @@ enum Answer<'m> {
 
 /// Sends a replica states, perhaps none, and returns the row of a state that it held before. Once it has answered it has taken
 /// them.
-pub fn exchange<R: Host>(rt: &R, job: &PullJob<'_>, states: &[u8]) -> Result<Vec<u8>, SourceFault> {
+pub fn exchange<R: CommandRuntime>(
+    rt: &R,
+    job: &PullJob<'_>,
+    states: &[u8],
+) -> Result<Vec<u8>, SourceFault> {
     let message = answer_of(rt, job, states)?;
     let row = row_of(rt.alloc(), job, &message)?;
     copied(rt.alloc(), row)
 }
 
 /// Sends a replica states, and returns its message.
-pub fn answer_of<R: Host>(
+pub fn answer_of<R: CommandRuntime>(
     rt: &R,
     job: &PullJob<'_>,
     states: &[u8],
@@ -80,7 +84,11 @@ pub fn answer_of<R: Host>(
 }
 
 /// Sends a replica states, and returns its message, or why there is none.
-fn message_of<R: Host>(rt: &R, job: &PullJob<'_>, states: &[u8]) -> Result<Vec<u8>, Fault> {
+fn message_of<R: CommandRuntime>(
+    rt: &R,
+    job: &PullJob<'_>,
+    states: &[u8],
+) -> Result<Vec<u8>, Fault> {
     let alloc = rt.alloc();
     let request = request_encoding(alloc, states)?;
     let answer = ask(alloc, rt, &job.replica, &request, job.time_limit)?;
@@ -94,8 +102,8 @@ pub fn row_of<'m>(
     message: &'m [u8],
 ) -> Result<&'m [u8], SourceFault> {
     match said_in(alloc, message, key_of(job.state)) {
-        Ok(Answer::Row(row)) => Ok(row),
-        Ok(Answer::Words(words)) => {
+        Ok(ReplicaAnswer::Row(row)) => Ok(row),
+        Ok(ReplicaAnswer::Words(words)) => {
             let words = copied(alloc, first_words(words))?;
             Err(SourceFault::Words(words))
         }
@@ -112,13 +120,13 @@ fn copied(alloc: Global, bytes: &[u8]) -> Result<Vec<u8>, SourceFault> {
 }
 
 /// Reads what a message says of a state.
-fn said_in(alloc: Global, message: &[u8], key: StateKey) -> Result<Answer<'_>, Fault> {
+fn said_in(alloc: Global, message: &[u8], key: StateKey) -> Result<ReplicaAnswer<'_>, Fault> {
     match read_message(alloc, message)? {
         Said::States(states) => match row_in(alloc, states, key)? {
-            Some(row) => Ok(Answer::Row(row)),
+            Some(row) => Ok(ReplicaAnswer::Row(row)),
             None => Err(Fault::Gossip(AnswerError::NoState)),
         },
-        Said::Error(words) => Ok(Answer::Words(words)),
+        Said::Error(words) => Ok(ReplicaAnswer::Words(words)),
     }
 }
 
@@ -128,16 +136,19 @@ fn first_words(words: &[u8]) -> &[u8] {
 }
 
 /// Asks a replica for a state, and returns its row, which is to be read.
-pub fn told_by<R: Host>(rt: &R, job: &PullJob<'_>) -> Result<BufReader<Row>, SourceFault> {
+pub fn told_by<R: CommandRuntime>(
+    rt: &R,
+    job: &PullJob<'_>,
+) -> Result<BufReader<Row>, SourceFault> {
     let bytes = exchange(rt, job, NO_STATES)?;
-    match row_from(rt, job.state, Origin::Replica(ToldRow { bytes, at: 0 })) {
+    match row_from(rt, job.state, RowOrigin::Replica(ToldRow { bytes, at: 0 })) {
         Ok(reader) => Ok(reader),
         Err(_) => Err(SourceFault::Own(Fault::Memory(AllocError))),
     }
 }
 
 /// Asks a replica for a state, and returns the map of its versions with their unknown fields.
-pub fn held_by<R: Host, V: Version + Message>(
+pub fn held_by<R: CommandRuntime, V: Version + Message>(
     rt: &R,
     job: &PullJob<'_>,
 ) -> Result<Held<V>, SourceFault> {

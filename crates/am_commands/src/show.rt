@@ -9,15 +9,15 @@ ghost use Rattle.am_commands.specs.Opening.{EndsAt};
 ghost use Rattle.am_commands.specs.Showing.{shown_text, StopsShowing, IsShown, OpensFile, StopsFile, file_or_input, show_reading};
 
 use crate::fault::{SourceFault, Stopped, report_stopped};
-use crate::host::{Host, Streams};
+use crate::host::{CommandRuntime, Streams};
 use crate::losses::{HasLosses, warn_of_source};
 use crate::moment::{moment_of, warn};
-use crate::opened::{Keys, Reading, SourceRequest, Unopened};
+use crate::opened::{Keys, ReadOptions, SourceRequest, Unopened};
 use crate::source::Source;
 use am_diagnostics::{report, status};
 use am_merge::Held;
 use am_nflog::MeshEntry;
-use am_options::{Form, STANDARD_INPUT, ShowJob, SourceWord, StateName};
+use am_options::{STANDARD_INPUT, ShowJob, SourceWord, StateName, ViewForm};
 use am_report::{InJson, has_later, write_view, write_view_json};
 use am_silence::MeshSilence;
 use am_snapshot::SnapshotError;
@@ -28,7 +28,7 @@ use std::io::Write;
 use std::mem;
 
 /// Shows what of a snapshot is live, and returns the exit status of the program.
-pub fn run_show<'a, R: Host>(rt: &'a R, streams: Streams, job: &ShowJob<'a>) -> u8 {
+pub fn run_show<'a, R: CommandRuntime>(rt: &'a R, streams: Streams, job: &ShowJob<'a>) -> u8 {
     let now = match moment_of(rt, job.now) {
         Ok(now) => now,
         Err(fault) => return report(rt, fault),
@@ -48,7 +48,7 @@ pub fn run_show<'a, R: Host>(rt: &'a R, streams: Streams, job: &ShowJob<'a>) -> 
 /// Shows the file of a job at a moment, or standard input if it names none. Returns the exit status of the program.
 fn show_file<
     'a,
-    R: Host,
+    R: CommandRuntime,
     V: Viewed + InJson,
     S: Source<V> + HasLosses,
     F: Fn(SourceRequest<'a>) -> Result<S, SourceFault>,
@@ -97,7 +97,7 @@ fn request_of<'a>(job: &ShowJob<'a>) -> SourceRequest<'a>
     SourceRequest {
         word: SourceWord { name: file, file },
         has_logs: job.has_logs,
-        reading: Reading {
+        reading: ReadOptions {
             state: job.state,
             keys: Keys::Once,
             most: MOST_MESSAGE_BYTES as u32,
@@ -162,7 +162,7 @@ impl Viewed for MeshEntry {
 fn write_form<V: Viewed + InJson, W: Write>(
     alloc: Global,
     held: &Held<V>,
-    form: Form,
+    form: ViewForm,
     now: Moment,
     writer: &mut W,
 ) -> Result<u64, SnapshotError>
@@ -170,8 +170,8 @@ fn write_form<V: Viewed + InJson, W: Write>(
     ensures stopped { IfErr result (StopsWriting W.contents writer.old writer.new (shown_text V.seen V.lines V.value form now held.now)) }
 {
     match form {
-        Form::Lines => V::write_lines(alloc, held, now, writer),
-        Form::Json => write_view_json(alloc, held, now, writer),
+        ViewForm::Lines => V::write_lines(alloc, held, now, writer),
+        ViewForm::Json => write_view_json(alloc, held, now, writer),
     }
 }
 
@@ -187,7 +187,7 @@ fn write_form<V: Viewed + InJson, W: Write>(
 pub fn show_source<V: Viewed + InJson, S: Source<V>, W: Write>(
     alloc: Global,
     source: &mut S,
-    form: Form,
+    form: ViewForm,
     now: Moment,
     writer: &mut W,
 ) -> Result<bool, Stopped>

@@ -10,19 +10,19 @@ ghost use Rattle.am_commands.specs.Reading.{IsRead, StopsReading};
 ghost use Rattle.am_commands.specs.Folding.{IsFoldOf};
 
 use crate::fault::{SourceFault, Stopped, add};
-use crate::opened::{Reading, SourceRequest};
+use crate::opened::{ReadOptions, SourceRequest};
 use am_merge::Held;
 use am_options::SourceWord;
-use am_report::Replica;
+use am_report::HeldSource;
 use am_version_order::{Moment, Version};
 use std::alloc::{AllocError, Global};
 
 /// A source of versions, which is read once, to its end.
 pub trait Source<V: Version>: Drop {
-    /// Reading it may give this map.
+    /// ReadOptions it may give this map.
     ghost gives: { Self → List V → Type 0 };
 
-    /// Reading it may stop with this fault.
+    /// ReadOptions it may stop with this fault.
     ghost stops: { Self → SourceFault → Type 0 };
 
     /// Reads it, and returns the map that it holds.
@@ -52,7 +52,7 @@ pub fn inputs_of<'n, S: Drop, F: Fn(SourceRequest<'n>) -> Result<S, SourceFault>
     alloc: Global,
     words: &[SourceWord<'n>],
     has_logs: bool,
-    reading: Reading,
+    reading: ReadOptions,
     source_of: F,
 ) -> Result<Vec<Input<'n, S>>, Stopped>
     requires { F.IsAlwaysCallable source_of }
@@ -89,12 +89,12 @@ pub fn inputs_of<'n, S: Drop, F: Fn(SourceRequest<'n>) -> Result<S, SourceFault>
 fn read_one<'n, V: Version, S: Source<V>>(
     alloc: Global,
     input: &mut Input<'n, S>,
-) -> Result<Replica<'n, V>, SourceFault>
+) -> Result<HeldSource<'n, V>, SourceFault>
     ensures read { IfOk result (IsRead V.seen V.Key.cmp S.gives input.old) }
     ensures fault { IfErr result (S.stops input.old.source) }
 {
     let held = input.source.read(alloc)?;
-    Ok(Replica::new(input.name, held))
+    Ok(HeldSource::new(input.name, held))
 }
 
 /// Reads sources, each to its end before the next.
@@ -105,7 +105,7 @@ fn read_one<'n, V: Version, S: Source<V>>(
 pub fn read_sources<'n, V: Version, S: Source<V>>(
     alloc: Global,
     inputs: &mut [Input<'n, S>],
-) -> Result<Vec<Replica<'n, V>>, Stopped>
+) -> Result<Vec<HeldSource<'n, V>>, Stopped>
     ensures read { IfOk result (λ replicas. AllZip (IsRead V.seen V.Key.cmp S.gives) inputs.old replicas.items) }
     ensures stopped { IfErr result (StopsReading V.seen V.Key.cmp S.gives S.stops inputs.old) }
 {

@@ -1,4 +1,4 @@
--- What becomes of the frames that wait for a peer, over all calls of a member.
+-- The account of the frames that wait for a peer, over all calls of a member.
 use Rattle.std.proofs.Common.{◌≡◌, ◌≢◌, ◌∙◌, ◌⊎◌, ◌==◌, ℕ, Bool, true, false, not, List, [], ◌∷◌, ◌++◌, map, Option, None, Some, Result, Ok, Err, ap, arith, cond, length, set, inl, inr, refl, sym, subst}
 use Rattle.am_peer_auth.specs.declared.seal.Lock.{Lock}
 use Rattle.std.proofs.lemmas.Bool.{cases_lt, ne_eqb}

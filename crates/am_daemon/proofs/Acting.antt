@@ -1,4 +1,4 @@
--- What a member does by itself, and what waits for peers then.
+-- A member's own work, and the frames that wait for peers then.
 use Rattle.std.proofs.Common.{◌≡◌, ◌∙◌, ℕ, Option, None, Some, Result, ap, inl, inr, refl, subst, sym}
 use Rattle.std.specs.Prelude.{if◌then◌else◌}
 use Rattle.am_backend.specs.Outbound.{IsSentOn}

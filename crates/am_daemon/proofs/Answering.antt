@@ -1,4 +1,4 @@
--- What was said is taken, from what its steps were.
+-- The words of a connection are taken, from the steps that they ask for.
 use Rattle.std.proofs.Common.{◌≡◌, ◌∙◌, ℕ, false, Bor, List, Option, None, Some, Ok, inl, refl, sym, subst}
 use Rattle.std.proofs.lemmas.Option.{none-some}
 use Rattle.std.specs.Option.{is_some, option_copied}

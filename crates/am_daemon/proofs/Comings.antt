@@ -1,4 +1,4 @@
--- What comes of an Alertmanager's answer.
+-- The taking of an Alertmanager's answer.
 use Rattle.std.proofs.Common.{ℕ, Option, None, Some}
 use Rattle.std.specs.Prelude.{option_map}
 use Rattle.am_alertmanager.specs.Comings.{frame_in}

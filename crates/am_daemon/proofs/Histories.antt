@@ -1,4 +1,4 @@
--- Where the frames come from that wait for peers, over all calls of a member.
+-- The sources of the frames that wait for peers, over all calls of a member.
 use Rattle.std.proofs.Common.{◌≡◌, ◌⊎◌, ℕ, Bool, true, false, List, [], ◌∷◌, Contains, Option, None, Some, Result, Ok, Err, ap, arith, inl, inr, refl, subst, ⊎_elim}
 use Rattle.std.proofs.lemmas.List.Elements.{All-contains, All-contains_itself, All-filter, Contains-append_cases}
 use Rattle.std.specs.Prelude.{◌==◌, if◌then◌else◌, not}

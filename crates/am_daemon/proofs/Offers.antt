@@ -1,4 +1,4 @@
--- What a member gives for its peers.
+-- The bytes that a member gives for its peers.
 use Rattle.std.proofs.Common.{◌≡◌, ◌∙◌, ◌<◌, ◌≤◌, ◌==◌, ℕ, Bool, true, false, not, List, [], ◌∷◌, ◌++◌, length, max, suc, zero, get_or, set, map, Option, None, Some, ap, arith, cond, inl, inr, refl, rules, subst, sym}
 use Rattle.std.proofs.lemmas.List.{get_or-map, get_or-set_same, length-set, map-set}
 use Rattle.std.proofs.lemmas.Option.{slice_get_read}

@@ -1,4 +1,4 @@
--- What is being made is taken out, and goes on.
+-- A reply that is being made is taken out, and goes on.
 use Rattle.std.proofs.Common.{◌≡◌, ap, refl, subst}
 use Rattle.am_api_silences.specs.declared.reply_builder.ReplyBuilder.{ReplyBuilder}
 use Rattle.am_server.proofs.Calls.{given_owed}

@@ -1,4 +1,4 @@
--- What is passed on, from what the calls inside pass on.
+-- The frames that a call passes on, from those that the calls inside pass on.
 use Rattle.std.proofs.Common.{◌≡◌, ◌∙◌, ℕ, List, Option, ap, inl, inr, subst, sym}
 use Rattle.am_api_decisions.proofs.Same.{same_is, same_on}
 use Rattle.am_api_decisions.specs.Asking.{HoldsSame}

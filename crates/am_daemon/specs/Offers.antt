@@ -1,4 +1,4 @@
--- What a member gives for its peers: the frames that wait for each, and then parts of all that is held.
+-- The bytes that a member gives for its peers: of the frames that wait for each, and then of parts of all that is held.
 use Rattle.std.specs.Prelude.{◌≡◌, ◌⊎◌, ℕ, ◌+◌, Bool, true, false, if◌then◌else◌, nat_le, List, [], ◌∷◌, ◌++◌, length, take, map, slice_set, slice_index_or, Option, Some, None, is_some, ⊤}
 use Rattle.std.specs.List.{flat_map}
 use Rattle.std.specs.declared.net.SocketAddr.{SocketAddr}
@@ -147,8 +147,8 @@ AreNext (frame ∷ put_by) frames = frames ≡ frame ∷ put_by
 abbrev pub AreLost : List Frame → Sent → Sent → Type 0
 AreLost put_by old new = ((put_by ≡ []) × (new ≡ old)) ⊎ ((frames : List Frame) × AreNext put_by frames × (new ≡ left_out (length frames) old))
 
--- What a peer is given over the link that answered: the encoding of the frames that go to it next, sealed from their place in the
--- connection on. Or nothing, and the link is closed.
+-- A peer is given the encoding of the frames that go to it next, over the link that answered, sealed from their place in the connection
+-- on. Or it is given nothing, and the link is closed.
 abbrev pub IsGiven : Settings → ℕ → List ℕ → Option (List ℕ) → ForPeers → ForPeers → Type 0
 IsGiven config peer answer (Some bytes) old new = (frames : List Frame) × AreNext (put_by_for old peer).frames frames
     × IsEncodingFor old.lock config peer (place_in answer (put_by_for old peer).number) frames bytes

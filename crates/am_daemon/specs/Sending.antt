@@ -1,4 +1,4 @@
--- What becomes of what steps send.
+-- The fate of the frames that steps send.
 use Rattle.std.specs.Prelude.{◌≡◌, ◌⊎◌, ℕ, List, map, Option, None, Some, Result}
 use Rattle.am_api_decisions.specs.Asking.{HoldsSame}
 use Rattle.am_api_decisions.specs.Noticing.{IsNoticed}
@@ -31,8 +31,8 @@ pub record Outlets : Type 0 where
 abbrev pub outlets : {U : Type 0} → (U → Store) → (U → Sent) → ServerState U → Outlets
 outlets store_of outbound state = record { store = store_of state.backend; queue = outbound state.backend; put_by = map put_by_of state.pending_frames.items }
 
--- What was sent is passed on: with logs, what is for the place of the disk is logged, or the logs are known to lack it; and what is
--- for peers waits behind what waited before, in order, or memory ran out, and just those frames are counted. What is put by stays.
+-- The frames that were sent are passed on: with logs, those for the place of the disk are logged, or the logs are known to lack them; and
+-- those for peers wait behind the others, in order, or memory ran out, and just they are counted. All that is put by stays.
 pub record IsPassedOn (sent : Sent) (old new : Outlets) : Type 0 where
   pub logged : IsFollowed sent old.store new.store
   pub queued : IsQueued (disk_of old.store.commit_state) sent old.queue new.queue
@@ -61,7 +61,7 @@ pub record IsQuiet (old : InstanceState) (was : Outlets) (new : InstanceState) (
   pub same : HoldsSame old new
   pub stays : is ≡ was
 
--- What is held changed only by steps of what a connection said, or of a notice, and just what they send is passed on.
+-- The maps changed only by steps that a connection asked for, or of a notice, and just the frames that these send are passed on.
 pub record PassesOn (old : InstanceState) (was : Outlets) (new : InstanceState) (is : Outlets) : Type 0 where
   pub by : IsQuiet old was new is ⊎ (SaidIsPassedOn old was new is ⊎ NoticeIsPassedOn old was new is)
 
@@ -78,8 +78,8 @@ FrameIsSentOn None disk old was new is = (new ≡ old) × (is ≡ was)
 FrameIsSentOn (Some came) disk old was new is = (now : ℕ) × (answer : Result Outcome StepError) × IsStep old (events.Frame came.0 came.1) now answer new
     × IsSentOn disk answer was.queue is.queue × (is ≡ record was { queue = is.queue })
 
--- What was due was done: perhaps a Tick, which sends nothing to peers, and then the step of an Alertmanager's frame, if one came. Beside
--- that, only frames that aren't sent are counted.
+-- A member was woken: perhaps it made a Tick, which sends nothing to peers, and then the step of an Alertmanager's frame, if one came.
+-- Beside that, only frames that aren't sent are counted.
 pub record IsWoken (disk : Option ℕ) (old : InstanceState) (was : ForPeers) (new : InstanceState) (is : ForPeers) : Type 0 where
   pub ticked : InstanceState
   pub before : ForPeers

@@ -1,4 +1,4 @@
--- What the cases of a decision come to.
+-- The outcome of each case of a decision.
 use Rattle.std.proofs.Common.{rules, arith, ◌≡◌, ℕ, Bool, true, false, refl, sym, ◌∙◌, ap, None, Some, ◌+◌, ◌≤◌, not, nat_lt, ◌&&◌}
 use Rattle.std.specs.Ordering.{nat_cmp}
 use Rattle.std.specs.FinSet.{contains, is_subset, is_subset-contains, contains-is_subset, empty_of_len, contains-empty}

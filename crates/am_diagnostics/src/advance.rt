@@ -52,17 +52,17 @@ fn since_1970(moment: Moment) -> Duration
 
 /// A reading of a clock, as the time since 1970, and the instant of the reading.
 #[derive(Clone, Copy)]
-struct Reading {
+struct ClockReading {
     since_1970: Duration,
     at: Instant,
 }
 
-impl Reading {
+impl ClockReading {
     /// Reads both clocks now, if they can be read.
-    fn now<C: Clock>(clock: &C) -> Option<Reading> {
+    fn now<C: Clock>(clock: &C) -> Option<ClockReading> {
         let at = Instant::now(clock).ok()?;
         let since_1970 = clock.since_1970().ok()?;
-        Some(Reading { since_1970, at })
+        Some(ClockReading { since_1970, at })
     }
 
     /// Returns the time by which a moment is ahead of this reading and the time that has passed since.
@@ -80,7 +80,7 @@ pub struct Advance {
     /// The most time that the clock may go ahead at once.
     retention: Duration,
     /// The last reading that was believed.
-    believed: Option<Reading>,
+    believed: Option<ClockReading>,
     /// The moment when the member tells next that its time is far ahead, while it is.
     next: Option<Instant>,
 }
@@ -92,7 +92,7 @@ impl Advance {
     {
         Advance {
             retention,
-            believed: Reading::now(clock),
+            believed: ClockReading::now(clock),
             next: None,
         }
     }
@@ -114,7 +114,7 @@ impl Advance {
             → self.new ≡ record self.old { believed = Some (record { since_1970 = since_1970; at = now }) } }
     {
         if let TickVerdict::Made = self.judge(later_moment(since_1970, Moment::LEAST), now) {
-            self.believed = Some(Reading {
+            self.believed = Some(ClockReading {
                 since_1970,
                 at: now,
             });

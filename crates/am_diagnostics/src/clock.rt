@@ -10,7 +10,7 @@ const AGAIN: u64 = 60;
 
 /// The watch on a clock.
 #[derive(Clone, Copy)]
-pub struct Watch {
+pub struct ClockWatch {
     /// The moment when the member tells next that the clock is behind, while it is.
     next: Option<Instant>,
 }
@@ -31,10 +31,10 @@ pub(crate) fn is_before(now: Instant, next: Option<Instant>) -> bool {
     }
 }
 
-impl Watch {
+impl ClockWatch {
     /// Returns a watch that has told nothing yet.
-    pub fn new() -> Watch {
-        Watch { next: None }
+    pub fn new() -> ClockWatch {
+        ClockWatch { next: None }
     }
 
     /// Compares what the clock says, as the time since 1970, with the moment of the last event, and returns the fault to tell, if

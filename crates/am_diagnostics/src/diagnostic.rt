@@ -40,19 +40,19 @@ impl Diagnostic {
 
 /// A line that is printed of faults.
 #[derive(Clone, Copy)]
-enum Line {
+enum ReportedLine {
     /// A fault.
     One(Diagnostic),
     /// A count of more faults like this one.
     Count(u64, Diagnostic),
 }
 
-impl Line {
+impl ReportedLine {
     /// Prints the line. The members' names are in the order of their places.
     fn print<R: Clock + Eprint>(&self, rt: &R, members: &[Text]) {
         match self {
-            Line::One(told) => print(rt, &told.fault, &told.occasion(rt, members)),
-            Line::Count(count, last) => {
+            ReportedLine::One(told) => print(rt, &told.fault, &told.occasion(rt, members)),
+            ReportedLine::Count(count, last) => {
                 print_count(rt, *count, &last.fault, &last.occasion(rt, members));
             }
         }
@@ -61,15 +61,15 @@ impl Line {
     /// Returns the number of faults that the line tells.
     fn count(&self) -> u64 {
         match self {
-            Line::One(_) => 1,
-            Line::Count(count, _) => *count,
+            ReportedLine::One(_) => 1,
+            ReportedLine::Count(count, _) => *count,
         }
     }
 }
 
 /// The tally of the lines of one kind in a second.
 #[derive(Clone, Copy)]
-struct Tally {
+struct LineWindow {
     /// The moment when the second is over.
     end: Option<Instant>,
     printed: u32,
@@ -83,7 +83,7 @@ struct Tally {
 pub struct DiagnosticPrinter {
     /// The most lines of a kind in a second.
     most: u32,
-    tallies: [Tally; FaultKind::COUNT],
+    tallies: [LineWindow; FaultKind::COUNT],
     output: StandardError,
     /// The number of faults that weren't told, since nobody read the lines before.
     lost: u64,
@@ -93,14 +93,14 @@ pub struct DiagnosticPrinter {
 const LOOK_EVERY: u64 = 500;
 
 /// A tally of no lines.
-const NONE: Tally = Tally {
+const NONE: LineWindow = LineWindow {
     end: None,
     printed: 0,
     left_out: 0,
     last: None,
 };
 
-impl Tally {
+impl LineWindow {
     /// Returns whether a second has begun that is over by now.
     fn is_over(&self, now: Instant) -> bool {
         match self.end {
@@ -124,9 +124,9 @@ impl Tally {
     }
 
     /// Returns the line that counts the faults that were left out, if any were, and begins anew.
-    fn settle(&mut self) -> Option<Line> {
-        let Tally { left_out, last, .. } = mem::replace(self, NONE);
-        Some(Line::Count(left_out, last?))
+    fn settle(&mut self) -> Option<ReportedLine> {
+        let LineWindow { left_out, last, .. } = mem::replace(self, NONE);
+        Some(ReportedLine::Count(left_out, last?))
     }
 }
 
@@ -148,13 +148,13 @@ impl DiagnosticPrinter {
     /// Prints a fault, or counts it as left out. The members' names are in the order of their places.
     pub fn tell<R: Clock + Eprint>(&mut self, rt: &R, members: &[Text], told: Diagnostic) {
         let Ok(now) = Instant::now(rt) else {
-            return self.print(rt, members, Some(Line::One(told)));
+            return self.print(rt, members, Some(ReportedLine::One(told)));
         };
         let kind = told.fault.kind();
         self.settle_kind(rt, members, kind, Some(now));
         let tally = &mut self.tallies[kind as usize];
         if tally.count(told, self.most, now) {
-            self.print(rt, members, Some(Line::One(told)));
+            self.print(rt, members, Some(ReportedLine::One(told)));
         }
     }
 
@@ -175,12 +175,12 @@ impl DiagnosticPrinter {
             fault: Fault::LinesLost(mem::replace(&mut self.lost, 0)),
             peer: None,
         };
-        Line::One(lost).print(rt, members);
+        ReportedLine::One(lost).print(rt, members);
         self.output.has_room()
     }
 
     /// Prints a line, if there is one and it finds room.
-    fn print<R: Clock + Eprint>(&mut self, rt: &R, members: &[Text], line: Option<Line>) {
+    fn print<R: Clock + Eprint>(&mut self, rt: &R, members: &[Text], line: Option<ReportedLine>) {
         let Some(line) = line else {
             return;
         };

@@ -16,7 +16,7 @@ use am_memberlist::AnswerError;
 use am_peer_auth::{AuthFault, SecretFault};
 use am_peers::{ConnectionFault, ServerFault};
 use am_reactor::LinkFault;
-use am_report::Word;
+use am_report::EscapedWord;
 use am_silence_json::ListError;
 use am_snapshot::SnapshotError;
 use am_store::FileFault;
@@ -54,7 +54,10 @@ pub fn report_source<R: Eprint + HasAudience>(rt: &R, name: &str, fault: Fault) 
     ensures status { result ≡ fault_status fault }
     ensures some { (1 ≤ result) × (result ≤ 4) }
 {
-    let (name, remark) = (Word(name.as_bytes()), rt.audience().told(fault.meaning()));
+    let (name, remark) = (
+        EscapedWord(name.as_bytes()),
+        rt.audience().told(fault.meaning()),
+    );
     let _ = eprintln!(rt; "am_tool: {name} {fault}{remark}");
     fault.status()
 }

@@ -15,7 +15,7 @@ pub mod status;
 
 pub use advance::{Advance, TickVerdict, judge_tick};
 pub use audience::{Audience, HasAudience, Remark};
-pub use clock::Watch;
+pub use clock::ClockWatch;
 pub use diagnostic::{Diagnostic, DiagnosticPrinter};
 pub use fault::{Fault, print, print_count, report, report_source};
 pub use occasion::Occasion;

@@ -1,6 +1,6 @@
 //! The occasion of a fault of a running member: when it is told, and of which peer.
 
-use am_report::Word;
+use am_report::EscapedWord;
 use am_silence_json::moments::write_moment;
 use am_version_order::Moment;
 use std::fmt;
@@ -29,7 +29,7 @@ impl fmt::Display for Occasion<'_> {
     fn fmt<W: fmt::Write>(&self, f: &mut fmt::Formatter<W>) -> fmt::Result {
         match (self.peer, self.moment) {
             (Some(peer), Some(moment)) => {
-                write!(f, " (peer {}, ", Word(peer.as_bytes()))?;
+                write!(f, " (peer {}, ", EscapedWord(peer.as_bytes()))?;
                 write_second(moment, f)?;
                 f.write_str(")")
             }
@@ -38,7 +38,7 @@ impl fmt::Display for Occasion<'_> {
                 write_second(moment, f)?;
                 f.write_str(")")
             }
-            (Some(peer), None) => write!(f, " (peer {})", Word(peer.as_bytes())),
+            (Some(peer), None) => write!(f, " (peer {})", EscapedWord(peer.as_bytes())),
             (None, None) => Ok(()),
         }
     }

@@ -1,6 +1,6 @@
 //! Identifiers in lines.
 
-use am_report::Word;
+use am_report::EscapedWord;
 use std::fmt::{self, Display, Formatter};
 
 /// The most bytes of an identifier that a line prints: all those of the identifiers that Alertmanagers and members make.
@@ -26,6 +26,6 @@ impl ShortId {
 impl Display for ShortId {
     fn fmt<W: fmt::Write>(&self, f: &mut Formatter<W>) -> fmt::Result {
         let id = self.bytes.get(..self.count).unwrap_or(&[]);
-        write!(f, "{}", Word(id))
+        write!(f, "{}", EscapedWord(id))
     }
 }

@@ -1,4 +1,4 @@
--- What is read as a greeting is one.
+-- Bytes that are read as a greeting are one.
 use Rattle.std.proofs.Common.{◌≡◌, ℕ, suc, ◌+◌, ◌<◌, ◌≤◌, ltb, eqb, true, false, cond, ◌||◌, List, [], ◌∷◌, ◌++◌, length, take, drop, length-drop, length-append, append_assoc, Option, Some, None, Result, Ok, Err, ◌⊎◌, inl, inr, refl, sym, ap, subst, ◌∙◌, arith}
 use Rattle.std.specs.Str.{IsUtf8, is_utf8}
 use Rattle.std.proofs.lemmas.Bool.{lt-ltb, le-ltb, ltb-false, eqb-true, eqb-false, ne_eqb, cases_lt}

@@ -1,4 +1,4 @@
--- What is read at the front of bytes is what they spell.
+-- The front of bytes is read as it spells.
 use Rattle.std.proofs.Common.{◌≡◌, ◌≢◌, ℕ, zero, suc, ◌+◌, ◌≤◌, ltb, eqb, true, false, cond, List, [], ◌∷◌, ◌++◌, length, take, drop, length-drop, length-append, append_assoc, add-one, Option, Some, None, Result, Ok, Err, ◌⊎◌, inl, inr, refl, sym, ap, subst, ◌∙◌, arith}
 use Rattle.std.proofs.lemmas.Bool.{lt-ltb, le-ltb, ltb-true, eqb-true, cases_lt}
 use Rattle.std.proofs.lemmas.List.{take-append-drop, length-take-le, take_at, drop_at}

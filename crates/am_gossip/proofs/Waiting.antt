@@ -1,4 +1,4 @@
--- How far a frame was read.
+-- The progress in reading a frame.
 use Rattle.std.proofs.Common.{◌≡◌, ℕ, suc, ◌+◌, ◌-◌, ◌<◌, ◌≤◌, List, [], ◌∷◌, ◌++◌, length, take, drop, get_or, Result, Ok, Err, refl, sym, ap, ◌∙◌, append_assoc, arith, length-append}
 use Rattle.std.proofs.lemmas.List.{take-append-drop}
 use Rattle.std.proofs.Math.Seq.{take-suc, take-append-add}
@@ -9,8 +9,8 @@ use Rattle.am_gossip.specs.declared.frame.Frame as frame
 use Rattle.am_gossip.specs.declared.head.Head.{Head}
 use Rattle.am_gossip.specs.declared.header.HeaderProgress.{HeaderProgress}
 use Rattle.am_gossip.specs.declared.header.HeaderProgress.TheVariants.{Before, InLength, InPayload}
-use Rattle.am_gossip.specs.declared.reading.Read.{Read}
-use Rattle.am_gossip.specs.declared.reading.Read.TheVariants.{Frame, Waits, Fault}
+use Rattle.am_gossip.specs.declared.reading.FrameRead.{FrameRead}
+use Rattle.am_gossip.specs.declared.reading.FrameRead.TheVariants.{Frame, Waits, Fault}
 use Rattle.am_gossip.specs.Frames.{reads_payload}
 use Rattle.am_gossip.specs.Headers.{head, bad, header_of}
 use Rattle.am_gossip.specs.Streams.{incomplete, payload_front, front_of}
@@ -81,7 +81,7 @@ full_waits : (n : ℕ) (r : Result frame.Frame FrameError) → payload_front n r
 full_waits n (Ok f) h = cc
 full_waits n (Err e) h = cc
 
-pub whole_holds : (h : Head) (bytes payload held : List ℕ) (read : Read) → IsWhole h bytes payload → IsRead read bytes → Holds read bytes held
+pub whole_holds : (h : Head) (bytes payload held : List ℕ) (read : FrameRead) → IsWhole h bytes payload → IsRead read bytes → Holds read bytes held
 whole_holds h bytes payload held (Frame f n) is at = tt
 whole_holds h bytes payload held (Waits s) is at = absurd (full_waits _ _ (sym (whole_front h bytes payload is _ refl) ∙ at.unfinished))
 whole_holds h bytes payload held (Fault e) is at = tt

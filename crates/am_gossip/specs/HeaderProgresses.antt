@@ -3,8 +3,8 @@ use Rattle.std.specs.Prelude.{◌≡◌, ℕ, ◌+◌, ◌≤◌, List, [], ◌�
 use Rattle.am_gossip.specs.declared.error.FrameError.{FrameError}
 use Rattle.am_gossip.specs.declared.header.HeaderProgress.{HeaderProgress}
 use Rattle.am_gossip.specs.declared.header.HeaderProgress.TheVariants.{Before, InLength, InPayload}
-use Rattle.am_gossip.specs.declared.reading.Read.{Read}
-use Rattle.am_gossip.specs.declared.reading.Read.TheVariants.{Frame, Waits, Fault}
+use Rattle.am_gossip.specs.declared.reading.FrameRead.{FrameRead}
+use Rattle.am_gossip.specs.declared.reading.FrameRead.TheVariants.{Frame, Waits, Fault}
 use Rattle.am_gossip.specs.declared.reading.End.{End}
 use Rattle.am_gossip.specs.declared.reading.End.TheVariants as ends
 use Rattle.am_gossip.specs.declared.head.Head.{Head}
@@ -30,7 +30,7 @@ pub record IsWaiting (s : HeaderProgress) (bytes : List ℕ) : Type 0 where
   pub unfinished : front_of bytes ≡ incomplete
 
 -- the result of reading the front of the bytes
-abbrev pub IsRead : Read → List ℕ → Type 0
+abbrev pub IsRead : FrameRead → List ℕ → Type 0
 IsRead (Frame frame len) bytes = front_of bytes ≡ whole frame len
 IsRead (Waits s) bytes = IsWaiting s bytes
 IsRead (Fault e) bytes = front_of bytes ≡ fault e
@@ -42,7 +42,7 @@ pub record IsWhole (h : Head) (bytes payload : List ℕ) : Type 0 where
   pub payload_is : payload ≡ take h.size (drop h.len bytes)
 
 -- a frame that isn't whole is held
-abbrev pub Holds : Read → List ℕ → List ℕ → Type 0
+abbrev pub Holds : FrameRead → List ℕ → List ℕ → Type 0
 Holds (Waits s) bytes held = held ≡ bytes
 Holds read bytes held = ⊤
 

@@ -7,7 +7,7 @@ ghost use Rattle.am_gossip.specs.Streams.{stream_of, waiting_rest, fault_in, res
 use crate::error::FrameError;
 use crate::frame::Frame;
 use crate::header::HeaderProgress;
-use crate::reading::{End, Read, finish_frame, read_frames};
+use crate::reading::{End, FrameRead, finish_frame, read_frames};
 use std::alloc::Global;
 use std::marker::Model;
 
@@ -58,12 +58,12 @@ fn take_piece(
         return take_rest(alloc, frames, held, piece);
     }
     match finish_frame(alloc, held, progress, piece)? {
-        Read::Frame { frame, len } => {
+        FrameRead::Frame { frame, len } => {
             frames.push(frame)?;
             take_rest(alloc, frames, held, &piece[len - waiting..])
         }
-        Read::Waits(progress) => Ok((frames, End::Waits(progress))),
-        Read::Fault(e) => Ok((frames, End::Fault(e))),
+        FrameRead::Waits(progress) => Ok((frames, End::Waits(progress))),
+        FrameRead::Fault(e) => Ok((frames, End::Fault(e))),
     }
 }
 

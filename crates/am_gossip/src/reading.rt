@@ -14,7 +14,7 @@ use std::alloc::Global;
 
 /// The result of reading the front of a stream.
 #[derive(Drop)]
-pub enum Read {
+pub enum FrameRead {
     /// A frame of `len` bytes.
     Frame { frame: Frame, len: usize },
     /// The beginning of a frame.
@@ -31,37 +31,37 @@ pub enum End {
 }
 
 /// Reads a frame, whose header is read already, from its whole payload.
-fn read_whole(alloc: Global, head: Head, payload: &[u8]) -> Result<Read, FrameError>
+fn read_whole(alloc: Global, head: Head, payload: &[u8]) -> Result<FrameRead, FrameError>
     ensures read { IfOk result (λ read. (bytes : List ℕ) → IsWhole head bytes payload.now → IsRead read bytes) }
     ensures refused { IfErr result (λ e. e ≡ Memory) }
 {
     match read_payload(alloc, head.kind, payload) {
-        Ok(frame) => Ok(Read::Frame {
+        Ok(frame) => Ok(FrameRead::Frame {
             frame,
             len: head.len + head.size,
         }),
         Err(e) => match e {
             FrameError::Memory => Err(e),
-            _ => Ok(Read::Fault(e)),
+            _ => Ok(FrameRead::Fault(e)),
         },
     }
 }
 
 /// Reads the frame at the front of the bytes.
-pub fn read_frame(alloc: Global, bytes: &[u8]) -> Result<Read, FrameError>
+pub fn read_frame(alloc: Global, bytes: &[u8]) -> Result<FrameRead, FrameError>
     ensures read { IfOk result (λ read. IsRead read bytes.now) }
     ensures refused { IfErr result (λ e. e ≡ Memory) }
 {
     let progress = match read_header(HeaderProgress::Before, bytes) {
         Ok(progress) => progress,
-        Err(e) => return Ok(Read::Fault(e)),
+        Err(e) => return Ok(FrameRead::Fault(e)),
     };
     let HeaderProgress::InPayload(head) = progress else {
-        return Ok(Read::Waits(progress));
+        return Ok(FrameRead::Waits(progress));
     };
     let len = head.len + head.size;
     if bytes.len() < len {
-        return Ok(Read::Waits(progress));
+        return Ok(FrameRead::Waits(progress));
     }
     read_whole(alloc, head, &bytes[head.len..len])
 }
@@ -73,7 +73,7 @@ pub fn finish_frame(
     held: &mut Vec<u8>,
     progress: HeaderProgress,
     piece: &[u8],
-) -> Result<Read, FrameError>
+) -> Result<FrameRead, FrameError>
     requires { IsWaiting progress held.old.items }
     ensures read { IfOk result (λ read. IsRead read (held.old.items ++ piece.now)) }
     ensures waits { IfOk result (λ read. Holds read (held.old.items ++ piece.now) held.new.items) }
@@ -82,16 +82,16 @@ pub fn finish_frame(
 {
     let progress = match read_header(progress, piece) {
         Ok(progress) => progress,
-        Err(e) => return Ok(Read::Fault(e)),
+        Err(e) => return Ok(FrameRead::Fault(e)),
     };
     let HeaderProgress::InPayload(head) = progress else {
         held.extend_from_slice(piece)?;
-        return Ok(Read::Waits(progress));
+        return Ok(FrameRead::Waits(progress));
     };
     let missing = head.len + head.size - held.len();
     if piece.len() < missing {
         held.extend_from_slice(piece)?;
-        return Ok(Read::Waits(progress));
+        return Ok(FrameRead::Waits(progress));
     }
     held.extend_from_slice(&piece[..missing])?;
     read_whole(alloc, head, &held[head.len..])
@@ -110,12 +110,12 @@ pub fn read_frames<'a>(
     let mut rest = bytes;
     loop {
         match read_frame(alloc, rest)? {
-            Read::Frame { frame, len } => {
+            FrameRead::Frame { frame, len } => {
                 frames.push(frame)?;
                 rest = &rest[len..];
             }
-            Read::Waits(progress) => return Ok((rest, End::Waits(progress))),
-            Read::Fault(e) => return Ok((rest, End::Fault(e))),
+            FrameRead::Waits(progress) => return Ok((rest, End::Waits(progress))),
+            FrameRead::Fault(e) => return Ok((rest, End::Fault(e))),
         }
     }
 }

@@ -1,4 +1,4 @@
--- What is read of bytes, by how far the request has come.
+-- The reading of bytes, by the progress of the request.
 use Rattle.std.proofs.Common.{◌≡◌, ℕ, List, Bool, ◌∙◌}
 use Rattle.am_http.specs.Requests.{IsRequestIn, IsTakenFrom, IsReadOf}
 use Rattle.am_http.specs.declared.cause.Cause.TheVariants.{Memory}

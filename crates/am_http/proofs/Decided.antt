@@ -1,4 +1,4 @@
--- What is decided of the front of bytes is decided of them.
+-- A decision about the front of bytes is one about all of them.
 use Rattle.std.proofs.Common.{◌≡◌, ℕ, ◌+◌, ◌-◌, ◌≤◌, true, false, List, [], ◌++◌, length, take, length-append, append_assoc, inl, inr, sym, ap, subst, ◌∙◌, arith}
 use Rattle.std.specs.Prelude.{string_bytes}
 use Rattle.std.proofs.lemmas.Bool.{cases_lt}

@@ -1,4 +1,4 @@
--- What the fields of a head say of where a request comes from.
+-- The fields of a head by which the origin of a request is known.
 use Rattle.std.proofs.Common.{◌≡◌, ◌||◌, ℕ, Bool, true, false, List, length, take, map, refl, sym, ap, ◌∙◌, inr}
 use Rattle.httparse.specs.Spans.{IsRequestWithin, IsRequestOf, header_bytes, span_bytes}
 use Rattle.httparse.specs.declared.spans.HeaderSpan.{HeaderSpan}

@@ -1,4 +1,4 @@
--- What the parts of a head say of the bytes that came.
+-- The bytes that came, from the parts of a head.
 use Rattle.std.proofs.Common.{◌≡◌, ℕ, ◌+◌, ◌-◌, ◌<◌, ◌≤◌, List, length, take, drop, map, Result, Ok, Err, IsUtf8, sym, ap, subst, ◌∙◌, arith, length-drop}
 use Rattle.httparse.specs.Grammar.{RequestHead, print_request}
 use Rattle.httparse.specs.Spans.{IsRequestWithin, IsRequestOf, header_bytes, span_bytes}

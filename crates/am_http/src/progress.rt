@@ -11,7 +11,7 @@ use httparse::spans::{EMPTY_HEADER_SPAN, Span};
 
 /// The parts of a whole request.
 #[derive(Clone, Copy)]
-pub struct Parts<'a> {
+pub struct RequestParts<'a> {
     pub method: &'a str,
     pub target: &'a str,
     pub body: &'a [u8],
@@ -24,7 +24,7 @@ pub enum RequestProgress<'a> {
     Head,
     /// The head is whole, and the request ends at the byte `end`, which hasn't come.
     Body { end: usize },
-    Whole(Parts<'a>),
+    Whole(RequestParts<'a>),
     Refused(Cause),
 }
 
@@ -57,7 +57,7 @@ pub fn progress_of(bytes: &[u8]) -> RequestProgress<'_>
     if bytes.len() < end {
         return RequestProgress::Body { end };
     }
-    RequestProgress::Whole(Parts {
+    RequestProgress::Whole(RequestParts {
         method: text_at(front, head.method),
         target: text_at(front, head.path),
         body: &bytes[head.len..end],

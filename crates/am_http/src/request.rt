@@ -4,7 +4,7 @@ ghost use Rattle.std.specs.Prelude.{◌≡◌, IfOk, string_bytes};
 ghost use Rattle.am_http.specs.Requests.{IsReadOf, IsTakenFrom, IsUnfinished};
 
 use crate::cause::Cause;
-use crate::progress::{Parts, RequestProgress, progress_of};
+use crate::progress::{RequestParts, RequestProgress, progress_of};
 use crate::refusal::Refusal;
 use std::alloc::{AllocError, Global};
 
@@ -27,7 +27,7 @@ pub enum Read {
 }
 
 /// Returns a request that owns these parts.
-fn owned(alloc: Global, parts: Parts<'_>) -> Result<Request, AllocError>
+fn owned(alloc: Global, parts: RequestParts<'_>) -> Result<Request, AllocError>
     ensures method { IfOk result (λ r. string_bytes r.method ≡ parts.entry.method.now) }
     ensures target { IfOk result (λ r. string_bytes r.target ≡ parts.entry.target.now) }
     ensures body { IfOk result (λ r. r.body.items ≡ parts.entry.body.now) }
@@ -40,7 +40,7 @@ fn owned(alloc: Global, parts: Parts<'_>) -> Result<Request, AllocError>
 }
 
 /// Returns the whole request, or its refusal if memory ran out.
-pub fn taken(alloc: Global, parts: Parts<'_>) -> Read
+pub fn taken(alloc: Global, parts: RequestParts<'_>) -> Read
     ensures { IsTakenFrom parts.entry.method.now parts.entry.target.now parts.entry.body.now result }
 {
     match owned(alloc, parts) {

@@ -1,4 +1,4 @@
--- What a frame does, put together of its parts.
+-- The work of a frame, put together of its parts.
 use Rattle.std.proofs.Common.{◌≡◌, ℕ, List, ◌++◌, false, take, ap, refl, sym, subst, ◌∙◌, append-nil, inl, inr, arith}
 use Rattle.std.specs.Prelude.{None, Ok, Err, option_map}
 use Rattle.am_gossip.specs.declared.frame.Frame.{Frame as GossipFrame}

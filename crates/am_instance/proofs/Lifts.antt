@@ -1,4 +1,4 @@
--- What is said of versions of one state, said of deliveries.
+-- Statements about versions of one state, as statements about deliveries.
 use Rattle.std.proofs.Common.{◌≡◌, ℕ, List, [], ◌∷◌, ◌++◌, Bool, true, false, zero, suc, map, take, ap, refl, sym, ◌∙◌}
 use Rattle.std.specs.Prelude.{Option, Result, Ok, Err}
 use Rattle.std.specs.Ordering.{nat_cmp}

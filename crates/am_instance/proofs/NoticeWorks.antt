@@ -1,4 +1,4 @@
--- What a notification does, put together of its parts.
+-- The work of a notification, put together of its parts.
 use Rattle.std.proofs.Common.{◌≡◌, ◌<◌, ◌≤◌, ℕ, List, [], ◌∷◌, Bool, true, false, length, ap, refl, sym, subst, ◌∙◌, inl, inr}
 use Rattle.std.specs.Prelude.{◌⊎◌, ◌&&◌, nat_lt, Option, Some, None, Result, Ok, Err, IfOk, IfErr, OnErr, if◌then◌else◌}
 use Rattle.std.proofs.lemmas.Bool.{lt-ltb, le-ltb}

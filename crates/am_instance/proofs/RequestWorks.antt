@@ -1,4 +1,4 @@
--- What a request does, put together of its parts.
+-- The work of a request, put together of its parts.
 use Rattle.std.proofs.Common.{◌≡◌, ℕ, List, [], ◌∷◌, Bool, true, false, true≢false, inl, inr, map, ap, ap₂, refl, sym, subst, ◌∙◌}
 use Rattle.std.specs.Prelude.{◌≢◌, Option, Some, None, Result, Ok, Err, IfOk, IfErr, OnOk, OnErr, is_some, if◌then◌else◌}
 use Rattle.std.specs.List.{list_all}

@@ -10,14 +10,14 @@ use Rattle.am_gossip.specs.declared.frame.Frame.{Frame}
 use Rattle.am_gossip.specs.declared.frame.Frame.TheVariants.{Push}
 use Rattle.am_gossip.specs.declared.frame.Part.{Part}
 use Rattle.am_gossip.specs.Frames.{fits}
-use Rattle.am_instance.specs.declared.frame_sender.Exchange.{Exchange}
-use Rattle.am_instance.specs.declared.frame_sender.Exchange.TheVariants.{Ask, Answer}
+use Rattle.am_instance.specs.declared.frame_sender.ExchangeRole.{ExchangeRole}
+use Rattle.am_instance.specs.declared.frame_sender.ExchangeRole.TheVariants.{Ask, Answer}
 use Rattle.am_instance.specs.Configs.{is_other, places_but}
 use Rattle.am_instance.specs.Changes.{only_if}
 use Rattle.am_instance.specs.Sendings.{Sent, Sends, addressed, states_frame}
 
 -- both states keep the limit of one frame where they keep that of the other
-pub frame_fits : (exchange : Exchange) (parts : List Part) → fits (states_frame exchange parts) ≡ fits (Push parts)
+pub frame_fits : (exchange : ExchangeRole) (parts : List Part) → fits (states_frame exchange parts) ≡ fits (Push parts)
 frame_fits Ask parts = refl
 frame_fits Answer parts = refl
 

@@ -295,7 +295,7 @@ module _ {X : Type 0} (of_delivery : Delivery → MapEvent X) (Bring : Events X 
   step_brings stand (Err UnknownPeer) whole reply = none_fine
   step_brings stand (Err (Frame fault)) whole reply = none_fine
 
--- What a step leaves is whole where what it began with was.
+-- A step leaves maps whole if they were whole before.
 pub step_whole : (old new : InstanceState) (event : Event) (now : ℕ) (result : Result Outcome StepError) → new.config ≡ old.config →
     AreSilencesLeftBy (kept_silences old) (step_events to_silences old.config.unknown event now result) (kept_silences new) →
     IsLogLeftBy (kept_log old) (step_events to_log old.config.unknown event now result) (kept_log new) →

@@ -1,4 +1,4 @@
--- What an event does, put together of its parts.
+-- The work of an event, put together of its parts.
 use Rattle.std.proofs.Common.{◌≡◌, ℕ, List, [], ◌∷◌, ◌++◌, Bool, true, false, map, ap, refl, sym, subst, ◌∙◌, append-nil, inl}
 use Rattle.std.specs.Prelude.{Option, Some, None, Ok, Err, if◌then◌else◌}
 use Rattle.std.specs.Ordering.{nat_cmp}

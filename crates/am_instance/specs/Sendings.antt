@@ -12,8 +12,8 @@ use Rattle.am_gossip.specs.declared.frame.StateKey.{StateKey}
 use Rattle.am_gossip.specs.declared.frame.StateKey.TheVariants.{Sil, Nfl}
 use Rattle.am_gossip.specs.Frames.{fits, states}
 use Rattle.am_snapshot.specs.Encodings.{row_encoding}
-use Rattle.am_instance.specs.declared.frame_sender.Exchange.{Exchange}
-use Rattle.am_instance.specs.declared.frame_sender.Exchange.TheVariants.{Ask, Answer}
+use Rattle.am_instance.specs.declared.frame_sender.ExchangeRole.{ExchangeRole}
+use Rattle.am_instance.specs.declared.frame_sender.ExchangeRole.TheVariants.{Ask, Answer}
 use Rattle.am_instance.specs.declared.reply.Outcome.{Outcome}
 use Rattle.am_instance.specs.Deliveries.{Delivery}
 use Rattle.am_instance.specs.Deliveries.Delivery.{OfSilence, OfEntry}
@@ -105,7 +105,7 @@ abbrev pub whole_state : List Mesh → List LogMesh → List Part
 whole_state silences log = states (row_encoding mesh_version silences) (row_encoding entry_version log)
 
 -- the frame that carries both states
-abbrev pub states_frame : Exchange → List Part → Frame
+abbrev pub states_frame : ExchangeRole → List Part → Frame
 states_frame Ask parts = Push parts
 states_frame Answer parts = Pull parts
 

@@ -35,7 +35,7 @@ pub struct Route {
 
 /// The reason why both states are sent.
 #[derive(Clone, Copy)]
-pub enum Exchange {
+pub enum ExchangeRole {
     /// The peer is asked for its own states.
     Ask,
     /// The peer asked for the states of this member.
@@ -154,7 +154,7 @@ impl FrameSender {
         place: Place,
         silences: &Held<MeshSilence>,
         log: &Held<MeshEntry>,
-        exchange: Exchange,
+        exchange: ExchangeRole,
     )
         ensures { IsSent (place, states_frame exchange (whole_state silences.now log.now)) self.old self.new }
     {
@@ -170,12 +170,12 @@ impl FrameSender {
 }
 
 /// Returns the frame that carries both states.
-fn states_frame(exchange: Exchange, state: FullState) -> Frame
+fn states_frame(exchange: ExchangeRole, state: FullState) -> Frame
     ensures { result ≡ states_frame exchange state }
 {
     match exchange {
-        Exchange::Ask => Frame::Push(state),
-        Exchange::Answer => Frame::Pull(state),
+        ExchangeRole::Ask => Frame::Push(state),
+        ExchangeRole::Answer => Frame::Pull(state),
     }
 }
 

@@ -16,7 +16,7 @@ ghost use Rattle.am_instance.specs.Sendings.{Sends, deltas_to, nothing_sent, sen
 ghost use Rattle.am_instance.specs.Replies.{IsNothing};
 ghost use Rattle.am_instance.specs.Steps.{Delivers, IsArrival, IsJudgement, IsWork, StopsDelivering};
 
-use crate::frame_sender::{Exchange, FrameSender, Route};
+use crate::frame_sender::{ExchangeRole, FrameSender, Route};
 use crate::instance::Instance;
 use crate::reply::{Made, Outcome, Reply};
 use crate::rows::{Taking, merge_row, validate_row};
@@ -51,7 +51,7 @@ impl Instance {
             }
             Frame::Push(state) => {
                 let mut outbox = self.take_in(sender, state.parts(), now)?;
-                outbox.send_states(sender, &self.silences, &self.log, Exchange::Answer);
+                outbox.send_states(sender, &self.silences, &self.log, ExchangeRole::Answer);
                 Ok(outcome(self.alloc, Reply::Nothing, outbox))
             }
         }
@@ -71,7 +71,7 @@ impl Instance {
         ensures { IsWork self.old (events.PullFrom place) now (Ok result) self.new }
     {
         let mut outbox = FrameSender::new(self.alloc);
-        outbox.send_states(place, &self.silences, &self.log, Exchange::Ask);
+        outbox.send_states(place, &self.silences, &self.log, ExchangeRole::Ask);
         outcome(self.alloc, Reply::Nothing, outbox)
     }
 

@@ -1,4 +1,4 @@
--- What is muted among the silences that pass a test is muted among all, where no other one could be.
+-- The silences that mute are among those that pass a test, if no other one could mute.
 use Rattle.std.proofs.Common.{◌≡◌, ◌≢◌, ℕ, Bool, true, false, cond, List, [], ◌∷◌, map, filter, All, refl, sym, ap, ap₂, ◌∙◌, true≢false}
 use Rattle.std.proofs.lemmas.List.Elements.{All-cons, All-head, All-tail}
 use Rattle.am_silence.specs.Mesh.{Mesh}

@@ -1,4 +1,4 @@
--- What a compiled pattern finds is what the grammar reads in its text.
+-- A compiled pattern finds exactly the readings of its text by the grammar.
 use Rattle.std.proofs.Common.{◌≡◌, ◌<◌, ◌≤◌, ◌⊎◌, inl, inr, ℕ, Bool, true, false, true≢false, List, length, Option, None, Some, IsSomeAnd, is_some, get_or, subst, sym, ap, ◌∙◌, arith}
 use Rattle.std.specs.Prelude.{◌≢◌, IfSome, if◌then◌else◌}
 use Rattle.std.specs.Str.{chars}

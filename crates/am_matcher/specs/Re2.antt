@@ -1,15 +1,15 @@
 -- Patterns of RE2 (Go's `regexp`) that are taken, and the patterns of `regex` that match the same texts.
 use Rattle.std.specs.Prelude.{◌≡◌, ◌≢◌, ℕ, suc, ◌*◌, ◌≤◌, List, [], ◌∷◌, ◌++◌, Option, Some, None, option_map, AllPairs, encode_utf8_all, chars}
-use Rattle.am_matcher.specs.declared.re2.pieces.Part.{Part}
-use Rattle.am_matcher.specs.declared.re2.pieces.Part.TheVariants.{Atom, Fixed, Repeat, Open, Close, Bar}
-use Rattle.am_matcher.specs.declared.re2.pieces.Place.{Place}
-use Rattle.am_matcher.specs.declared.re2.pieces.Place.TheVariants.{Outside}
+use Rattle.am_matcher.specs.declared.re2.pieces.PatternPart.{PatternPart}
+use Rattle.am_matcher.specs.declared.re2.pieces.PatternPart.TheVariants.{Atom, Fixed, Repeat, Open, Close, Bar}
+use Rattle.am_matcher.specs.declared.re2.pieces.PatternPlace.{PatternPlace}
+use Rattle.am_matcher.specs.declared.re2.pieces.PatternPlace.TheVariants.{Outside}
 use Rattle.am_matcher.specs.Re2Spelling.{Read}
 use Rattle.am_matcher.specs.Re2Pieces.{first_piece}
 
 -- the contents of a text: its parts, the text that is written for it, and the names of its groups as UTF-8
 pub record Contents : Type 0 where
-  pub parts : List Part
+  pub parts : List PatternPart
   pub written : List ℕ
   pub names : List (List ℕ)
 
@@ -35,25 +35,25 @@ of_piece piece = record {
 }
 
 -- From the place on, the text consists of pieces with these contents, and no class and no quotation is open at its end.
-pub data IsRead : Place → List ℕ → Contents → Type 0 where
+pub data IsRead : PatternPlace → List ℕ → Contents → Type 0 where
   nothing : IsRead Outside [] no_contents
-  piece : {place : Place} {text : List ℕ} {more : Contents} (front : Read) →
+  piece : {place : PatternPlace} {text : List ℕ} {more : Contents} (front : Read) →
       first_piece place text ≡ Some front → IsRead front.place front.rest more → IsRead place text (join (of_piece front) more)
 
 -- A part is repeated this often in all: `times`, or with a repetition behind it the product of both, up to 1,000.
-pub data IsRepeated (times : ℕ) : ℕ → List Part → Type 0 where
+pub data IsRepeated (times : ℕ) : ℕ → List PatternPart → Type 0 where
   once : IsRepeated times times []
   often : {most : ℕ} → times * most ≤ 1000 → IsRepeated times (times * most) (Repeat most ∷ [])
 
 -- The parts are branches of atoms and groups, which may be repeated, and of parts that may not. They are repeated `times`
 -- in all by the groups around them, and groups within them are at most `levels` deep.
-pub data IsExpression : ℕ → ℕ → List Part → Type 0 where
+pub data IsExpression : ℕ → ℕ → List PatternPart → Type 0 where
   empty : {times levels : ℕ} → IsExpression times levels []
-  fixed : {times levels : ℕ} {rest : List Part} → IsExpression times levels rest → IsExpression times levels (Fixed ∷ rest)
-  bar : {times levels : ℕ} {rest : List Part} → IsExpression times levels rest → IsExpression times levels (Bar ∷ rest)
-  atom : {times levels often : ℕ} {repeats rest : List Part} → IsRepeated times often repeats →
+  fixed : {times levels : ℕ} {rest : List PatternPart} → IsExpression times levels rest → IsExpression times levels (Fixed ∷ rest)
+  bar : {times levels : ℕ} {rest : List PatternPart} → IsExpression times levels rest → IsExpression times levels (Bar ∷ rest)
+  atom : {times levels often : ℕ} {repeats rest : List PatternPart} → IsRepeated times often repeats →
       IsExpression times levels rest → IsExpression times levels (Atom ∷ (repeats ++ rest))
-  group : {times levels often : ℕ} {inside repeats rest : List Part} → IsRepeated times often repeats →
+  group : {times levels often : ℕ} {inside repeats rest : List PatternPart} → IsRepeated times often repeats →
       IsExpression often levels inside → IsExpression times (suc levels) rest →
       IsExpression times (suc levels) (Open ∷ (inside ++ Close ∷ (repeats ++ rest)))
 

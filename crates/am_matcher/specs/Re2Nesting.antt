@@ -1,7 +1,7 @@
 -- The order of the parts of a pattern, which is checked from its end to its start.
 use Rattle.std.specs.Prelude.{ℕ, ◌*◌, ◌&&◌, nat_le, nat_lt, List, [], ◌∷◌, length, Option, Some, None, is_none, unwrap_or, if◌then◌else◌}
-use Rattle.am_matcher.specs.declared.re2.pieces.Part.{Part}
-use Rattle.am_matcher.specs.declared.re2.pieces.Part.TheVariants.{Atom, Fixed, Repeat, Open, Close, Bar}
+use Rattle.am_matcher.specs.declared.re2.pieces.PatternPart.{PatternPart}
+use Rattle.am_matcher.specs.declared.re2.pieces.PatternPart.TheVariants.{Atom, Fixed, Repeat, Open, Close, Bar}
 
 -- the state of the check at a place of a pattern, which depends on the parts behind it
 pub record Nest : Type 0 where
@@ -36,7 +36,7 @@ repeated most nest =
     else None
 
 -- the state before a part, if the part may stand there
-unfoldable pub back_over : Part → Nest → Option Nest
+unfoldable pub back_over : PatternPart → Nest → Option Nest
 back_over Atom nest = Some (record nest { waiting = None })
 back_over Fixed nest = if is_none nest.waiting then Some nest else None
 back_over Bar nest = if is_none nest.waiting then Some nest else None
@@ -45,7 +45,7 @@ back_over Close nest = closed nest
 back_over Open nest = opened nest nest.outer
 
 -- the state before all these parts, if they may stand there
-unfoldable pub before_all : List Part → Option Nest → Option Nest
+unfoldable pub before_all : List PatternPart → Option Nest → Option Nest
 before_all [] nest = nest
 before_all (part ∷ parts) nest = elim (before_all parts nest) [
   | None ↦ None

@@ -6,14 +6,14 @@ use Rattle.std.specs.List.{list_any, take_while}
 use Rattle.std.specs.Char.{is_ascii_alphanumeric, is_ascii_digit, is_ascii_hexdigit, is_ascii_punctuation, digit_value}
 use Rattle.regex_hir.specs.Text.{is_scalar}
 use Rattle.regex_syntax.specs.Reading.{◌>>=◌, ◌>>◌, ◌∈◌, begins}
-use Rattle.am_matcher.specs.declared.re2.pieces.Part.{Part}
-use Rattle.am_matcher.specs.declared.re2.pieces.Part.TheVariants.{Atom, Fixed, Repeat, Open, Close, Bar}
-use Rattle.am_matcher.specs.declared.re2.pieces.Place.{Place}
-use Rattle.am_matcher.specs.declared.re2.pieces.Place.TheVariants.{Outside, ClassStart, Class, Quotation}
+use Rattle.am_matcher.specs.declared.re2.pieces.PatternPart.{PatternPart}
+use Rattle.am_matcher.specs.declared.re2.pieces.PatternPart.TheVariants.{Atom, Fixed, Repeat, Open, Close, Bar}
+use Rattle.am_matcher.specs.declared.re2.pieces.PatternPlace.{PatternPlace}
+use Rattle.am_matcher.specs.declared.re2.pieces.PatternPlace.TheVariants.{Outside, ClassStart, Class, Quotation}
 use Rattle.am_matcher.specs.Re2Spelling.{Read, before, literal, perl, property}
 
 -- a piece outside of classes
-abbrev pub outside : Part → List ℕ → List ℕ → Read
+abbrev pub outside : PatternPart → List ℕ → List ℕ → Read
 outside part written rest = record { part = Some part; written = written; name = None; place = Outside; rest = rest }
 
 -- a piece of a class
@@ -372,7 +372,7 @@ quoted [] = None
 quoted (c ∷ rest) = Some (if begins "\\E" (c ∷ rest) then quotation_end (drop 1 rest) else quoted_character c rest)
 
 -- the first piece of a text, depending on the place where it stands
-unfoldable pub first_piece : Place → List ℕ → Option Read
+unfoldable pub first_piece : PatternPlace → List ℕ → Option Read
 first_piece Outside text = outside_piece text
 first_piece ClassStart text = class_item text
 first_piece Class text = later_item text

@@ -1,20 +1,20 @@
 -- The spelling of RE2's pieces for `regex`. All texts here are lists of characters.
 use Rattle.std.specs.Prelude.{ℕ, ◌-◌, Bool, List, [], ◌∷◌, ◌++◌, length, take, codes, Option, if◌then◌else◌}
 use Rattle.regex_syntax.specs.Reading.{◌∈◌}
-use Rattle.am_matcher.specs.declared.re2.pieces.Part.{Part}
-use Rattle.am_matcher.specs.declared.re2.pieces.Place.{Place}
+use Rattle.am_matcher.specs.declared.re2.pieces.PatternPart.{PatternPart}
+use Rattle.am_matcher.specs.declared.re2.pieces.PatternPlace.{PatternPlace}
 use Rattle.am_matcher.specs.declared.re2.pieces.Spelling.{Spelling}
 use Rattle.am_matcher.specs.declared.re2.pieces.Spelling.TheVariants.{Source, Character, Range, Perl, Property, Boundary, Group, Nothing}
 
 -- the piece at the front of a text, as it was read
 pub record Read : Type 0 where
   -- the role of the piece, if it isn't inside of a class or of a quotation
-  pub part : Option Part
+  pub part : Option PatternPart
   pub written : List ℕ
   -- the name of the group that the piece opens
   pub name : Option (List ℕ)
   -- the place of the next piece
-  pub place : Place
+  pub place : PatternPlace
   pub rest : List ℕ
 
 -- the text in front of its rest

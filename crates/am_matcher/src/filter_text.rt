@@ -9,7 +9,7 @@ use am_silence::MatcherKind;
 
 /// The parts of a filter's text.
 #[derive(Clone, Copy)]
-pub struct Parts<'a> {
+pub struct FilterParts<'a> {
     pub kind: MatcherKind,
     pub name: &'a [char],
     pub written: &'a [char],
@@ -109,13 +109,13 @@ fn split_sign(characters: &[char]) -> Option<(MatcherKind, &[char])>
 }
 
 /// Returns the parts of a filter, or `None` if the text isn't one.
-pub fn parts_of(text: &[char]) -> Option<Parts<'_>>
+pub fn parts_of(text: &[char]) -> Option<FilterParts<'_>>
     ensures { MatchOption result ((kind : MatcherKind) (name written : List ℕ) → ¬ IsSplit text.now kind name written)
         (λ parts. IsSplit text.now parts.kind parts.name.now parts.written.now) }
 {
     let (name, rest) = split_name(skip_blanks(text))?;
     let (kind, rest) = split_sign(skip_blanks(rest))?;
-    Some(Parts {
+    Some(FilterParts {
         kind,
         name,
         written: drop_blanks(skip_blanks(rest)),

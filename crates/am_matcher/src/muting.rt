@@ -34,7 +34,7 @@ pub enum Effect {
 /// The way in which alerts are held against silences: by the dialect of their patterns, at a moment, and with this use of the
 /// cache.
 #[derive(Drop)]
-struct Judging {
+struct MutingContext {
     dialect: Dialect,
     moment: Moment,
     cache_use: CacheUse,
@@ -57,7 +57,7 @@ fn is_unread(version: &MeshSilence) -> bool
 /// Returns the effect of a silence on an alert with these labels. Patterns are read only if the silence is active.
 fn effect_of(
     patterns: &mut PatternCache,
-    judging: &Judging,
+    judging: &MutingContext,
     version: &MeshSilence,
     labels: &NamedLabels<'_>,
 ) -> Result<Effect, AllocError>
@@ -108,7 +108,7 @@ fn put_id(
 fn mutes_among(
     alloc: Global,
     patterns: &mut PatternCache,
-    judging: &Judging,
+    judging: &MutingContext,
     silences: &[&MeshSilence],
     labels: &NamedLabels<'_>,
 ) -> Result<Mutes, AllocError>
@@ -131,7 +131,7 @@ fn mutes_among(
 /// Returns the silences of a map that mute an alert, and the broken ones.
 fn mutes_by(
     patterns: &mut PatternCache,
-    judging: &Judging,
+    judging: &MutingContext,
     held: &Held<MeshSilence>,
     labels: &[Label],
 ) -> Result<Mutes, AllocError>
@@ -184,7 +184,7 @@ impl PatternCache {
         // Each pattern that is kept afterwards was kept before, or belongs to a silence.
         ensures kept { TextsPass (λ text. is_among self.old text || is_used_by held.now text) self.new }
     {
-        let judging = Judging {
+        let judging = MutingContext {
             dialect,
             moment: now,
             cache_use: CacheUse::Fill,
@@ -213,7 +213,7 @@ pub fn mutes(
     // PROMISE: An alert is muted by exactly the active silences that can be judged and whose matchers all match.
     ensures { IfOk result (λ m. AreMuted labels.now now held.now m.ids m.broken) }
 {
-    let judging = Judging {
+    let judging = MutingContext {
         dialect: Dialect::Regex,
         moment: now,
         cache_use: CacheUse::LookUp,

@@ -1,4 +1,4 @@
--- What comes of what a connection said.
+-- The steps that the words of a connection ask for.
 use Rattle.std.proofs.Common.{◌≡◌, ℕ, false, List, Option, None, Some, Result, Ok, Err, refl, sym, subst}
 use Rattle.std.specs.Prelude.{option_map}
 use Rattle.am_api_silences.specs.Answers.{WhenMade, IsRefusalAnswer, IsRequestAnswer}

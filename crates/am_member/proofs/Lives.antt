@@ -1,4 +1,4 @@
--- What comes of the turns of a member.
+-- The steps of a member's turns.
 use Rattle.std.proofs.Common.{◌≡◌, ◌⊎◌, inl, inr, ℕ, ◌++◌, Bool, true, List, [], ◌∷◌, map, Option, None, Some, Result, Ok, Err, IfOk, IfErr, refl, sym, subst, ap, ◌∙◌, append_assoc, append-nil}
 use Rattle.std.proofs.lemmas.List.{map-append}
 use Rattle.std.proofs.lemmas.Option.{none-some}

@@ -1,4 +1,4 @@
--- What is replied in a turn, by what is shown.
+-- The replies of a turn, by what is shown.
 use Rattle.std.proofs.Common.{◌≡◌, ◌≤◌, inl, inr, ℕ, true, List, Result, Ok, Err, IfOk, IfErr}
 use Rattle.am_silence.specs.Mesh.{Mesh}
 use Rattle.am_nflog.specs.Mesh.{Mesh as LogMesh}

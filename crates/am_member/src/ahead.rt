@@ -91,7 +91,7 @@ impl PatternsAhead {
         let pass = self.next_pass();
         let alloc = instance.silences().allocator();
         let mut patterns = instance.swap_patterns(PatternCache::new(alloc));
-        self.pass = match go_on(alloc, &mut patterns, instance, pass, now) {
+        self.pass = match resume_pass(alloc, &mut patterns, instance, pass, now) {
             Ok(pass) => pass,
             Err(_) => Pass::Failed,
         };
@@ -150,7 +150,7 @@ impl PatternsAhead {
 }
 
 /// Goes on with a pass for a stretch.
-fn go_on(
+fn resume_pass(
     alloc: Global,
     patterns: &mut PatternCache,
     instance: &Instance,

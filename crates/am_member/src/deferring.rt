@@ -52,7 +52,7 @@ fn strip_request(frame: &mut Frame)
 }
 
 /// Removes from frames what they ask for.
-fn quieten_all(frames: &mut Vec<Frame>)
+fn strip_requests(frames: &mut Vec<Frame>)
     ensures same { map quiet frames.new.items ≡ map quiet frames.old.items }
     ensures quiet { All (λ frame. quiet frame ≡ frame) frames.new.items }
 {
@@ -93,6 +93,6 @@ pub fn defer_requests(said: SessionOutput) -> Deferred
     let asks = any_push(said.frames.as_slice());
     let ticks = any_tick(said.frames.as_slice());
     drop_ticks(&mut said.frames);
-    quieten_all(&mut said.frames);
+    strip_requests(&mut said.frames);
     Deferred { said, asks, ticks }
 }

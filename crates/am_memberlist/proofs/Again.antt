@@ -1,4 +1,4 @@
--- What is written of a request is read again.
+-- A request that was written is read again.
 use Rattle.std.proofs.Common.{◌≡◌, ℕ, ◌+◌, ◌<◌, Bool, true, false, ltb, List, [], ◌∷◌, ◌++◌, length, codes, Result, Ok, refl, ap, ◌∙◌, arith, length-append}
 use Rattle.std.specs.Int.{w16, w32, to_be_bytes}
 use Rattle.std.specs.Slice.Scan.{big_endian}

@@ -6,7 +6,7 @@ use denote.Ref.{Bor}
 use Rattle.am_memberlist.specs.declared.error.AnswerError.{AnswerError}
 use Rattle.am_memberlist.specs.declared.msgpack.Scalar.{Scalar}
 use Rattle.am_memberlist.specs.declared.msgpack.Scalar.TheVariants as scalars
-use Rattle.am_memberlist.specs.declared.msgpack.Pair.{Pair}
+use Rattle.am_memberlist.specs.declared.msgpack.MapPair.{MapPair}
 use Rattle.am_memberlist.specs.Msgpack.{ValueAt, PairAt, number, raw, word}
 
 abbrev pub cut_seen : Result (Bor (List ℕ) × Bor (List ℕ)) AnswerError → Result (List ℕ × List ℕ) AnswerError
@@ -22,18 +22,18 @@ value_of (scalars.Number n) = number n
 value_of (scalars.Raw bytes) = raw bytes.now
 value_of scalars.Word = word
 
-abbrev pub pair_of : Pair → PairAt
+abbrev pub pair_of : MapPair → PairAt
 pair_of pair = record { key = pair.key.now; value = value_of pair.value }
 
 abbrev pub scalar_seen : Result (Scalar × Bor (List ℕ)) AnswerError → Result (ValueAt × List ℕ) AnswerError
 scalar_seen (Ok x) = Ok (value_of x.0, x.1.now)
 scalar_seen (Err e) = Err e
 
-abbrev pub pair_seen : Result (Pair × Bor (List ℕ)) AnswerError → Result (PairAt × List ℕ) AnswerError
+abbrev pub pair_seen : Result (MapPair × Bor (List ℕ)) AnswerError → Result (PairAt × List ℕ) AnswerError
 pair_seen (Ok x) = Ok (pair_of x.0, x.1.now)
 pair_seen (Err e) = Err e
 
-abbrev pub map_seen : Result (Vec Pair Global × Bor (List ℕ)) AnswerError → Result (List PairAt × List ℕ) AnswerError
+abbrev pub map_seen : Result (Vec MapPair Global × Bor (List ℕ)) AnswerError → Result (List PairAt × List ℕ) AnswerError
 map_seen (Ok x) = Ok (map pair_of x.0.items, x.1.now)
 map_seen (Err e) = Err e
 
@@ -45,7 +45,7 @@ abbrev pub items_seen : Result (Vec ℕ Global) AnswerError → Result (List ℕ
 items_seen (Ok x) = Ok x.items
 items_seen (Err e) = Err e
 
-abbrev pub option_seen : Option Pair → Option PairAt
+abbrev pub option_seen : Option MapPair → Option PairAt
 option_seen None = None
 option_seen (Some pair) = Some (pair_of pair)
 

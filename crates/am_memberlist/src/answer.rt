@@ -9,7 +9,7 @@ ghost use Rattle.am_memberlist.specs.Msgpack.{value_in, number_of, raw_of};
 ghost use Rattle.am_memberlist.specs.Seen.{bytes_seen, items_seen, pair_of, option_seen};
 
 use crate::error::AnswerError;
-use crate::msgpack::{Pair, Scalar, map_at};
+use crate::msgpack::{MapPair, Scalar, map_at};
 use crate::unpacking::{Stretch, Unpacking, unpack};
 use std::alloc::Global;
 
@@ -35,7 +35,7 @@ pub enum Said<'a> {
 }
 
 /// Returns the first pair with a key.
-fn value_in<'a>(pairs: &[Pair<'a>], key: &str) -> Option<Pair<'a>>
+fn value_in<'a>(pairs: &[MapPair<'a>], key: &str) -> Option<MapPair<'a>>
     ensures { option_seen result ≡ value_in key.now (map pair_of pairs.now) }
 {
     for pair in pairs {
@@ -47,7 +47,7 @@ fn value_in<'a>(pairs: &[Pair<'a>], key: &str) -> Option<Pair<'a>>
 }
 
 /// Returns the number at a key, or 0 if the key is missing.
-fn number_of(pair: Option<Pair<'_>>) -> Result<u64, AnswerError>
+fn number_of(pair: Option<MapPair<'_>>) -> Result<u64, AnswerError>
     ensures { result ≡ number_of (option_seen pair.entry) }
 {
     match pair {
@@ -60,12 +60,12 @@ fn number_of(pair: Option<Pair<'_>>) -> Result<u64, AnswerError>
 }
 
 /// Returns the bytes at a key.
-fn raw_of(pair: Option<Pair<'_>>) -> Result<&[u8], AnswerError>
+fn raw_of(pair: Option<MapPair<'_>>) -> Result<&[u8], AnswerError>
     ensures { bytes_seen result ≡ raw_of (option_seen pair.entry) }
 {
     match pair {
         Some(
-            Pair {
+            MapPair {
                 value: Scalar::Raw(bytes),
                 ..
             },

@@ -21,7 +21,7 @@ pub enum Scalar<'a> {
 
 /// A key with its value.
 #[derive(Clone, Copy)]
-pub struct Pair<'a> {
+pub struct MapPair<'a> {
     pub key: &'a [u8],
     pub value: Scalar<'a>,
 }
@@ -215,7 +215,7 @@ fn scalar_at(bytes: &[u8]) -> Result<(Scalar<'_>, &[u8]), AnswerError>
 
 /// Returns the key and the value at the front of the bytes, and the bytes after them.
 #[tactic(auto, unfolding(crate::specs::Msgpack::pair_at))]
-fn pair_at(bytes: &[u8]) -> Result<(Pair<'_>, &[u8]), AnswerError>
+fn pair_at(bytes: &[u8]) -> Result<(MapPair<'_>, &[u8]), AnswerError>
     ensures { pair_seen result ≡ pair_at bytes.now }
 {
     let (key, rest) = scalar_at(bytes)?;
@@ -223,7 +223,7 @@ fn pair_at(bytes: &[u8]) -> Result<(Pair<'_>, &[u8]), AnswerError>
         return Err(AnswerError::Form);
     };
     let (value, rest) = scalar_at(rest)?;
-    Ok((Pair { key, value }, rest))
+    Ok((MapPair { key, value }, rest))
 }
 
 /// Returns the number of pairs in the map at the front of the bytes, and the bytes after its first one.
@@ -243,7 +243,7 @@ fn count_at(bytes: &[u8]) -> Result<(u8, &[u8]), AnswerError>
 }
 
 /// Returns the pairs of the map at the front of the bytes, and the bytes after it.
-pub fn map_at(alloc: Global, bytes: &[u8]) -> Result<(Vec<Pair<'_>>, &[u8]), AnswerError>
+pub fn map_at(alloc: Global, bytes: &[u8]) -> Result<(Vec<MapPair<'_>>, &[u8]), AnswerError>
     ensures { GivesUnlessMemory (map_seen result) (map_at bytes.now) }
 {
     let (count, mut rest) = count_at(bytes)?;

@@ -1,4 +1,4 @@
--- What is left of a table once those of its versions went that others of their keys beat.
+-- The table that is left once the versions went that others of their keys beat.
 use Rattle.std.proofs.Common.{◌≡◌, ◌≢◌, ◌⊎◌, ℕ, ◌+◌, true, false, List, [], ◌∷◌, ◌++◌, length, Option, Some, None, refl, sym, ap, ◌∙◌, subst, arith, inl, inr, Contains, length-append}
 use Rattle.std.specs.Prelude.{◌==◌, IsPermutation, All, map}
 use Rattle.std.specs.List.{AllByRecursion}

@@ -1,4 +1,4 @@
--- What a search concludes from the order of the items.
+-- The conclusions that a search draws from the order of the items.
 use Rattle.std.proofs.Common.{◌≡◌, ◌≢◌, ◌⊎◌, ℕ, ◌+◌, ◌<◌, ◌≤◌, suc, zero, List, [], ◌++◌, length, take, drop, get_or, inl, inr, ap, arith, length-append, Result, Ok, Err, IfOk, IfErr}
 use Rattle.std.specs.List.{All, AllWithin, HoldsAt}
 use Rattle.std.specs.List.Sorted.{IsNonDecreasingBy, IsSearchInRange, IsBinarySearchResult}

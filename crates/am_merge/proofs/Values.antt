@@ -1,4 +1,4 @@
--- What holds of the versions that a map was made of holds of the map's.
+-- A property of all versions that a map was made of is one of the map's versions.
 use Rattle.std.proofs.Common.{◌≡◌, ℕ, List, [], ◌∷◌, take, ⊎_elim, sym, subst}
 use Rattle.std.specs.Prelude.{All, Contains, Result, Ok, Err, OnOk, IfErr}
 use Rattle.std.proofs.lemmas.List.Elements.{All-nil, All-cons, All-contains, All-contains_itself, All-take, All-weaker}

@@ -6,7 +6,7 @@ use std::alloc::{AllocError, Global};
 
 /// The figures of the Alertmanagers beside a member, by their places among the members.
 #[derive(Drop)]
-pub struct Beside {
+pub struct AlertmanagerCounts {
     /// The number of versions that each lacked at the last exchange.
     pub lacked: Counters,
     /// The number of times a silence was withheld from each, by cause.
@@ -19,15 +19,15 @@ fn counter_of(place: usize, cause: WithheldBy) -> usize {
     first.saturating_add(cause.place())
 }
 
-impl Beside {
+impl AlertmanagerCounts {
     /// Creates the figures of `members` members, all at 0.
     ///
     /// # Errors
     ///
     /// Returns [`AllocError`] if memory runs out.
-    pub fn new(alloc: Global, members: usize) -> Result<Beside, AllocError> {
+    pub fn new(alloc: Global, members: usize) -> Result<AlertmanagerCounts, AllocError> {
         let causes = members.saturating_mul(WithheldBy::ALL.len());
-        Ok(Beside {
+        Ok(AlertmanagerCounts {
             lacked: Counters::new(alloc, members)?,
             withheld: Counters::new(alloc, causes)?,
         })

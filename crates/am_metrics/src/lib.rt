@@ -13,13 +13,13 @@ mod times;
 mod words;
 mod writing;
 
-pub use beside::Beside;
+pub use beside::AlertmanagerCounts;
 pub use counters::Counters;
 pub use family::{Family, MetricLabel, MetricType, Number, Sample};
 pub use metrics::Metrics;
-pub use peers::{Heard, PeerName};
+pub use peers::{PeerCounts, PeerName};
 pub use saves::Save;
-pub use sheet::{Shown, SilenceCounts};
+pub use sheet::{MemberFacts, SilenceCounts};
 pub use telling::families;
 pub use words::{
     CauseLabel, CounterLabel, DecisionLabel, Failing, RequestLabel, SavedState, StepLabel,

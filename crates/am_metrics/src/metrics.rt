@@ -2,11 +2,11 @@
 
 ghost use Rattle.std.specs.Prelude.{◌≡◌};
 
-use crate::beside::Beside;
+use crate::beside::AlertmanagerCounts;
 use crate::counters::Counters;
-use crate::peers::Heard;
+use crate::peers::PeerCounts;
 use crate::saves::Save;
-use crate::times::Times;
+use crate::times::RequestTimes;
 use crate::words::{
     CounterLabel, DecisionLabel, Failing, RequestLabel, STATUSES, SavedState, StepLabel,
     VersionKind, status_place,
@@ -19,14 +19,14 @@ pub struct Metrics {
     /// The moment when the member was started, as the time since 1970.
     pub start: Duration,
     requests: Counters,
-    pub times: Times,
+    pub times: RequestTimes,
     pub steps: Counters,
     pub decisions: Counters,
     /// The frames that were sent, and those that came, by kind.
     pub sent: Counters,
     pub taken: Counters,
-    pub heard: Heard,
-    pub beside: Beside,
+    pub heard: PeerCounts,
+    pub beside: AlertmanagerCounts,
     /// The numbers of frames lost before a link took them, for want of memory and by the limit of a frame.
     pub unsent_memory: u64,
     pub unsent_limit: u64,
@@ -85,13 +85,13 @@ impl Metrics {
                 alloc,
                 RequestLabel::ALL.len().saturating_mul(STATUSES.len()),
             )?,
-            times: Times::new(alloc)?,
+            times: RequestTimes::new(alloc)?,
             steps: Counters::new(alloc, StepLabel::ALL.len())?,
             decisions: Counters::new(alloc, DecisionLabel::ALL.len())?,
             sent: Counters::new(alloc, VersionKind::ALL.len())?,
             taken: Counters::new(alloc, VersionKind::ALL.len())?,
-            heard: Heard::new(alloc, members)?,
-            beside: Beside::new(alloc, members)?,
+            heard: PeerCounts::new(alloc, members)?,
+            beside: AlertmanagerCounts::new(alloc, members)?,
             unsent_memory: 0,
             unsent_limit: 0,
             begun: 0,

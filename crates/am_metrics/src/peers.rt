@@ -14,7 +14,7 @@ pub struct PeerName<'a> {
 
 /// The counts of what is sent to the members and of what comes from them, by place.
 #[derive(Drop)]
-pub struct Heard {
+pub struct PeerCounts {
     /// The number of frames handed to links.
     pub sent: Counters,
     /// The number of those that are not known to have gone out.
@@ -35,11 +35,11 @@ fn counter_of(place: usize, cause: CauseLabel) -> usize {
     first.saturating_add(cause.place())
 }
 
-impl Heard {
+impl PeerCounts {
     /// Creates the counts of `members` members, all at 0.
-    pub fn new(alloc: Global, members: usize) -> Result<Heard, AllocError> {
+    pub fn new(alloc: Global, members: usize) -> Result<PeerCounts, AllocError> {
         let causes = members.saturating_mul(CauseLabel::ALL.len());
-        Ok(Heard {
+        Ok(PeerCounts {
             sent: Counters::new(alloc, members)?,
             flying: Counters::new(alloc, members)?,
             latest: Counters::new(alloc, members)?,

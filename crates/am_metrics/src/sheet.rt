@@ -18,7 +18,7 @@ pub struct SilenceCounts {
 
 /// The facts about a member that are shown beside its counts.
 #[derive(Drop)]
-pub struct Shown<'a> {
+pub struct MemberFacts<'a> {
     /// The version of the program.
     pub version: &'a str,
     /// The number of members, including this one.

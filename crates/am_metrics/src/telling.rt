@@ -1,16 +1,16 @@
 //! All figures of a member.
 
-use crate::beside::Beside;
+use crate::beside::AlertmanagerCounts;
 use crate::counters::Counters;
 use crate::family::{Family, MetricType, Number, Sample};
 use crate::metrics::Metrics;
-use crate::peers::{Heard, PeerName};
+use crate::peers::{PeerCounts, PeerName};
 use crate::saves::Save;
 use crate::sheet::{
-    Figure, Shown, SilenceCounts, add_family, add_sample, add_singles, by_peer, by_value, by_word,
-    seconds, seconds_of,
+    Figure, MemberFacts, SilenceCounts, add_family, add_sample, add_singles, by_peer, by_value,
+    by_word, seconds, seconds_of,
 };
-use crate::times::{BOUND_WORDS, Times};
+use crate::times::{BOUND_WORDS, RequestTimes};
 use crate::words::{
     CauseLabel, CounterLabel, DecisionLabel, Failing, RequestLabel, STATUSES, StepLabel,
     VersionKind, WithheldBy,
@@ -52,7 +52,11 @@ fn add_silences(
 }
 
 /// Adds the figures of what the member holds.
-fn add_held(alloc: Global, out: &mut Vec<Family>, shown: &Shown<'_>) -> Result<(), AllocError> {
+fn add_held(
+    alloc: Global,
+    out: &mut Vec<Family>,
+    shown: &MemberFacts<'_>,
+) -> Result<(), AllocError> {
     add_build(alloc, out, shown.version)?;
     add_silences(alloc, out, shown.silences)?;
     add_singles(
@@ -143,7 +147,7 @@ fn answered(alloc: Global, figures: &Metrics) -> Result<Vec<Sample>, AllocError>
 fn add_times(
     alloc: Global,
     out: &mut Vec<Sample>,
-    times: &Times,
+    times: &RequestTimes,
     request: RequestLabel,
 ) -> Result<(), AllocError> {
     let mut count: u64 = 0;
@@ -158,7 +162,7 @@ fn add_times(
 }
 
 /// Returns the figures of the durations of requests.
-fn durations(alloc: Global, times: &Times) -> Result<Vec<Sample>, AllocError> {
+fn durations(alloc: Global, times: &RequestTimes) -> Result<Vec<Sample>, AllocError> {
     let mut samples = Vec::new(alloc);
     for request in RequestLabel::ALL {
         add_times(alloc, &mut samples, times, *request)?;
@@ -245,7 +249,7 @@ fn add_lost(
     alloc: Global,
     out: &mut Vec<Sample>,
     peer: PeerName<'_>,
-    heard: &Heard,
+    heard: &PeerCounts,
 ) -> Result<(), AllocError> {
     for cause in CauseLabel::ALL {
         let words = [("peer", peer.name), ("cause", cause.word())];
@@ -256,7 +260,11 @@ fn add_lost(
 }
 
 /// Returns the figures of lost frames, by peer and cause.
-fn lost(alloc: Global, peers: &[PeerName<'_>], heard: &Heard) -> Result<Vec<Sample>, AllocError> {
+fn lost(
+    alloc: Global,
+    peers: &[PeerName<'_>],
+    heard: &PeerCounts,
+) -> Result<Vec<Sample>, AllocError> {
     let mut samples = Vec::new(alloc);
     for peer in peers {
         add_lost(alloc, &mut samples, *peer, heard)?;
@@ -269,7 +277,7 @@ fn last_heard(
     alloc: Global,
     label: &'static str,
     peers: &[PeerName<'_>],
-    heard: &Heard,
+    heard: &PeerCounts,
 ) -> Result<Vec<Sample>, AllocError> {
     let mut samples = Vec::with_capacity(alloc, peers.len())?;
     for peer in peers {
@@ -284,7 +292,7 @@ fn add_withheld(
     alloc: Global,
     out: &mut Vec<Sample>,
     one: PeerName<'_>,
-    beside: &Beside,
+    beside: &AlertmanagerCounts,
 ) -> Result<(), AllocError> {
     for cause in WithheldBy::ALL {
         let words = [("alertmanager", one.name), ("cause", cause.word())];
@@ -298,7 +306,7 @@ fn add_withheld(
 fn withheld(
     alloc: Global,
     all: &[PeerName<'_>],
-    beside: &Beside,
+    beside: &AlertmanagerCounts,
 ) -> Result<Vec<Sample>, AllocError> {
     let mut samples = Vec::new(alloc);
     for one in all {
@@ -352,7 +360,7 @@ fn add_cluster(
 fn add_peers(
     alloc: Global,
     out: &mut Vec<Family>,
-    heard: &Heard,
+    heard: &PeerCounts,
     peers: &[PeerName<'_>],
 ) -> Result<(), AllocError> {
     add_counter(
@@ -475,7 +483,7 @@ fn add_process(
     alloc: Global,
     out: &mut Vec<Family>,
     figures: &Metrics,
-    shown: &Shown<'_>,
+    shown: &MemberFacts<'_>,
 ) -> Result<(), AllocError> {
     add_singles(
         alloc,
@@ -517,7 +525,7 @@ fn add_all(
     alloc: Global,
     out: &mut Vec<Family>,
     figures: &Metrics,
-    shown: &Shown<'_>,
+    shown: &MemberFacts<'_>,
 ) -> Result<(), AllocError> {
     add_held(alloc, out, shown)?;
     add_done(alloc, out, &figures.steps, &figures.decisions)?;
@@ -538,7 +546,7 @@ fn add_all(
 pub fn families(
     alloc: Global,
     figures: &Metrics,
-    shown: &Shown<'_>,
+    shown: &MemberFacts<'_>,
 ) -> Result<Vec<Family>, AllocError> {
     let mut out = Vec::with_capacity(alloc, 40)?;
     add_all(alloc, &mut out, figures, shown)?;

@@ -15,7 +15,7 @@ pub const BOUND_WORDS: [&str; 10] = [
 
 /// The durations of requests, by call.
 #[derive(Drop)]
-pub struct Times {
+pub struct RequestTimes {
     /// The number of requests in each bucket, which is that of the smallest bound that holds.
     buckets: Counters,
     /// The total duration in nanoseconds.
@@ -38,10 +38,10 @@ fn counter_of(request: RequestLabel, bucket: usize) -> usize {
     first.saturating_add(bucket)
 }
 
-impl Times {
+impl RequestTimes {
     /// Creates the durations of no requests.
-    pub fn new(alloc: Global) -> Result<Times, AllocError> {
-        Ok(Times {
+    pub fn new(alloc: Global) -> Result<RequestTimes, AllocError> {
+        Ok(RequestTimes {
             buckets: Counters::new(
                 alloc,
                 RequestLabel::ALL.len().saturating_mul(BOUND_WORDS.len()),

@@ -9,6 +9,6 @@ mod words;
 
 pub use crate::common::case::{Case, CaseFault};
 pub use crate::common::matching::matcher_parts;
-pub use crate::common::tries::{Brittle, Call, Cut, How, Pieces};
+pub use crate::common::tries::{Brittle, Cut, How, Pieces, TriedCall};
 pub use crate::common::versions::{CaseVersion, Printed, Spelled};
 pub use crate::common::words::{behind, cut, first, moment_of, phrase};

@@ -1,4 +1,4 @@
--- What std tells of the last sign = of a text, in bytes.
+-- The last sign = of a text, as std finds it, in bytes.
 use Rattle.std.proofs.Common.{◌≡◌, ℕ, ◌+◌, ◌-◌, ◌<◌, List, ◌∷◌, ◌++◌, length, get_or, take, drop, suc, arith, sym, ap, ◌∙◌, lit<}
 use Rattle.std.specs.Prelude.{◌≢◌, ◌==◌}
 use Rattle.std.specs.Str.{NoCharPasses}

@@ -1,4 +1,4 @@
--- What a limit leaves whole, and what stands in a window.
+-- The part that a limit leaves whole, and the content of a window.
 use Rattle.std.proofs.Common.{◌≡◌, ℕ, ◌+◌, ◌<◌, ◌≤◌, List, [], ◌++◌, Option, Some, None, length, take, min, ◌∙◌, subst, arith}
 use Rattle.std.specs.Prelude.{IfSome, option_map}
 use Rattle.std.specs.declared.io.traits.Take.{Take}

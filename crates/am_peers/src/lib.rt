@@ -26,7 +26,7 @@ pub use fault::ConnectionFault;
 pub use fetching::{HttpServer, ask, fetch, server_of};
 pub use number::{number_within, port_of};
 pub use peer::{Peer, peer_of};
-pub use queue::{Parted, split_by_peer};
+pub use queue::{SplitQueue, split_by_peer};
 pub use reply::body_of;
 pub use shown::{held_of, shown_of_row};
 pub use times::{Times, times_of};

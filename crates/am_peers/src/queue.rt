@@ -8,7 +8,7 @@ use std::alloc::{AllocError, Global};
 
 /// Frames that are split into those for one peer and those for all others.
 #[derive(Drop)]
-pub struct Parted {
+pub struct SplitQueue {
     pub own: Vec<Frame>,
     pub others: Vec<(Place, Frame)>,
 }
@@ -22,7 +22,7 @@ pub fn split_by_peer(
     alloc: Global,
     place: Place,
     frames: Vec<(Place, Frame)>,
-) -> Result<Parted, AllocError>
+) -> Result<SplitQueue, AllocError>
     ensures own { IfOk result (λ parted. parted.own.items ≡ frames_for place frames.items) }
     ensures others { IfOk result (λ parted. parted.others.items ≡ frames_beside place frames.items) }
 {
@@ -35,5 +35,5 @@ pub fn split_by_peer(
             others.push(queued)?;
         }
     }
-    Ok(Parted { own, others })
+    Ok(SplitQueue { own, others })
 }

@@ -1,6 +1,6 @@
 //! The notifications that go out once more although nothing changed.
 
-use crate::mark::{Mark, Verb};
+use crate::mark::{LineMark, LineVerb};
 use am_schedule::{Action, GroupLine, Line, LineEvent, Schedule};
 use std::alloc::{AllocError, Global};
 
@@ -8,7 +8,7 @@ use std::alloc::{AllocError, Global};
 pub fn repeated_lines(
     alloc: Global,
     schedule: &Schedule,
-    marks: &[Mark],
+    marks: &[LineMark],
 ) -> Result<Vec<Option<u64>>, AllocError> {
     let mut lines = Vec::with_capacity(alloc, marks.len())?;
     for (column, mark) in marks.iter().enumerate() {
@@ -20,7 +20,12 @@ pub fn repeated_lines(
 /// Returns the line that a step repeats. Such a step decides to notify a group. The line that it repeats is the last one before
 /// it by which the group was notified at this receiver, through a decision of another member or through `notified`. The alerts
 /// are the same, and the repeat interval of the step isn't over since then.
-fn repeated_line(schedule: &Schedule, marks: &[Mark], column: usize, mark: &Mark) -> Option<u64> {
+fn repeated_line(
+    schedule: &Schedule,
+    marks: &[LineMark],
+    column: usize,
+    mark: &LineMark,
+) -> Option<u64> {
     if !mark.notifies() {
         return None;
     }
@@ -36,11 +41,11 @@ fn repeated_line(schedule: &Schedule, marks: &[Mark], column: usize, mark: &Mark
 /// Returns the last step before another one by which the same group was notified, and the group as it was then.
 fn last_told<'a>(
     schedule: &'a Schedule,
-    marks: &'a [Mark],
+    marks: &'a [LineMark],
     column: usize,
-    mark: &Mark,
+    mark: &LineMark,
     group: &GroupLine,
-) -> Option<(&'a Mark, &'a GroupLine)> {
+) -> Option<(&'a LineMark, &'a GroupLine)> {
     let mut last = None;
     for (place, earlier) in marks.iter().enumerate() {
         if place < column && tells(earlier, mark) {
@@ -54,10 +59,10 @@ fn last_told<'a>(
 }
 
 /// Returns whether a step notified a group as far as a later step can find.
-fn tells(earlier: &Mark, mark: &Mark) -> bool {
+fn tells(earlier: &LineMark, mark: &LineMark) -> bool {
     match earlier.verb {
-        Verb::Notified => !earlier.is_refused(),
-        Verb::Decide => earlier.notifies() && earlier.place != mark.place,
+        LineVerb::Notified => !earlier.is_refused(),
+        LineVerb::Decide => earlier.notifies() && earlier.place != mark.place,
         _ => false,
     }
 }

@@ -2,8 +2,8 @@
 
 use crate::escape::append_escaped;
 use crate::layout::{beyond, edge_of, flight_of, lane_of, loss_of, middle_of};
-use crate::mark::{Mark, Verb};
-use crate::scene::{Fate, Sending};
+use crate::mark::{LineMark, LineVerb};
+use crate::scene::{Fate, SentFrame};
 use crate::sheet::{Position, Sheet, Stroke, append_title, open_curve};
 use am_replay::kind_name;
 use std::alloc::AllocError;
@@ -20,7 +20,7 @@ pub fn append_frames(sheet: &Sheet<'_>, out: &mut String) -> Result<(), AllocErr
 fn append_sending(
     sheet: &Sheet<'_>,
     out: &mut String,
-    sending: &Sending,
+    sending: &SentFrame,
 ) -> Result<(), AllocError> {
     let (sender, addressee) = (sending.sender, sending.addressee);
     match sending.fate {
@@ -48,8 +48,8 @@ fn append_sending(
 fn append_arrivals(sheet: &Sheet<'_>, out: &mut String) -> Result<(), AllocError> {
     for (column, mark) in sheet.scene.marks.iter().enumerate() {
         match mark.verb {
-            Verb::Deliver => append_delivery(sheet, out, mark, column)?,
-            Verb::From => append_written(sheet, out, mark, column)?,
+            LineVerb::Deliver => append_delivery(sheet, out, mark, column)?,
+            LineVerb::From => append_written(sheet, out, mark, column)?,
             _ => {}
         }
     }
@@ -60,7 +60,7 @@ fn append_arrivals(sheet: &Sheet<'_>, out: &mut String) -> Result<(), AllocError
 fn append_delivery(
     sheet: &Sheet<'_>,
     out: &mut String,
-    mark: &Mark,
+    mark: &LineMark,
     column: usize,
 ) -> Result<(), AllocError> {
     let Some(sending) = sheet.scene.frame_of(mark) else {
@@ -79,7 +79,7 @@ fn append_delivery(
 fn append_written(
     sheet: &Sheet<'_>,
     out: &mut String,
-    mark: &Mark,
+    mark: &LineMark,
     column: usize,
 ) -> Result<(), AllocError> {
     let (Some(peer), Some(place)) = (mark.peer, mark.place) else {
@@ -101,7 +101,7 @@ fn open_sending(
     sheet: &Sheet<'_>,
     out: &mut String,
     class: &str,
-    sending: &Sending,
+    sending: &SentFrame,
     end: Position,
 ) -> Result<(), AllocError> {
     let stroke = Stroke {

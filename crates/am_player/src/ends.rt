@@ -2,7 +2,7 @@
 
 use crate::lanes::{MOST_OF_NAME, runs_at_end};
 use crate::layout::{edge_of, end_of};
-use crate::sheet::{Label, Sheet, append_text, append_title};
+use crate::sheet::{Sheet, TextPlace, append_text, append_title};
 use crate::times::append_time;
 use am_cluster::Cluster;
 use am_instance::{Instance, Place};
@@ -83,7 +83,7 @@ fn append_end(
 
 /// Appends the name of a member, and whether it was calm.
 fn append_head(sheet: &Sheet<'_>, out: &mut String, place: Place) -> Result<(), AllocError> {
-    let label = Label {
+    let label = TextPlace {
         class: "who",
         x: 0,
         y: 0,
@@ -123,7 +123,7 @@ fn append_lines(alloc: Global, out: &mut String, view: &str) -> Result<(), Alloc
     if lines.is_empty() {
         return write!(out, "<text class=\"dim\" x=\"{SPOT}\">shows nothing</text>");
     }
-    let mut label = Label {
+    let mut label = TextPlace {
         class: "end",
         x: SPOT,
         y: 0,

@@ -1,8 +1,8 @@
 //! The lanes of a picture.
 
 use crate::layout::{edge_of, lane_of, middle_of};
-use crate::mark::{Mark, Verb};
-use crate::sheet::{Label, Sheet, Stroke, append_text, append_title, open_stroke};
+use crate::mark::{LineMark, LineVerb};
+use crate::sheet::{Sheet, Stroke, TextPlace, append_text, append_title, open_stroke};
 use am_instance::Place;
 use std::alloc::AllocError;
 
@@ -28,7 +28,7 @@ fn append_name(
     let x = lane_of(place);
     write!(out, "<g transform=\"translate({x} 52)\">")?;
     append_title(sheet.alloc, out, name)?;
-    let label = Label {
+    let label = TextPlace {
         class: "name",
         x: 0,
         y: 0,
@@ -59,11 +59,11 @@ fn append_lane(sheet: &Sheet<'_>, out: &mut String, place: Place) -> Result<(), 
 }
 
 /// Returns whether a member runs after a line, given whether it ran before.
-fn runs_behind(mark: &Mark, place: Place, runs: bool) -> bool {
+fn runs_behind(mark: &LineMark, place: Place, runs: bool) -> bool {
     match mark.verb {
         _ if mark.place != Some(place) || mark.is_refused() => runs,
-        Verb::Stop => false,
-        Verb::Start => true,
+        LineVerb::Stop => false,
+        LineVerb::Start => true,
         _ => runs,
     }
 }

@@ -21,4 +21,4 @@ mod times;
 
 pub use drawing::{Drawing, picture_of};
 pub use escape::{append_escaped, append_shortened};
-pub use play::{Host, run_replay};
+pub use play::{PlayerRuntime, run_replay};

@@ -9,7 +9,7 @@ use am_version_order::Moment;
 
 /// The action that a line asks for.
 #[derive(Clone, Copy)]
-pub enum Verb {
+pub enum LineVerb {
     From,
     Notified,
     Decide,
@@ -29,38 +29,38 @@ pub enum Verb {
     Frames,
 }
 
-impl Verb {
+impl LineVerb {
     /// Returns the name of the action.
     pub fn name(self) -> &'static str {
         match self {
-            Verb::From => "from",
-            Verb::Notified => "notified",
-            Verb::Decide => "decide",
-            Verb::Start => "start",
-            Verb::Stop => "stop",
-            Verb::Deliver => "deliver",
-            Verb::Lose => "lose",
-            Verb::Settle => "settle",
-            Verb::Post => "post",
-            Verb::Expire => "end",
-            Verb::Mutes => "mutes",
-            Verb::Show => "show",
-            Verb::Tick => "tick",
-            Verb::Pull => "pull",
-            Verb::Save => "save",
-            Verb::Timely => "timely",
-            Verb::Frames => "frames",
+            LineVerb::From => "from",
+            LineVerb::Notified => "notified",
+            LineVerb::Decide => "decide",
+            LineVerb::Start => "start",
+            LineVerb::Stop => "stop",
+            LineVerb::Deliver => "deliver",
+            LineVerb::Lose => "lose",
+            LineVerb::Settle => "settle",
+            LineVerb::Post => "post",
+            LineVerb::Expire => "end",
+            LineVerb::Mutes => "mutes",
+            LineVerb::Show => "show",
+            LineVerb::Tick => "tick",
+            LineVerb::Pull => "pull",
+            LineVerb::Save => "save",
+            LineVerb::Timely => "timely",
+            LineVerb::Frames => "frames",
         }
     }
 }
 
 /// A line of a schedule as it was played.
 #[derive(Clone, Copy)]
-pub struct Mark {
+pub struct LineMark {
     /// The number of the line, counted from 1.
     pub line: u64,
     pub moment: Option<Moment>,
-    pub verb: Verb,
+    pub verb: LineVerb,
     /// The member that makes the line's step.
     pub place: Option<Place>,
     /// The peer that a frame comes from without a step that sent it.
@@ -70,7 +70,7 @@ pub struct Mark {
     pub answer: LineAnswer,
 }
 
-impl Mark {
+impl LineMark {
     /// Returns the index of the frame that the line names among all that were sent, counted from 0, if that frame is in flight.
     pub fn flying(&self) -> Option<usize> {
         match self.answer {
@@ -91,9 +91,9 @@ impl Mark {
 }
 
 /// Returns what the line of a number did.
-pub fn mark_of(cluster: &Cluster, line: &Line, number: u64, answer: LineAnswer) -> Mark {
+pub fn mark_of(cluster: &Cluster, line: &Line, number: u64, answer: LineAnswer) -> LineMark {
     let (verb, moment, name, frame) = parts_of(line);
-    Mark {
+    LineMark {
         line: number,
         moment,
         verb,
@@ -105,33 +105,33 @@ pub fn mark_of(cluster: &Cluster, line: &Line, number: u64, answer: LineAnswer) 
 }
 
 /// Returns the action that a line asks for, its moment, its member, and the frame that it names.
-fn parts_of(line: &Line) -> (Verb, Option<Moment>, Option<&Word>, Option<u64>) {
+fn parts_of(line: &Line) -> (LineVerb, Option<Moment>, Option<&Word>, Option<u64>) {
     match line {
         Line::Step(step) => match step.action() {
             Action::Event { at, name, event } => (verb_of(event), Some(*at), Some(name), None),
-            Action::Stop { name } => (Verb::Stop, None, Some(name), None),
-            Action::Save { name } => (Verb::Save, None, Some(name), None),
-            Action::Deliver { at, frame } => (Verb::Deliver, Some(*at), None, Some(*frame)),
-            Action::Lose { frame } => (Verb::Lose, None, None, Some(*frame)),
+            Action::Stop { name } => (LineVerb::Stop, None, Some(name), None),
+            Action::Save { name } => (LineVerb::Save, None, Some(name), None),
+            Action::Deliver { at, frame } => (LineVerb::Deliver, Some(*at), None, Some(*frame)),
+            Action::Lose { frame } => (LineVerb::Lose, None, None, Some(*frame)),
         },
-        Line::Settle(now) => (Verb::Settle, Some(*now), None, None),
-        Line::Timely(..) => (Verb::Timely, None, None, None),
-        Line::Frames => (Verb::Frames, None, None, None),
+        Line::Settle(now) => (LineVerb::Settle, Some(*now), None, None),
+        Line::Timely(..) => (LineVerb::Timely, None, None, None),
+        Line::Frames => (LineVerb::Frames, None, None, None),
     }
 }
 
-fn verb_of(event: &LineEvent) -> Verb {
+fn verb_of(event: &LineEvent) -> LineVerb {
     match event {
-        LineEvent::From { .. } => Verb::From,
-        LineEvent::Post(_) => Verb::Post,
-        LineEvent::Expire { .. } => Verb::Expire,
-        LineEvent::Notified(_) => Verb::Notified,
-        LineEvent::Decide { .. } => Verb::Decide,
-        LineEvent::Mutes { .. } => Verb::Mutes,
-        LineEvent::Show => Verb::Show,
-        LineEvent::Tick => Verb::Tick,
-        LineEvent::Pull { .. } => Verb::Pull,
-        LineEvent::Start => Verb::Start,
+        LineEvent::From { .. } => LineVerb::From,
+        LineEvent::Post(_) => LineVerb::Post,
+        LineEvent::Expire { .. } => LineVerb::Expire,
+        LineEvent::Notified(_) => LineVerb::Notified,
+        LineEvent::Decide { .. } => LineVerb::Decide,
+        LineEvent::Mutes { .. } => LineVerb::Mutes,
+        LineEvent::Show => LineVerb::Show,
+        LineEvent::Tick => LineVerb::Tick,
+        LineEvent::Pull { .. } => LineVerb::Pull,
+        LineEvent::Start => LineVerb::Start,
     }
 }
 

@@ -3,7 +3,7 @@
 use crate::escape::{append_escaped, append_shortened};
 use crate::lanes::MOST_OF_NAME;
 use crate::layout::{lane_of, loss_of, middle_of, words_of};
-use crate::mark::{Mark, Verb};
+use crate::mark::{LineMark, LineVerb};
 use crate::sheet::{Sheet, Stroke, append_title, open_stroke};
 use crate::times::append_time;
 use am_instance::Place;
@@ -23,7 +23,7 @@ pub fn append_marks(sheet: &Sheet<'_>, out: &mut String) -> Result<(), AllocErro
 fn append_moment(
     sheet: &Sheet<'_>,
     out: &mut String,
-    mark: &Mark,
+    mark: &LineMark,
     y: u64,
 ) -> Result<(), AllocError> {
     let Some(moment) = mark.moment else {
@@ -38,7 +38,7 @@ fn append_moment(
 fn append_mark(
     sheet: &Sheet<'_>,
     out: &mut String,
-    mark: &Mark,
+    mark: &LineMark,
     column: usize,
 ) -> Result<(), AllocError> {
     let (x, y) = (lane_of_mark(sheet, mark), middle_of(column));
@@ -65,7 +65,7 @@ fn append_mark(
 fn append_words(
     sheet: &Sheet<'_>,
     out: &mut String,
-    mark: &Mark,
+    mark: &LineMark,
     x: u64,
 ) -> Result<(), AllocError> {
     let x = words_of(sheet.names.len()).saturating_sub(x);
@@ -85,12 +85,12 @@ fn append_name(sheet: &Sheet<'_>, out: &mut String, place: Place) -> Result<(), 
 
 /// Returns the position of the mark of a line: at its member's lane, at the place of a frame that is delivered or lost, or else
 /// at the words.
-fn lane_of_mark(sheet: &Sheet<'_>, mark: &Mark) -> u64 {
+fn lane_of_mark(sheet: &Sheet<'_>, mark: &LineMark) -> u64 {
     if let Some(place) = mark.place {
         return lane_of(place);
     }
     match (sheet.scene.frame_of(mark), mark.verb) {
-        (Some(sending), Verb::Lose) => loss_of(sending.sender, sending.addressee),
+        (Some(sending), LineVerb::Lose) => loss_of(sending.sender, sending.addressee),
         (Some(sending), _) => lane_of(sending.addressee),
         (None, _) => words_of(sheet.names.len()),
     }
@@ -100,7 +100,7 @@ fn lane_of_mark(sheet: &Sheet<'_>, mark: &Mark) -> u64 {
 fn append_mark_title(
     sheet: &Sheet<'_>,
     out: &mut String,
-    mark: &Mark,
+    mark: &LineMark,
     repeated: Option<u64>,
 ) -> Result<(), AllocError> {
     let line = mark.line;
@@ -118,18 +118,19 @@ fn append_mark_title(
 
 /// Returns the shape for a line: a cross if a frame is lost, nothing for lines about the whole cluster and for a frame that
 /// isn't in flight, and otherwise a dot.
-fn shape_of(mark: &Mark) -> &'static str {
+fn shape_of(mark: &LineMark) -> &'static str {
     match (mark.verb, mark.flying()) {
-        (Verb::Lose, Some(_)) => "<path class=\"cross\" d=\"M-5-5L5 5M-5 5L5-5\"/>",
-        (Verb::Lose | Verb::Deliver, None) | (Verb::Settle | Verb::Timely | Verb::Frames, _) => "",
+        (LineVerb::Lose, Some(_)) => "<path class=\"cross\" d=\"M-5-5L5 5M-5 5L5-5\"/>",
+        (LineVerb::Lose | LineVerb::Deliver, None)
+        | (LineVerb::Settle | LineVerb::Timely | LineVerb::Frames, _) => "",
         _ => "<circle r=\"5\"/>",
     }
 }
 
 /// Appends the action of a line in words.
-fn append_label(sheet: &Sheet<'_>, out: &mut String, mark: &Mark) -> Result<(), AllocError> {
+fn append_label(sheet: &Sheet<'_>, out: &mut String, mark: &LineMark) -> Result<(), AllocError> {
     match (mark.verb, sheet.scene.frame_of(mark)) {
-        (Verb::Deliver, Some(sending)) => {
+        (LineVerb::Deliver, Some(sending)) => {
             let (kind, number) = (kind_name(sending.kind), sending.number);
             write!(out, "{kind} {number} to ")?;
             append_name(sheet, out, sending.addressee)
@@ -138,7 +139,7 @@ fn append_label(sheet: &Sheet<'_>, out: &mut String, mark: &Mark) -> Result<(), 
     }
 }
 
-fn append_verb(sheet: &Sheet<'_>, out: &mut String, mark: &Mark) -> Result<(), AllocError> {
+fn append_verb(sheet: &Sheet<'_>, out: &mut String, mark: &LineMark) -> Result<(), AllocError> {
     out.push_str(mark.verb.name())?;
     if let Some(number) = mark.frame {
         write!(out, " {number}")?;
@@ -165,7 +166,7 @@ fn append_answer(out: &mut String, answer: &LineAnswer) -> Result<(), AllocError
 pub fn append_settles(sheet: &Sheet<'_>, out: &mut String) -> Result<(), AllocError> {
     for (column, mark) in sheet.scene.marks.iter().enumerate() {
         match mark.verb {
-            Verb::Settle if !mark.is_refused() => append_settle(sheet, out, mark, column)?,
+            LineVerb::Settle if !mark.is_refused() => append_settle(sheet, out, mark, column)?,
             _ => {}
         }
     }
@@ -175,7 +176,7 @@ pub fn append_settles(sheet: &Sheet<'_>, out: &mut String) -> Result<(), AllocEr
 fn append_settle(
     sheet: &Sheet<'_>,
     out: &mut String,
-    mark: &Mark,
+    mark: &LineMark,
     column: usize,
 ) -> Result<(), AllocError> {
     let y = middle_of(column);

@@ -5,7 +5,7 @@ ghost use Rattle.std.specs.Io.KnownBytes.{Appends};
 ghost use Rattle.am_replay.specs.Replays.{HasReplayed};
 
 use crate::drawing::{Drawing, picture_of};
-use crate::play::Host;
+use crate::play::PlayerRuntime;
 use crate::progress::Display;
 use crate::schedule_fault::ScheduleFault;
 use am_replay::{ReplayError, read_input};
@@ -15,7 +15,7 @@ use std::fs;
 use std::io::{Read, Write};
 
 /// Plays the schedule on the input, writes its picture into a file, and then writes what it prints.
-pub fn draw<H: Host, R: Read, W: Write>(
+pub fn draw<H: PlayerRuntime, R: Read, W: Write>(
     rt: &H,
     input: &mut R,
     output: &mut W,
@@ -54,7 +54,7 @@ fn print<W: Write>(output: &mut W, text: &str) -> Result<(), ScheduleFault>
 }
 
 /// Writes a picture into a file.
-fn write_picture<H: Host>(rt: &H, file: &str, picture: &str) -> Result<(), ScheduleFault> {
+fn write_picture<H: PlayerRuntime>(rt: &H, file: &str, picture: &str) -> Result<(), ScheduleFault> {
     match write_file(rt, file, picture) {
         Ok(()) => Ok(()),
         Err(fault) => Err(ScheduleFault::Picture(fault)),
@@ -62,7 +62,7 @@ fn write_picture<H: Host>(rt: &H, file: &str, picture: &str) -> Result<(), Sched
 }
 
 /// Writes a file.
-fn write_file<H: Host>(rt: &H, path: &str, text: &str) -> Result<(), FileFault> {
+fn write_file<H: PlayerRuntime>(rt: &H, path: &str, text: &str) -> Result<(), FileFault> {
     let mut file = fs::create(rt, path)?;
     file.write_all(text.as_bytes())?;
     Ok(())

@@ -13,13 +13,13 @@ use std::io::{Read, Write};
 use std::rt::{Clock, Files};
 
 /// The parts of a runtime that a player uses.
-pub trait Host: AllocGlobal + Clock + Eprint + Files + HasAudience {}
+pub trait PlayerRuntime: AllocGlobal + Clock + Eprint + Files + HasAudience {}
 
-impl<H: AllocGlobal + Clock + Eprint + Files + HasAudience> Host for H {}
+impl<H: AllocGlobal + Clock + Eprint + Files + HasAudience> PlayerRuntime for H {}
 
 /// Plays the schedule on the input, and returns the exit status of the program. If a file is named, the schedule is drawn into
 /// it. The progress of the playing is shown to a person on standard error.
-pub fn run_replay<H: Host, R: Read, W: Write>(
+pub fn run_replay<H: PlayerRuntime, R: Read, W: Write>(
     rt: &H,
     input: &mut R,
     output: &mut W,

@@ -1,6 +1,6 @@
 //! The progress of playing a schedule, for people.
 
-use crate::play::Host;
+use crate::play::PlayerRuntime;
 use am_diagnostics::Audience;
 use am_replay::Observer;
 use std::time::{Duration, Instant};
@@ -21,14 +21,14 @@ pub struct Display<'a, H> {
 }
 
 /// Returns the moment that is `millis` milliseconds from now, if the clock can be read.
-fn moment_after<H: Host>(rt: &H, millis: u64) -> Option<Instant> {
+fn moment_after<H: PlayerRuntime>(rt: &H, millis: u64) -> Option<Instant> {
     match Instant::now(rt) {
         Ok(now) => now.checked_add(Duration::from_millis(millis)),
         Err(_) => None,
     }
 }
 
-impl<'a, H: Host> Display<'a, H> {
+impl<'a, H: PlayerRuntime> Display<'a, H> {
     /// Returns the display of a replay. It shows something only to a person, and only once the replay has taken a while.
     pub fn new(rt: &'a H) -> Display<'a, H> {
         let due = match rt.audience() {
@@ -59,7 +59,7 @@ impl<'a, H: Host> Display<'a, H> {
     }
 }
 
-impl<H: Host> Observer for Display<'_, H> {
+impl<H: PlayerRuntime> Observer for Display<'_, H> {
     fn is_at(&mut self, lines: usize, all: usize) {
         if self.due.is_none() {
             return;

@@ -1,6 +1,6 @@
 //! The facts that are collected of a schedule while it is played.
 
-use crate::mark::{Mark, Verb};
+use crate::mark::{LineMark, LineVerb};
 use am_cluster::Flight;
 use am_gossip::FrameKind;
 use am_instance::Place;
@@ -19,7 +19,7 @@ pub enum Fate {
 
 /// A frame that was sent.
 #[derive(Clone, Copy)]
-pub struct Sending {
+pub struct SentFrame {
     /// The number of the frame, counted from 1, among all that were ever sent.
     pub number: u64,
     /// The number, counted from 0, of the step that sent it.
@@ -33,8 +33,8 @@ pub struct Sending {
 /// A schedule as it was played: what each line did, and all frames that were sent, by their numbers.
 #[derive(Drop)]
 pub struct Scene {
-    pub marks: Vec<Mark>,
-    pub sendings: Vec<Sending>,
+    pub marks: Vec<LineMark>,
+    pub sendings: Vec<SentFrame>,
 }
 
 impl Scene {
@@ -47,7 +47,7 @@ impl Scene {
     }
 
     /// Returns the frame that a line delivers or loses, if it is in flight.
-    pub fn frame_of(&self, mark: &Mark) -> Option<&Sending> {
+    pub fn frame_of(&self, mark: &LineMark) -> Option<&SentFrame> {
         self.sendings.get(mark.flying()?)
     }
 
@@ -64,7 +64,7 @@ impl Scene {
     /// # Errors
     ///
     /// [`AllocError`] if memory runs out.
-    pub fn add(&mut self, mark: Mark, flights: &[Flight]) -> Result<(), AllocError> {
+    pub fn add(&mut self, mark: LineMark, flights: &[Flight]) -> Result<(), AllocError> {
         let column = self.marks.len();
         if let Some((index, fate)) = turn_of(&mark, column) {
             self.turn(index, fate);
@@ -92,17 +92,17 @@ impl Scene {
 }
 
 /// Returns the fate of the frame that the line of this number delivers or loses, and the frame's index.
-fn turn_of(mark: &Mark, column: usize) -> Option<(usize, Fate)> {
+fn turn_of(mark: &LineMark, column: usize) -> Option<(usize, Fate)> {
     let fate = match mark.verb {
-        Verb::Lose => Fate::Lost(column),
+        LineVerb::Lose => Fate::Lost(column),
         _ => Fate::Delivered,
     };
     Some((mark.flying()?, fate))
 }
 
 /// Returns a frame that the step of this number sent.
-fn sent_by(column: usize, flight: &Flight) -> Sending {
-    Sending {
+fn sent_by(column: usize, flight: &Flight) -> SentFrame {
+    SentFrame {
         number: flight.number,
         column,
         sender: flight.sender,

@@ -95,7 +95,7 @@ fn near(from: u64, to: u64) -> u64 {
 
 /// The place of a text, and how it looks.
 #[derive(Clone, Copy)]
-pub struct Label<'a> {
+pub struct TextPlace<'a> {
     pub class: &'a str,
     pub x: i32,
     pub y: i32,
@@ -107,7 +107,7 @@ pub struct Label<'a> {
 pub fn append_text(
     alloc: Global,
     out: &mut String,
-    label: &Label<'_>,
+    label: &TextPlace<'_>,
     text: &str,
 ) -> Result<(), AllocError> {
     let (class, x, y) = (label.class, label.x, label.y);

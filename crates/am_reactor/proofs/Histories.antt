@@ -1,4 +1,4 @@
--- What a loop did, one happening more.
+-- The history of a loop, by one more happening.
 use Rattle.std.proofs.Common.{◌≡◌, ◌≢◌, ◌∙◌, ◌==◌, ap, sym, subst, ℕ, zero, suc, Bool, true, false, List, [], ◌∷◌, ◌++◌, length, take, refl, Option, None, Some, IsSome, option_map, arith, if◌then◌else◌, inl, inr, ◌⊎◌, take_at}
 use Rattle.std.proofs.lemmas.Bool.Decides.{nat_tests}
 use Rattle.am_reactor.specs.Deeds.{Deed, ending, feeds, joined, sends}

@@ -1,4 +1,4 @@
--- What passes over a stream, one call more.
+-- The bytes that passed over a stream, by one more call.
 use Rattle.std.proofs.Common.{◌≡◌, ◌≢◌, ◌∙◌, ◌<◌, ap, sym, refl, arith, ℕ, zero, suc, List, [], ◌++◌, append-nil, append_assoc, length, take}
 use Rattle.am_reactor.specs.Streams.{Appends, Arrival, Receives}
 

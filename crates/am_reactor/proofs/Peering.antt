@@ -1,4 +1,4 @@
--- What a loop does, one step more, and that each step is calls.
+-- The steps of a loop, by one more, each of which is calls.
 use Rattle.std.proofs.Common.{◌≡◌, ◌⊎◌, ap, sym, subst, ℕ, zero, suc, List, [], ◌∷◌, ◌++◌, Option, None, Some, MatchOption, length, refl, inl, inr}
 use Rattle.slab.specs.Slab.{Slab}
 use Rattle.am_reactor.specs.declared.connection.Connection.{Connection}

@@ -1,4 +1,4 @@
--- What is reported of one member after the other.
+-- Reports on one member after the other.
 use Rattle.std.proofs.Common.{◌≡◌, ℕ, ◌+◌, ◌<◌, List, [], ◌∷◌, ◌++◌, Option, refl, sym, ap, ◌∙◌, subst, append_assoc, append-nil, drop, length, get_or, suc, drop-cons, add-one}
 use Rattle.am_cluster.specs.Worlds.{World}
 use Rattle.am_replay.specs.Reports.{AreReportsFrom, IsReport, PrintsReports, report_text}

@@ -1,4 +1,4 @@
--- What a member shows is the view of its maps.
+-- A member shows the view of its maps.
 use Rattle.std.proofs.Common.{◌≡◌, ℕ, List, [], ◌∷◌, ◌++◌, true, Option, Some, map, filter, length, refl, ap, ap₂, ◌∙◌}
 use Rattle.std.specs.List.{flat_map}
 use Rattle.std.proofs.lemmas.List.{length-map}

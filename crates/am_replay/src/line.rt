@@ -7,7 +7,7 @@ use crate::names::{decision_name, kind_name, refusal_name, yes_or_no};
 use crate::refusal::LineRefusal;
 use am_dedup::Decision;
 use am_gossip::FrameKind;
-use am_report::{Owner, Texts, Word};
+use am_report::{EscapedWord, Owner, Texts};
 use am_wire::Text;
 use std::alloc::AllocError;
 use std::fmt::{self, Display};
@@ -111,10 +111,10 @@ impl Display for OutputLine<'_> {
 }
 
 /// Returns a text as a word.
-fn word(text: &str) -> Word<'_>
+fn word(text: &str) -> EscapedWord<'_>
     ensures { result.0.now ≡ text.now }
 {
-    Word(text.as_bytes())
+    EscapedWord(text.as_bytes())
 }
 
 /// Appends a line and its line end.

@@ -3,7 +3,7 @@
 ghost use Rattle.std.specs.Prelude.{◌≡◌};
 ghost use Rattle.am_report.specs.Later.{has_later, has_later_source};
 
-use crate::replica::Replica;
+use crate::held_source::HeldSource;
 use am_merge::Held;
 use am_version_order::{Moment, Version};
 
@@ -19,7 +19,7 @@ pub fn has_later<V: Version>(held: &Held<V>, now: Moment) -> bool
 }
 
 /// Returns whether a version of a source was updated after the moment. It takes no memory.
-pub fn has_later_source<V: Version>(replicas: &[Replica<'_, V>], now: Moment) -> bool
+pub fn has_later_source<V: Version>(replicas: &[HeldSource<'_, V>], now: Moment) -> bool
     ensures { result ≡ has_later_source V.seen now replicas.now }
 {
     let mut found = false;

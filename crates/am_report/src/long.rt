@@ -9,7 +9,7 @@ ghost use Rattle.am_report.specs.Words.{word_of};
 use crate::less::differing_text;
 use crate::moments::shown_moment;
 use crate::with_unknown::WithUnknown;
-use crate::words::{ListedWord, Tail, Word};
+use crate::words::{EscapedWord, ListedWord, Tail};
 use am_nflog::LogKey;
 use am_silence::{MatcherIter, MatcherKind, MatcherRef, MeshSilence};
 use am_version_order::Moment;
@@ -67,7 +67,7 @@ fn matchers_text(alloc: Global, matchers: MatcherIter<'_>) -> Result<String, All
 fn word_text(alloc: Global, text: &str) -> Result<String, AllocError>
     ensures { IfOk result (λ word. string_bytes word ≡ word_of text.now) }
 {
-    let word = Word(text.as_bytes());
+    let word = EscapedWord(text.as_bytes());
     format!(in alloc; "{word}")
 }
 

@@ -10,7 +10,7 @@ use crate::long::{append_fields_change, append_long_key, append_long_silence};
 use crate::moments::shown_moment;
 use crate::view_lines::{LogKeyWords, state_name};
 use crate::with_unknown::WithUnknown;
-use crate::words::Word;
+use crate::words::EscapedWord;
 use am_nflog::{LogKey, MeshEntry};
 use am_silence::MeshSilence;
 use am_version_order::Version;
@@ -78,7 +78,7 @@ impl ReportLine for MeshSilence {
     ghost more = { more_of_silence };
 
     fn append_key(out: &mut String, key: &Text) -> Result<(), AllocError> {
-        let id = Word(key.as_str().as_bytes());
+        let id = EscapedWord(key.as_str().as_bytes());
         write!(out, "sil {id}")
     }
 

@@ -5,7 +5,7 @@ ghost use Rattle.std.specs.Option.{option_copied};
 ghost use Rattle.am_report.specs.Views.{entry_line, shows_line, silence_line, state_word};
 
 use crate::lists::Numbers;
-use crate::words::Word;
+use crate::words::EscapedWord;
 use am_nflog::{LogKey, MeshEntry};
 use am_silence::{MeshSilence, State};
 use am_version_order::Version;
@@ -26,7 +26,7 @@ impl Display for Owner<'_> {
         let Some(name) = self.0 else {
             return Ok(());
         };
-        write!(f, "{} ", Word(name.as_bytes()))
+        write!(f, "{} ", EscapedWord(name.as_bytes()))
     }
 }
 
@@ -42,9 +42,9 @@ impl Display for LogKeyWords<'_> {
 
     #[tactic(auto, unfolding(crate::specs::Views::key_words))]
     fn fmt<W: fmt::Write>(&self, f: &mut fmt::Formatter<W>) -> fmt::Result {
-        let group = Word(self.0.group_key());
-        let name = Word(self.0.group_name().as_bytes());
-        let integration = Word(self.0.integration().as_bytes());
+        let group = EscapedWord(self.0.group_key());
+        let name = EscapedWord(self.0.group_name().as_bytes());
+        let integration = EscapedWord(self.0.integration().as_bytes());
         let idx = self.0.idx();
         write!(f, "{group} {name} {integration} {idx}")
     }
@@ -74,7 +74,7 @@ pub fn append_shows(
     let Some(name) = name else {
         return Ok(());
     };
-    let name = Word(name.as_bytes());
+    let name = EscapedWord(name.as_bytes());
     writeln!(out, "{name} shows {silences} {entries}")
 }
 
@@ -88,7 +88,7 @@ pub fn append_silence(
 ) -> Result<(), AllocError>
     ensures { OnOk result (string_bytes out.new ≡ string_bytes out.old ++ silence_line (option_copied owner.entry.0) version.now state) }
 {
-    let id = Word(version.key().as_str().as_bytes());
+    let id = EscapedWord(version.key().as_str().as_bytes());
     let state = state_name(state);
     writeln!(out, "{owner}sil {id} {state}")
 }

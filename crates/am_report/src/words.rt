@@ -20,9 +20,9 @@ const SPELLED_AT_END: AsciiSet = ascii_set!(CONTROLS.add(b'%'));
 /// A text that is displayed as a word: bytes from `!` to `~` except `%` as they are, each other byte as `%` and two
 /// upper-case hexadecimal digits; the empty text as `-`, and the text `-` as `%2D`.
 #[derive(Clone, Copy)]
-pub struct Word<'a>(pub &'a [u8]);
+pub struct EscapedWord<'a>(pub &'a [u8]);
 
-impl Display for Word<'_> {
+impl Display for EscapedWord<'_> {
     ghost use Rattle.std.specs.Prelude.{Some};
     ghost use Rattle.am_report.specs.Words.{word_of};
 
@@ -37,7 +37,7 @@ impl Display for Word<'_> {
     }
 }
 
-/// A text that is displayed as a word of a list, whose words have commas between them: like a [`Word`], with a comma as
+/// A text that is displayed as a word of a list, whose words have commas between them: like a [`EscapedWord`], with a comma as
 /// `%2C`.
 #[derive(Clone, Copy)]
 pub struct ListedWord<'a>(pub &'a [u8]);
@@ -57,7 +57,7 @@ impl Display for ListedWord<'_> {
     }
 }
 
-/// A text that is displayed at the end of a line: like a [`Word`], but a blank stands for itself.
+/// A text that is displayed at the end of a line: like a [`EscapedWord`], but a blank stands for itself.
 #[derive(Clone, Copy)]
 pub struct Tail<'a>(pub &'a [u8]);
 

@@ -11,8 +11,8 @@ use crate::compared::Compared;
 use crate::difference::append_difference;
 use crate::differences::next_difference;
 use crate::format::LineFormat;
+use crate::held_source::{HeldSource, sides_of};
 use crate::merge_cursor::MergeCursor;
-use crate::replica::{Replica, sides_of};
 use crate::report_line::ReportLine;
 use am_snapshot::SnapshotError;
 use am_wire::send;
@@ -49,7 +49,7 @@ fn append_left<V: ReportLine>(
 pub fn append_differences<V: ReportLine>(
     alloc: Global,
     out: &mut String,
-    replicas: &[Replica<'_, V>],
+    replicas: &[HeldSource<'_, V>],
     compared: Compared,
     format: &LineFormat,
 ) -> Result<bool, AllocError>
@@ -70,7 +70,7 @@ pub fn append_differences<V: ReportLine>(
 /// and it is not tried again. [`SnapshotError::Memory`] if memory runs out, before a byte goes out.
 pub fn write_differences<V: ReportLine, W: Write>(
     alloc: Global,
-    replicas: &[Replica<'_, V>],
+    replicas: &[HeldSource<'_, V>],
     compared: Compared,
     format: &LineFormat,
     writer: &mut W,

@@ -1,4 +1,4 @@
--- Whether a version comes in time can be told from the greatest taken of its key and the last collection.
+-- A version comes in time or not by the greatest taken of its key and the last collection.
 use Rattle.std.proofs.Common.{◌≡◌, ◌≢◌, ◌↔◌, inl, inr, ℕ, ◌<◌, ◌≤◌, Bool, true, false, not, ◌&&◌, cond, List, [], ◌∷◌, ◌++◌, Option, Some, None, refl, sym, ap, ◌∙◌, subst, arith, map, append_assoc, append-nil, ltb}
 use Rattle.std.specs.Prelude.{Contains, All, MatchOption}
 use Rattle.std.specs.declared.cmp.Ordering.{Ordering}

@@ -1,4 +1,4 @@
--- What holds of each element of a list, with those before it.
+-- A property of each element of a list and those before it.
 use Rattle.std.proofs.Common.{◌≡◌, ℕ, ◌<◌, ◌+◌, List, [], ◌∷◌, ◌++◌, suc, ◌≤◌, drop-cons, length-take-le, refl, sym, ap, ◌∙◌, subst, arith, map, take, drop, get_or, length, append_assoc, append-nil}
 use Rattle.std.proofs.lemmas.List.{length-map, take_more, take_all, take-append-drop, map-append}
 use Rattle.am_runs.specs.Steps.{EachStep, IsFirstWithout}

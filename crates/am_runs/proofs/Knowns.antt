@@ -1,4 +1,4 @@
--- What the tests of calm go on with is what they are to know of a member.
+-- The tests of calm keep exactly the facts about a member that they need.
 use Rattle.std.proofs.Common.{◌≢◌, ℕ, ◌<◌, Bool, true, false, cond, max, List, [], ◌∷◌, ◌++◌, Option, Some, None, refl, sym, subst, arith}
 use Rattle.std.specs.Prelude.{Contains, All}
 use Rattle.std.specs.declared.cmp.Ordering.{Ordering}

@@ -1,4 +1,4 @@
--- What a loop over steps has seen so far.
+-- The elements that a loop over steps has seen so far.
 use Rattle.std.proofs.Common.{◌≡◌, ℕ, ◌<◌, ◌≤◌, ◌+◌, List, [], ◌∷◌, ◌++◌, sym, ap, ◌∙◌, subst, map, take, drop, get_or, length}
 use Rattle.std.specs.Prelude.{All, Contains}
 use Rattle.std.proofs.lemmas.Grind.{flat_map-append}

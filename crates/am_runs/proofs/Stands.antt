@@ -1,4 +1,4 @@
--- What stands of members once a step is made.
+-- The states of members once a step is made.
 use Rattle.std.proofs.Common.{◌≡◌, ◌≢◌, ◌↔◌, inl, inr, ℕ, ◌<◌, Bool, true, false, cond, eqb, List, [], ◌∷◌, ◌++◌, Option, Some, None, Result, Ok, Err, suc, zero, refl, sym, ap, ◌∙◌, subst, arith, length, slice_get, append_assoc, length-append, ◌-◌}
 use Rattle.std.specs.Prelude.{MatchOption, slice_set, IsTrue, OnOk, is_err}
 use Rattle.std.specs.declared.cmp.Ordering.{Ordering}

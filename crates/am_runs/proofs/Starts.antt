@@ -1,4 +1,4 @@
--- Whether a member runs is told by its stops and starts, and its last moment by its events and starts.
+-- A member's stops and starts tell whether it runs, its events and starts its last moment.
 use Rattle.std.proofs.Common.{◌≡◌, ℕ, Bool, true, false, cond, eqb, List, [], ◌∷◌, refl, sym, ap, ◌∙◌}
 use Rattle.am_runs.specs.Steps.{RunStep, is_at}
 use Rattle.am_runs.specs.Steps.RunStep.{Took, Ticked, Back, Refused, Saved, Stopped, Started}

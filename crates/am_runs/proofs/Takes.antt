@@ -1,4 +1,4 @@
--- What a member takes with the versions of an event, and whether each comes in time, one after the other.
+-- The versions of an event that a member takes, one after the other, and whether each comes in time.
 use Rattle.std.proofs.Common.{◌≡◌, ◌↔◌, ℕ, ◌+◌, ◌<◌, Bool, true, ◌&&◌, List, [], ◌∷◌, ◌++◌, Option, Result, Ok, Err, refl, sym, ap, ◌∙◌, subst, length, take, get_or}
 use Rattle.std.specs.Prelude.{IsTrue, IfOk, OnOk}
 use Rattle.std.specs.declared.cmp.Ordering.{Ordering}

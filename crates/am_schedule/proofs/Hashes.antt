@@ -1,4 +1,4 @@
--- How many numbers a word can hold.
+-- The number of numbers that a word can hold.
 use Rattle.std.proofs.Common.{◌≡◌, ℕ, ◌+◌, ◌*◌, ◌<◌, ◌≤◌, Bool, true, false, List, [], ◌∷◌, length, Option, Some, None, Ok, cond, refl, sym, ap, subst, arith}
 use Rattle.std.specs.Prelude.{option_map, option_and_then, codes, ◌==◌}
 use Rattle.std.specs.List.{slice_split, onto_first}

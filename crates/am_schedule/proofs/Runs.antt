@@ -1,4 +1,4 @@
--- What is left of a text behind some lines.
+-- The rest of a text behind some lines.
 use Rattle.std.proofs.Common.{◌≡◌, ℕ, ◌+◌, List, [], ◌∷◌, ◌++◌, length, Option, Some, None, Result, Ok, Err, refl, sym, ap, ◌<◌, ◌≤◌, arith, ◌∙◌, append_assoc, length-append}
 use Rattle.std.proofs.lemmas.List.{append-nil}
 use Rattle.am_schedule.specs.declared.error.FaultKind.{FaultKind}

@@ -1,4 +1,4 @@
--- What goes out of a sealed connection before any reply: the beginning of its challenge.
+-- The bytes that go out of a sealed connection before any reply: the beginning of its challenge.
 use Rattle.std.proofs.Math.Seq.{take-add}
 use Rattle.std.proofs.lemmas.List.{length-take, take-append-le, take_all}
 use Rattle.std.proofs.Math.Seq.{take-append-add}

@@ -1,4 +1,4 @@
--- What is replied, one call after the other.
+-- The replies, one call after the other.
 use Rattle.std.proofs.Common.{◌≡◌, ◌⊎◌, ◌∙◌, ℕ, Bool, false, ◌||◌, not, List, [], None, inl, inr, refl, sym, subst, ap}
 use Rattle.am_wire.specs.declared.unknown.Unknown.TheVariants.{Drop}
 use Rattle.am_matcher.specs.declared.dialect.Dialect.TheVariants.{Regex}

@@ -1,4 +1,4 @@
--- What goes out of a connection: the rest of its challenge, and a reply behind it.
+-- The bytes that go out of a connection: the rest of its challenge, and a reply behind it.
 use Rattle.std.proofs.Common.{◌≡◌, ◌∙◌, ◌+◌, ◌-◌, ◌++◌, ℕ, zero, suc, min, List, [], length, drop, refl, sym, ap, inl, inr, arith}
 use Rattle.std.proofs.Math.Seq.{drop-append-add}
 use Rattle.std.proofs.lemmas.Bool.{cases_lt}

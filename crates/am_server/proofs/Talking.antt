@@ -1,4 +1,4 @@
--- What calls make of a member's connections, as its life.
+-- The calls of a member's connections, as its life.
 use Rattle.std.proofs.lemmas.List.{length-take, take_min}
 use Rattle.std.proofs.Common.{◌≡◌, ◌≢◌, ◌⊎◌, ◌∙◌, ◌-◌, ℕ, min, List, [], ◌∷◌, ◌++◌, take, drop, length, Option, None, Some, Result, Ok, Err, ap, sym, subst, refl, inl, inr, append-nil, append_assoc, arith}
 use Rattle.std.proofs.lemmas.Bool.{cases_lt}

@@ -89,7 +89,7 @@ pub struct Intervals {
 pub struct Timers {
     tick: Timer,
     /// True if a peer asked for a Tick.
-    owes_tick: bool,
+    is_tick_requested: bool,
     /// The moment before which the member makes no Tick that a peer asks for.
     next_tick: Option<Instant>,
     pull: Timer,
@@ -106,7 +106,7 @@ impl Timers {
     pub fn new(intervals: &Intervals, signals: bool, now: Instant) -> Timers {
         let mut duties = Timers {
             tick: Timer::every(now, intervals.tick),
-            owes_tick: false,
+            is_tick_requested: false,
             next_tick: None,
             pull: Timer::every(now, intervals.pull),
             pull_every: intervals.pull,
@@ -136,25 +136,25 @@ impl Timers {
     }
 
     /// Notes that a peer asks for a Tick, if it does.
-    pub fn owe_tick(&mut self, asks: bool) {
-        self.owes_tick |= asks;
+    pub fn request_tick(&mut self, asks: bool) {
+        self.is_tick_requested |= asks;
     }
 
     /// Returns whether a Tick is due, by its timer or because a peer asked for one.
     pub fn is_tick_due(&mut self, now: Instant) -> bool {
         let own = self.tick.is_due(now);
         let next = self.next_tick;
-        if !own && !(self.owes_tick && is_reached(next, now)) {
+        if !own && !(self.is_tick_requested && is_reached(next, now)) {
             return false;
         }
-        self.owes_tick = false;
+        self.is_tick_requested = false;
         self.next_tick = now.checked_add(Duration::from_millis(TICK_AT_MOST_EVERY));
         true
     }
 
     /// Returns when the Tick is due that a peer asked for, if one did.
-    fn owed_tick(&self, now: Instant) -> Option<Instant> {
-        if self.owes_tick {
+    fn requested_tick(&self, now: Instant) -> Option<Instant> {
+        if self.is_tick_requested {
             Some(self.next_tick.unwrap_or(now))
         } else {
             None
@@ -191,11 +191,11 @@ impl Timers {
 
     /// Returns the time until something is due.
     pub fn left(&self, now: Instant) -> Option<Duration> {
-        let owed_tick = Timer::from(self.owed_tick(now), Duration::ZERO);
+        let requested_tick = Timer::from(self.requested_tick(now), Duration::ZERO);
         let mut left = None;
         for timer in [
             self.tick,
-            owed_tick,
+            requested_tick,
             self.pull,
             self.save,
             self.signal,

@@ -1,4 +1,4 @@
--- Where the bucket of matchers stands in their text.
+-- The place of the matchers' bucket in their encoding.
 use Rattle.std.proofs.Common.{◌≡◌, ℕ, ◌+◌, ◌-◌, ◌<◌, ◌^◌, Bool, true, false, find, List, [], ◌∷◌, ◌++◌, length, length-append, append_assoc, drop, Option, Some, None, if◌then◌else◌, refl, sym, ap, subst, ◌∙◌, arith}
 use Rattle.std.specs.Prelude.{MatchOption, IsSomeAnd}
 use Rattle.std.specs.List.{list_any}

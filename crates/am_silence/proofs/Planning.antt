@@ -1,4 +1,4 @@
--- What plans make is greater than what it takes the place of.
+-- The versions of a plan are greater than those that they replace.
 use Rattle.std.proofs.Common.{◌≡◌, ℕ, ◌<◌, Bool, true, false, nat_lt, nat_le, Option, Some, None, IfSome, is_some, if◌then◌else◌, refl, arith}
 use Rattle.std.proofs.lemmas.Bool.{lt-ltb}
 use Rattle.std.specs.Cmp.{second_so}

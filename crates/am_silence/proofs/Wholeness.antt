@@ -1,4 +1,4 @@
--- Where nothing of a held version is lost, nothing is lost of what a post or an end makes of it.
+-- A post or an end loses nothing of a held version of which nothing is lost.
 use Rattle.std.proofs.Common.{ℕ, Bool, true, false, [], ◌∷◌, Option, Some, None, IfSome, is_some, if◌then◌else◌, refl, ap}
 use Rattle.std.specs.Prelude.{All}
 use Rattle.std.proofs.lemmas.List.Elements.{All-nil, All-cons}

@@ -1,4 +1,4 @@
--- What the tokens of a value print.
+-- The text of a value's tokens.
 use Rattle.std.proofs.Common.{◌≡◌, ℕ, List, [], ◌∷◌, ◌++◌, sym, ap, ap₂, ◌∙◌, refl, append_assoc}
 use Rattle.json.specs.Token.{Token, begin_array, end_array}
 use Rattle.json.specs.Print.{print}

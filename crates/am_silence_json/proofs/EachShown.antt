@@ -10,7 +10,7 @@ use Rattle.serde_json.specs.View.{view, items_view}
 use Rattle.serde_json.specs.declared.value.Value.{Value}
 use Rattle.am_silence.specs.Mesh.{Mesh}
 use Rattle.am_silence.specs.declared.matcher.Matcher.{Matcher}
-use Rattle.am_silence_json.specs.declared.shown.Shown.{Shown}
+use Rattle.am_silence_json.specs.declared.shown.ShownFields.{ShownFields}
 use Rattle.am_silence_json.specs.Posts.{matchers_in}
 use Rattle.am_silence_json.specs.Borrowed.{HasShown, shown_silence}
 use Rattle.am_silence_json.specs.Shown.{IsShown, AreShown, FitsMessage, until_end, IsFirstUnshown}
@@ -47,7 +47,7 @@ first_at vs i v ms h e shown fits = record {
 }
 
 -- the object's matchers alone are wrong
-pub first_unshown : (d : Data) (s : Shown) → HasShown d s → matchers_in d ≡ None → IsFirstUnshown d keys.Matchers
+pub first_unshown : (d : Data) (s : ShownFields) → HasShown d s → matchers_in d ≡ None → IsFirstUnshown d keys.Matchers
 first_unshown d s h none = record {
   wrong = λ some. let no = rw none at some in absurd cc;
   before = (
@@ -63,7 +63,7 @@ first_unshown d s h none = record {
 }
 
 -- the version of an object's parts
-pub whole_shown : (d : Data) (s : Shown) (ms : List Matcher) → HasShown d s → matchers_in d ≡ Some ms → IsShown d (until_end (shown_silence s ms))
+pub whole_shown : (d : Data) (s : ShownFields) (ms : List Matcher) → HasShown d s → matchers_in d ≡ Some ms → IsShown d (until_end (shown_silence s ms))
 whole_shown d s ms h matchers = record {
   id = h.id;
   starts_at = h.starts_at;

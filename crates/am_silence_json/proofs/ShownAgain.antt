@@ -1,4 +1,4 @@
--- What is written of a silence shows it, cut to milliseconds.
+-- The written text of a silence shows it, cut to milliseconds.
 use Rattle.std.proofs.Common.{◌≡◌, ℕ, List, [], ◌∷◌, map, Some, refl, ap, ◌∙◌, arith}
 use Rattle.std.specs.Prelude.{codes, option_and_then, option_map}
 use Rattle.serde_json.specs.Data.{Data}

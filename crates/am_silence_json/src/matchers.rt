@@ -53,21 +53,21 @@ fn kind_of(regex: bool, equal: bool) -> MatcherKind
 
 /// A matcher, borrowed from its value.
 #[derive(Clone, Copy)]
-struct Parts<'v> {
+struct MatcherParts<'v> {
     kind: MatcherKind,
     name: &'v str,
     pattern: &'v str,
 }
 
 /// Returns the matcher in a value, still borrowed from it.
-fn parts_of(value: &Value) -> Option<Parts<'_>>
+fn parts_of(value: &Value) -> Option<MatcherParts<'_>>
     ensures { option_map matcher_in result ≡ matcher_of (view value.now) }
 {
     let name = text_in(value, "name")?;
     let pattern = text_in(value, "value")?;
     let regex = truth_in(value, "isRegex")?;
     let equal = equal_in(value)?;
-    Some(Parts {
+    Some(MatcherParts {
         kind: kind_of(regex, equal),
         name,
         pattern,
@@ -75,7 +75,7 @@ fn parts_of(value: &Value) -> Option<Parts<'_>>
 }
 
 /// Copies a borrowed matcher into an owned one.
-fn copied(alloc: Global, parts: Parts<'_>) -> Result<Matcher, AllocError>
+fn copied(alloc: Global, parts: MatcherParts<'_>) -> Result<Matcher, AllocError>
     ensures { IfOk result (λ m. m ≡ matcher_in parts.entry) }
 {
     let name = Text::copied(alloc, parts.name)?;

@@ -39,7 +39,7 @@ fn cut_in(object: &Value, key: &str) -> Option<Moment>
 
 /// The parts of a shown silence other than its matchers, borrowed from its object.
 #[derive(Clone, Copy)]
-struct Shown<'v> {
+struct ShownFields<'v> {
     id: &'v str,
     starts_at: Moment,
     ends_at: Moment,
@@ -49,7 +49,7 @@ struct Shown<'v> {
 }
 
 /// Reads the parts of an object other than its matchers, or returns the first of these keys that is wrong.
-fn read_shown(object: &Value) -> Result<Shown<'_>, ShownKey>
+fn read_shown(object: &Value) -> Result<ShownFields<'_>, ShownKey>
     ensures read { IfOk result (HasShown (view object.now)) }
     ensures wrong { IfErr result (IsFirstUnshown (view object.now)) }
 {
@@ -71,7 +71,7 @@ fn read_shown(object: &Value) -> Result<Shown<'_>, ShownKey>
     let Some(comment) = text_in(object, "comment") else {
         return Err(ShownKey::Comment);
     };
-    Ok(Shown {
+    Ok(ShownFields {
         id,
         starts_at,
         ends_at,
@@ -82,7 +82,11 @@ fn read_shown(object: &Value) -> Result<Shown<'_>, ShownKey>
 }
 
 /// Creates a silence from these parts.
-fn silence_of(alloc: Global, shown: Shown<'_>, matchers: Matchers) -> Result<Silence, AllocError>
+fn silence_of(
+    alloc: Global,
+    shown: ShownFields<'_>,
+    matchers: Matchers,
+) -> Result<Silence, AllocError>
     ensures { IfOk result (λ s. s ≡ shown_silence shown.entry matchers) }
 {
     let id = Text::copied(alloc, shown.id)?;

@@ -1,4 +1,4 @@
--- Where the messages of some bytes end: in one place only, whatever follows them.
+-- Messages end in one place only, whatever follows them.
 use Rattle.std.proofs.Common.{◌≡◌, ℕ, ◌+◌, ◌-◌, ◌≤◌, List, [], ◌∷◌, ◌++◌, length, take, drop, map, Result, Ok, Err, refl, sym, ap, ◌∙◌}
 use Rattle.std.proofs.lemmas.List.{take-append-drop, take-append-le, drop-append-le}
 use Rattle.am_wire.specs.declared.error.WireError.{WireError}

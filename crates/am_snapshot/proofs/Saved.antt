@@ -1,4 +1,4 @@
--- What is saved of a map is read as that map.
+-- A map that was saved is read as itself.
 use Rattle.std.proofs.Common.{◌≡◌, ◌≢◌, ℕ, List, [], ◌∷◌, ◌++◌, map, Option, Some, None, Result, Ok, refl, sym, ap, subst, ◌∙◌, arith}
 use Rattle.std.specs.Prelude.{IsPermutation}
 use Rattle.std.specs.declared.cmp.Ordering.{Ordering}

@@ -1,4 +1,4 @@
--- How a run of steps goes on.
+-- Each moment of a run of steps, and the steps behind it.
 use Rattle.std.proofs.Common.{inl, inr, ⊎_elim, ℕ, List, arith}
 use Rattle.am_store.specs.Device.{LeavesOnly}
 

@@ -1,4 +1,4 @@
--- What a start has after a crash.
+-- A start after a crash.
 use Rattle.std.specs.Prelude.{⊤, Contains, filter}
 use Rattle.std.proofs.Common.{◌≡◌, ◌⊎◌, inl, inr, ⊎_elim, ℕ, Bool, true, false, cond, List, [], ◌∷◌, ◌++◌, Option, Some, None, unwrap_or, Result, refl, sym, ◌∙◌, ap, subst, arith, append-nil}
 use Rattle.std.specs.List.{All, AllByRecursion}

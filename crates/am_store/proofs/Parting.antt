@@ -1,4 +1,4 @@
--- What a start has after a crash while a log is parted from the one before it, or begun anew.
+-- A start after a crash while a log is parted from the one before it, or begun anew.
 use Rattle.std.specs.Prelude.{⊤, Contains}
 use Rattle.std.proofs.Common.{◌≡◌, ◌≢◌, ◌⊎◌, inl, inr, ⊎_elim, ℕ, Bool, true, false, List, [], ◌∷◌, ◌++◌, Option, None, IfSome, option_map, unwrap_or, Result, refl, sym, ◌∙◌, ap, subst, append-nil, append_assoc}
 use Rattle.std.proofs.lemmas.List.{append_cancel_left}

@@ -1,4 +1,4 @@
--- What a start has after a crash while a file is written anew.
+-- A start after a crash while a file is written anew.
 use Rattle.std.specs.Prelude.{⊤, Contains}
 use Rattle.std.proofs.Common.{◌≡◌, ◌⊎◌, inl, inr, ⊎_elim, ℕ, ◌<◌, ◌≤◌, ◌^◌, Bool, true, false, List, [], ◌∷◌, ◌++◌, length, get_or, Option, Some, None, unwrap_or, Result, refl, sym, ◌∙◌, ap, subst, arith}
 use Rattle.std.specs.List.{All}

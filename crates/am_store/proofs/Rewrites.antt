@@ -1,4 +1,4 @@
--- How a rewriting goes on, stage by stage.
+-- The progress of a rewriting, stage by stage.
 use Rattle.std.proofs.Common.{◌≡◌, ◌⊎◌, inl, inr, ℕ, ◌+◌, ◌<◌, ◌≤◌, Bool, true, false, List, [], ◌∷◌, ◌++◌, length, Option, Some, None, Ok, Err, string_bytes, refl, sym, ◌∙◌, ap, subst, arith, length-append}
 use Rattle.std.specs.declared.cmp.Ordering.{Ordering}
 use Rattle.std.specs.declared.fs.File.{File}

@@ -1,4 +1,4 @@
--- What a file and two logs make of a map.
+-- The map of a file and two logs.
 use Rattle.std.proofs.Common.{ℕ, List, ◌++◌, Option, Some, None, IfSome, Result}
 use Rattle.std.specs.Prelude.{IsPermutation}
 use Rattle.std.proofs.lemmas.List.Sorted.{Contains-permutation, IsPermutation-sym}

@@ -1,4 +1,4 @@
--- What a crash leaves of saves that lack a sync.
+-- The files that a crash leaves of saves that lack a sync.
 use Rattle.std.proofs.Common.{◌≡◌, ◌≢◌, inl, inr, ⊎_elim, ℕ, ◌==◌, if◌then◌else◌, Bool, true, false, List, [], codes, Option, Some, None, unwrap_or, option_map, IfSome, bytes_eq, refl, sym, ◌∙◌, ap, arith}
 use Rattle.std.proofs.lemmas.Bool.{cases_Bool}
 use Rattle.std.proofs.lemmas.Slice.Eq.{bytes_eq-Decides}

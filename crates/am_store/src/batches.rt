@@ -85,12 +85,12 @@ impl Batches {
             return Err(LogError::Full);
         }
         match read_block(self.alloc, &mut self.head, reader)? {
-            Found::Whole { batch } => {
+            FoundBlock::Whole { batch } => {
                 self.end += HEAD_BYTES + batch.len() as u64;
                 self.is_over = false;
                 Ok(Some(batch))
             }
-            Found::Part { read } => {
+            FoundBlock::Part { read } => {
                 self.behind = skip_rest(reader, read)?;
                 Ok(None)
             }
@@ -100,7 +100,7 @@ impl Batches {
 
 /// The next thing in a file.
 #[derive(Drop)]
-enum Found {
+enum FoundBlock {
     /// A whole block with this batch.
     Whole { batch: Vec<u8> },
     /// An incomplete or closed block, of which `read` bytes were read.
@@ -108,7 +108,11 @@ enum Found {
 }
 
 /// Reads a block, or the front of what isn't one. The head then has its gate and its length.
-fn read_block<R: Read>(alloc: Global, head: &mut Vec<u8>, reader: &mut R) -> Result<Found, LogError>
+fn read_block<R: Read>(
+    alloc: Global,
+    head: &mut Vec<u8>,
+    reader: &mut R,
+) -> Result<FoundBlock, LogError>
     ensures { IfOk result (λ found. (bytes : List ℕ) ×
         Consumes (R.remaining reader.old) (R.remaining reader.new) bytes ×
         IsFound bytes (R.remaining reader.new) found) }
@@ -116,18 +120,18 @@ fn read_block<R: Read>(alloc: Global, head: &mut Vec<u8>, reader: &mut R) -> Res
     head.clear();
     read_up_to(head, reader, HEAD_BYTES)?;
     let Some(size) = size_in(head) else {
-        return Ok(Found::Part {
+        return Ok(FoundBlock::Part {
             read: head.len() as u64,
         });
     };
     let mut batch = Vec::with_capacity(alloc, size.min(ROOM_BYTES as u64) as usize)?;
     read_up_to(&mut batch, reader, size)?;
     if (batch.len() as u64) < size {
-        return Ok(Found::Part {
+        return Ok(FoundBlock::Part {
             read: HEAD_BYTES + batch.len() as u64,
         });
     }
-    Ok(Found::Whole { batch })
+    Ok(FoundBlock::Whole { batch })
 }
 
 /// Returns the length behind an open gate.

@@ -27,7 +27,7 @@ ghost use Rattle.am_store.specs.Rewrites.{Advances, Follows, IsRewritten, IsUnde
 
 use crate::beside::{OLD_LOG, beside};
 use crate::disk::Disk;
-use crate::disk_calls::Record;
+use crate::disk_calls::DiskCalls;
 use crate::file_fault::FileFault;
 use crate::rewriting::{
     end_log, hand_over, make_new, put_in_place, settle, settle_end, write_stretch,
@@ -47,7 +47,7 @@ use std::rt::Files;
 pub struct Compaction<K> {
     stage: CompactionStage<K, SystemFile<File>>,
     /// The calls so far.
-    calls: Record,
+    calls: DiskCalls,
 }
 
 impl<K: Drop> Compaction<K> {
@@ -58,7 +58,7 @@ impl<K: Drop> Compaction<K> {
     {
         Compaction {
             stage: CompactionStage::GiveBack,
-            calls: Record::new(),
+            calls: DiskCalls::new(),
         }
     }
 }
@@ -93,7 +93,7 @@ where
     ensures stopped { (maps : List (List V)) → IsUnderWay V.seen V.Key.cmp (path_of file.old) most maps compaction.old →
         IfErr result (StopsRewriting V.seen V.Key.cmp (path_of file.old) most held.now maps (calls_of compaction.new)) }
 {
-    let mut disk = SystemDisk::after(rt, mem::replace(&mut compaction.calls, Record::new()));
+    let mut disk = SystemDisk::after(rt, mem::replace(&mut compaction.calls, DiskCalls::new()));
     let stage = mem::replace(&mut compaction.stage, CompactionStage::Done);
     let done = resume(rt, &mut disk, file, stage, held, most);
     compaction.calls = disk.into_calls();
@@ -189,6 +189,6 @@ where
     let name = beside(rt.alloc(), file.path(), OLD_LOG)?;
     let log = opened_to_go(rt, &name);
     let next = end_log::<V, D>(disk, file.path(), &name, log)?;
-    file.owes_save = false;
+    file.needs_save = false;
     Ok(next)
 }

@@ -7,7 +7,7 @@ ghost use Rattle.am_store.specs.Rewrites.{own_log};
 
 use crate::beside::{LOG, OLD_LOG, beside, remove_logs};
 use crate::disk::Disk;
-use crate::disk_calls::Record;
+use crate::disk_calls::DiskCalls;
 use crate::file_fault::FileFault;
 use crate::journal::Journal;
 use crate::log_error::LogError;
@@ -35,7 +35,7 @@ pub struct StateLog {
     /// The rows that wait for the next commit.
     batch: Vec<u8>,
     /// The calls on names so far.
-    calls: Record,
+    calls: DiskCalls,
 }
 
 /// Returns the log in a file whose whole blocks end at byte `end`.
@@ -97,7 +97,7 @@ impl StateLog {
     ) -> Result<StateLog, FileFault> {
         let own = beside(rt.alloc(), path, LOG)?;
         let directory = directory_of(path);
-        let mut disk = SystemDisk::after(rt, Record::new());
+        let mut disk = SystemDisk::after(rt, DiskCalls::new());
         let journal = match read {
             Some(read) => old_log(rt, &mut disk, &own, directory, read)?,
             None => new_log(&mut disk, path, &own, directory)?,
@@ -188,7 +188,7 @@ impl StateLog {
         if !self.is_trusted() {
             return Err(NO_LOG);
         }
-        let mut disk = SystemDisk::after(rt, mem::replace(&mut self.calls, Record::new()));
+        let mut disk = SystemDisk::after(rt, mem::replace(&mut self.calls, DiskCalls::new()));
         let renamed = disk.rename(&own, &old);
         self.calls = disk.into_calls();
         renamed?;
@@ -216,7 +216,7 @@ impl StateLog {
         let directory = directory_of(path);
         let own = beside(rt.alloc(), path, LOG)?;
         let old = beside(rt.alloc(), path, OLD_LOG)?;
-        let mut disk = SystemDisk::after(rt, mem::replace(&mut self.calls, Record::new()));
+        let mut disk = SystemDisk::after(rt, mem::replace(&mut self.calls, DiskCalls::new()));
         let removed = remove_logs(&mut disk, path, &old, &own, directory);
         self.calls = disk.into_calls();
         removed?;
@@ -238,7 +238,7 @@ impl StateLog {
         ensures stopped { OnErr result ((stop : BeginningStop) × (calls_in self.new ≡ calls_in self.old ++ beginning_until stop path.now directory.now)) }
         ensures no_trust { OnErr result (trusted self.new ≡ trusted self.old) }
     {
-        let mut disk = SystemDisk::after(rt, mem::replace(&mut self.calls, Record::new()));
+        let mut disk = SystemDisk::after(rt, mem::replace(&mut self.calls, DiskCalls::new()));
         let begun = new_log(&mut disk, path, own, directory);
         self.calls = disk.into_calls();
         self.journal = Some(begun?);

@@ -8,20 +8,20 @@ use std::marker::{Model, PhantomData};
 
 /// The calls that were made so far. Only clauses read it, and it takes no memory.
 #[derive(Drop)]
-pub struct Record {
+pub struct LogCalls {
     marker: PhantomData<u8>,
     pub ghost events: { List Event },
 }
 
-impl Model for Record {
+impl Model for LogCalls {
     ghost also_owns = { λ _. ftrue };
 }
 
-impl Record {
-    pub(crate) fn new() -> Record
+impl LogCalls {
+    pub(crate) fn new() -> LogCalls
         ensures { result.events ≡ [] }
     {
-        Record {
+        LogCalls {
             marker: PhantomData,
         }
     }

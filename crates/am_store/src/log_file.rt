@@ -20,7 +20,7 @@ ghost use Rattle.am_store.specs.Journal.{device_of, usable};
 
 use crate::device::Device;
 use crate::journal::Journal;
-use crate::log_calls::Record;
+use crate::log_calls::LogCalls;
 use crate::log_error::LogError;
 use std::fs::File;
 use std::io;
@@ -77,7 +77,7 @@ impl Start for Found {
 #[derive(Drop)]
 pub struct LogFile<S: Start> {
     file: File,
-    log: Record,
+    log: LogCalls,
     start: S,
 }
 
@@ -116,7 +116,7 @@ impl<S: Start> Device for LogFile<S> {
 
 /// Records a call with its answer, and returns the answer.
 fn noted(
-    log: &mut Record,
+    log: &mut LogCalls,
     call: u64,
     at: u64,
     bytes: &[u8],
@@ -177,7 +177,7 @@ pub fn open_file<S: Start>(file: File, start: S) -> Result<Journal<LogFile<S>>, 
     let end = start.end();
     let device = LogFile {
         file,
-        log: Record::new(),
+        log: LogCalls::new(),
         start,
     };
     match Journal::open(device, end) {

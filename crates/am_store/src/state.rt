@@ -10,7 +10,7 @@ ghost use Rattle.am_store.specs.Saves.{IsSaved, IsStopped, IsTried, saves_of};
 
 use crate::beside::{LOG, NEW, OLD_LOG, beside, remove_logs};
 use crate::disk::Disk;
-use crate::disk_calls::Record;
+use crate::disk_calls::DiskCalls;
 use crate::file_fault::FileFault;
 use crate::lock::lock_beside;
 use crate::log::StateLog;
@@ -42,7 +42,7 @@ pub struct StateFile {
     /// The log beside it, if one is kept.
     log: Option<StateLog>,
     /// True if a log stands beside it that is to go once the whole state is in the file.
-    pub(crate) owes_save: bool,
+    pub(crate) needs_save: bool,
     /// The number of bytes of the logs that were being written when the last process ended.
     torn: u64,
     /// The size of the file in bytes.
@@ -50,7 +50,7 @@ pub struct StateFile {
     /// The files that it replaced, and the old logs.
     pub(crate) spent: SpentFiles,
     /// The calls of its saves so far.
-    saves: Record,
+    saves: DiskCalls,
 }
 
 /// A state, just opened.
@@ -103,11 +103,11 @@ fn state_file<R: Files<File = File> + AllocGlobal>(
         path,
         _lock: lock,
         log,
-        owes_save: found.old.is_some() || (found.log.is_some() && !keeps_log),
+        needs_save: found.old.is_some() || (found.log.is_some() && !keeps_log),
         torn: found.torn(),
         size,
         spent: SpentFiles::none(rt.alloc()),
-        saves: Record::new(),
+        saves: DiskCalls::new(),
     })
 }
 
@@ -125,7 +125,7 @@ fn end_other_logs<R: Files + AllocGlobal>(rt: &R, path: &str) -> Result<(), File
     let own = beside(rt.alloc(), path, LOG)?;
     let old = beside(rt.alloc(), path, OLD_LOG)?;
     let directory = directory_of(path);
-    let mut disk = SystemDisk::after(rt, Record::new());
+    let mut disk = SystemDisk::after(rt, DiskCalls::new());
     remove_logs(&mut disk, path, &old, &own, directory)?;
     disk.sync_directory(directory)?;
     Ok(())
@@ -141,8 +141,8 @@ impl StateFile {
 
     /// Returns whether a log stands beside the file that is to go once the whole state is in the file: one of an earlier time
     /// if none is kept, or one that an earlier compaction left.
-    pub fn owes_save(&self) -> bool {
-        self.owes_save
+    pub fn needs_save(&self) -> bool {
+        self.needs_save
     }
 
     /// Returns the number of bytes at the end of the logs that were being written when the last process ended. If a log is
@@ -180,7 +180,7 @@ impl StateFile {
         let bytes = self.write(rt, held, most)?;
         self.size = bytes;
         self.end_logs(rt)?;
-        self.owes_save = false;
+        self.needs_save = false;
         Ok(bytes)
     }
 
@@ -196,7 +196,7 @@ impl StateFile {
         ensures saved { OnOk result (IsSaved (path_of self.old) (row_encoding V.seen held.now) (saves_of self.old) (saves_of self.new)) }
         ensures stopped { IfErr result (IsStopped (FitsRow V.seen most held.now) (path_of self.old) (row_encoding V.seen held.now) (saves_of self.old) (saves_of self.new)) }
     {
-        let mut disk = SystemDisk::after(rt, mem::replace(&mut self.saves, Record::new()));
+        let mut disk = SystemDisk::after(rt, mem::replace(&mut self.saves, DiskCalls::new()));
         let saved = save_file(&mut disk, rt.alloc(), self.path.as_str(), held, most);
         self.saves = disk.into_calls();
         saved
@@ -214,7 +214,7 @@ impl StateFile {
         let path = self.path.as_str();
         match &mut self.log {
             Some(log) => log.begin_anew(rt, path),
-            None if self.owes_save => end_other_logs(rt, path),
+            None if self.needs_save => end_other_logs(rt, path),
             None => Ok(()),
         }
     }

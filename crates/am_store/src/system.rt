@@ -6,7 +6,7 @@ ghost use Rattle.std.specs.Prelude.{◌≡◌, [], ◌∷◌, ◌++◌, Bool};
 ghost use Rattle.am_store.specs.Calls.{Event, call_of, written_in};
 
 use crate::disk::Disk;
-use crate::disk_calls::Record;
+use crate::disk_calls::DiskCalls;
 use std::fs::{self, File, OpenFile};
 use std::io::{self, Write};
 use std::rt::Files;
@@ -29,26 +29,26 @@ const DIRECTORY_SYNCED: u64 = 6;
 #[derive(Drop)]
 pub struct SystemDisk<'r, R: Files> {
     system: &'r R,
-    log: Record,
+    log: DiskCalls,
 }
 
 /// A new file of this machine.
 #[derive(Drop)]
 pub struct SystemFile<F: Drop> {
     file: F,
-    log: Record,
+    log: DiskCalls,
 }
 
 impl<'r, R: Files> SystemDisk<'r, R> {
     /// Returns a file system of which these calls were made.
-    pub(crate) fn after(system: &'r R, calls: Record) -> SystemDisk<'r, R>
+    pub(crate) fn after(system: &'r R, calls: DiskCalls) -> SystemDisk<'r, R>
         ensures { result.log.events ≡ calls.events }
     {
         SystemDisk { system, log: calls }
     }
 
     /// Returns the calls so far.
-    pub(crate) fn into_calls(self) -> Record
+    pub(crate) fn into_calls(self) -> DiskCalls
         ensures { result.events ≡ self.entry.log.events }
     {
         self.log
@@ -63,16 +63,16 @@ impl<F: Drop> SystemFile<F> {
 }
 
 /// Returns the calls so far and one more, with up to two paths.
-fn noted(log: &Record, call: u64, is_done: bool, first: &str, second: &str) -> Record
+fn noted(log: &DiskCalls, call: u64, is_done: bool, first: &str, second: &str) -> DiskCalls
     ensures { result.events ≡ log.now.events ++ (call_of call first.now second.now [], is_done) ∷ [] }
 {
     let numbers = [call, u64::from(is_done)];
-    Record::with(
+    DiskCalls::with(
         log,
         &numbers,
         first.as_bytes(),
         second.as_bytes(),
-        &Record::new(),
+        &DiskCalls::new(),
     )
 }
 
@@ -84,7 +84,7 @@ impl<F: Write + Drop> Write for SystemFile<F> {
 
     fn write(&mut self, buf: &[u8]) -> io::Result<usize> {
         let taken = self.file.write(buf)?;
-        self.log = Record::with(&self.log, &[WRITTEN, 1], &buf[..taken], &[], &self.log);
+        self.log = DiskCalls::with(&self.log, &[WRITTEN, 1], &buf[..taken], &[], &self.log);
         Ok(taken)
     }
 
@@ -109,7 +109,7 @@ impl<R: Files> Disk for SystemDisk<'_, R> {
         self.log = noted(&self.log, MADE, made.is_ok(), path, "");
         Ok(SystemFile {
             file: made?,
-            log: Record::new(),
+            log: DiskCalls::new(),
         })
     }
 
@@ -129,7 +129,7 @@ impl<R: Files> Disk for SystemDisk<'_, R> {
     fn sync(&mut self, file: SystemFile<R::File>) -> io::Result<()> {
         let synced = file.file.sync_all();
         let numbers = [SYNCED, u64::from(synced.is_ok())];
-        self.log = Record::with(&self.log, &numbers, &[], &[], &file.log);
+        self.log = DiskCalls::with(&self.log, &numbers, &[], &[], &file.log);
         synced
     }
 

@@ -17,7 +17,7 @@ enum Draw {
 }
 
 #[derive(Clone, Copy)]
-enum Verb {
+enum RunAction {
     /// A number of versions, made one after another up to the one of the second number.
     Take(u32, u32),
     Tick,
@@ -30,11 +30,11 @@ enum Verb {
 }
 
 /// The action, the place of its member, and its moment in seconds.
-type Act = (Verb, usize, u32);
+type Act = (RunAction, usize, u32);
 
 /// The reports on a run.
 #[derive(Clone, Copy)]
-struct Tally {
+struct RunReports {
     /// True if a report ever differed from that of plain loops.
     differs: bool,
     timely: usize,
@@ -49,13 +49,13 @@ fn crowd_act(run: &Run<Note>, seed: u64, number: u32) -> Act {
     let is_fast = seed % 2 == 1;
     let place = (number % 3) as usize;
     let verb = match mixed % 32 {
-        0 => Verb::Tick,
-        1..4 => Verb::Save,
-        4 | 5 => Verb::Stop,
-        6..10 => Verb::Start,
-        10 if is_fast => Verb::Back,
-        _ if !run.runs(place) => Verb::Start,
-        _ => Verb::Take(count, number / 3),
+        0 => RunAction::Tick,
+        1..4 => RunAction::Save,
+        4 | 5 => RunAction::Stop,
+        6..10 => RunAction::Start,
+        10 if is_fast => RunAction::Back,
+        _ if !run.runs(place) => RunAction::Start,
+        _ => RunAction::Take(count, number / 3),
     };
     let pace = if is_fast { 20 } else { 1 };
     let second = number.saturating_mul(pace).saturating_add(20);
@@ -64,14 +64,14 @@ fn crowd_act(run: &Run<Note>, seed: u64, number: u32) -> Act {
 
 fn far_act(taken_again: bool, number: u32) -> Act {
     match number {
-        0..=39 => (Verb::Take(1, number), 0, 20),
-        40..=59 => (Verb::Take(1, number - 40), 1, 21),
-        60 => (Verb::Save, 1, 21),
-        61..=80 => (Verb::Take(1, number - 41), 1, 21),
-        81 => (Verb::Stop, 1, 21),
-        82 => (Verb::Start, 1, 22),
-        83 if taken_again => (Verb::Take(40, 39), 1, 23),
-        _ => (Verb::Tick, 1, 900),
+        0..=39 => (RunAction::Take(1, number), 0, 20),
+        40..=59 => (RunAction::Take(1, number - 40), 1, 21),
+        60 => (RunAction::Save, 1, 21),
+        61..=80 => (RunAction::Take(1, number - 41), 1, 21),
+        81 => (RunAction::Stop, 1, 21),
+        82 => (RunAction::Start, 1, 22),
+        83 if taken_again => (RunAction::Take(40, 39), 1, 23),
+        _ => (RunAction::Tick, 1, 900),
     }
 }
 
@@ -117,16 +117,21 @@ fn take(
 }
 
 // Records an action that takes no versions if that is possible, and returns whether it was.
-fn turn(run: &mut Run<Note>, verb: Verb, place: usize, now: Moment) -> Result<bool, AllocError> {
+fn turn(
+    run: &mut Run<Note>,
+    verb: RunAction,
+    place: usize,
+    now: Moment,
+) -> Result<bool, AllocError> {
     run.make_room(1)?;
     let runs = run.runs(place);
     let is_back = now < run.last(place);
     match verb {
-        Verb::Back if is_back => run.append(RunStep::Back { place, now }),
-        Verb::Tick if runs && !is_back => run.append(RunStep::Ticked { place, now }),
-        Verb::Save if runs => run.append(RunStep::Saved { place }),
-        Verb::Stop if runs => run.append(RunStep::Stopped { place }),
-        Verb::Start if place < run.members() && !runs && !is_back => {
+        RunAction::Back if is_back => run.append(RunStep::Back { place, now }),
+        RunAction::Tick if runs && !is_back => run.append(RunStep::Ticked { place, now }),
+        RunAction::Save if runs => run.append(RunStep::Saved { place }),
+        RunAction::Stop if runs => run.append(RunStep::Stopped { place }),
+        RunAction::Start if place < run.members() && !runs && !is_back => {
             run.append(RunStep::Started { place, now });
         }
         _ => return Ok(false),
@@ -135,14 +140,14 @@ fn turn(run: &mut Run<Note>, verb: Verb, place: usize, now: Moment) -> Result<bo
 }
 
 // Asks for the first fault of each member, and of one that doesn't exist.
-fn ask_faults(run: &Run<Note>, tally: &mut Tally) {
+fn ask_faults(run: &Run<Note>, tally: &mut RunReports) {
     for place in 0..4 {
         let fault = run.first_fault(place);
         tally.differs = tally.differs || fault != plain::first_fault(place, run.steps());
     }
 }
 
-fn ask_timely(run: &Run<Note>, spread: Interval, tally: &mut Tally) {
+fn ask_timely(run: &Run<Note>, spread: Interval, tally: &mut RunReports) {
     let flight = Interval::from_nanos(200_000_000_000).unwrap();
     tally.last = run.timely(spread, flight);
     if tally.last {
@@ -153,7 +158,7 @@ fn ask_timely(run: &Run<Note>, spread: Interval, tally: &mut Tally) {
 }
 
 // Records a run, and asks about it after each fourth act.
-fn play(alloc: Global, draw: Draw, seed: u64, tally: &mut Tally) -> Result<(), AllocError> {
+fn play(alloc: Global, draw: Draw, seed: u64, tally: &mut RunReports) -> Result<(), AllocError> {
     let (members, acts) = match draw {
         Draw::Crowd => (3, 48),
         Draw::Far(_) => (2, 85),
@@ -165,7 +170,7 @@ fn play(alloc: Global, draw: Draw, seed: u64, tally: &mut Tally) -> Result<(), A
             Draw::Far(taken_again) => far_act(taken_again, number),
         };
         let is_done = match verb {
-            Verb::Take(count, last) => {
+            RunAction::Take(count, last) => {
                 let notes = notes(alloc, count, last)?;
                 take(alloc, &mut run, place, at(second), notes)?
             }
@@ -178,7 +183,7 @@ fn play(alloc: Global, draw: Draw, seed: u64, tally: &mut Tally) -> Result<(), A
     Ok(())
 }
 
-fn ask(run: &Run<Note>, tally: &mut Tally) {
+fn ask(run: &Run<Note>, tally: &mut RunReports) {
     ask_faults(run, tally);
     for spread in [2, 4, 6, 9, 15, 24, 50] {
         if let Some(spread) = Interval::from_seconds(spread) {
@@ -188,8 +193,8 @@ fn ask(run: &Run<Note>, tally: &mut Tally) {
 }
 
 // Returns the reports on the runs of this many seeds.
-fn told(alloc: Global, draw: Draw, seeds: u64) -> Result<Tally, AllocError> {
-    let mut tally = Tally {
+fn told(alloc: Global, draw: Draw, seeds: u64) -> Result<RunReports, AllocError> {
+    let mut tally = RunReports {
         differs: false,
         timely: 0,
         untimely: 0,

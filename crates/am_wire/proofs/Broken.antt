@@ -1,4 +1,4 @@
--- What is read of bytes that have a fault, and of any bytes.
+-- The reading of bytes that have a fault, and of any bytes.
 use Rattle.std.proofs.Common.{◌≡◌, ℕ, ◌≤◌, Bool, true, List, [], length, take, drop, take-append-drop, length-take-le, ◌++◌, Result, Ok, Err, refl, sym, ap, subst, append-nil, ◌∙◌, inl, inr, ◌⊎◌}
 use Rattle.std.specs.List.{AllPass}
 use Rattle.std.proofs.Math.Seq.{take-length}

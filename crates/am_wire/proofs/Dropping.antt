@@ -1,4 +1,4 @@
--- What is read without unknown fields, beside what is read with them.
+-- A message read without unknown fields, beside one read with them.
 use Rattle.std.proofs.Common.{◌≡◌, Result, Ok, Err, sym, ap, ◌∙◌}
 use Rattle.am_wire.specs.declared.error.WireError.{WireError}
 use Rattle.am_wire.specs.Unknown.{plainly}

@@ -1,4 +1,4 @@
--- What is read is what is spelled.
+-- Bytes are read exactly as they spell.
 use Rattle.std.proofs.Common.{◌≡◌, ℕ, zero, suc, ◌+◌, ◌*◌, ◌/◌, ◌%◌, ◌<◌, ◌≤◌, Bool, ltb, true, false, List, [], ◌∷◌, ◌++◌, length, map, take, drop, Result, refl, ap, ◌∙◌, append_assoc, length-append, arith, inl, inr, ◌^◌, sym}
 use Rattle.std.specs.List.{All, AllPass, flat_map}
 use Rattle.std.proofs.lemmas.Bool.{lt-ltb, le-ltb, cases_lt}

@@ -1,4 +1,4 @@
--- Where no number is spelled at the front.
+-- Fronts at which no number is spelled.
 use Rattle.std.proofs.Common.{◌≡◌, ℕ, zero, suc, ◌<◌, ◌≤◌, ltb, true, false, List, [], ◌∷◌, length, get_or, take, Result, Ok, Err, refl, sym, arith, inl, inr, ◌⊎◌}
 use Rattle.std.specs.List.{All}
 use Rattle.std.proofs.lemmas.Bool.{lt-ltb, le-ltb, cases_lt}

@@ -1,4 +1,4 @@
--- Whether something is at fault in a message's fields doesn't hang on what is made of them.
+-- The faults in a message's fields are the same whatever is made of the fields.
 use Rattle.std.proofs.Common.{◌≡◌, Option, Some, None, Err}
 use Rattle.am_wire.specs.declared.error.WireError.{WireError}
 use Rattle.am_wire.specs.Reading.{fault_or_value}

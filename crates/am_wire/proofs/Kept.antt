@@ -1,4 +1,4 @@
--- What is kept of the fields of a message: those that are unknown, which are fields wherever they stand.
+-- The fields of a message that are kept: those that are unknown, which are fields wherever they stand.
 use Rattle.std.proofs.Common.{◌≡◌, ℕ, zero, suc, ◌-◌, ◌+◌, ◌*◌, ◌<◌, ◌≤◌, true, false, cond, List, [], ◌∷◌, ◌++◌, length, take, drop}
 use Rattle.std.proofs.Common.{Result, Ok, Err, refl, sym, ap, subst, ◌∙◌, append_assoc, length-append, arith}
 use Rattle.std.specs.List.{All, flat_map}

@@ -1,4 +1,4 @@
--- Where no number, no field and no message of a row is read at the front, and why.
+-- The fronts at which no number, no field and no message of a row is read, and why.
 use Rattle.std.proofs.Common.{◌≡◌, ◌≢◌, ℕ, zero, suc, ◌+◌, ◌*◌, ◌/◌, ◌%◌, ◌^◌, ◌<◌, Bool, ltb, eqb, true, false, cond, List, length, take, drop, Result, Ok, Err, refl, sym, ap, subst, ◌∙◌, take-append-drop, arith, inl, inr, ◌⊎◌}
 use Rattle.std.specs.Int.{w32, w64, from_le_bytes}
 use Rattle.std.proofs.lemmas.Bool.{eqb-false, lt-ltb, le-ltb, ltb-true, ltb-false, cases_lt}

@@ -23,7 +23,8 @@ use super::counting::{count_decided, count_decision};
 use super::server_state::ServerState;
 use super::telling::time_between;
 use am_api_decisions::{
-    Deciding, Notice, ParsedCall, Question, Timing, Verdict, begin_log, log_notice, parse_call,
+    Deciding, Notice, ParsedCall, Question, ReasonedReply, Timing, begin_log, log_notice,
+    parse_call,
 };
 use am_api_silences::{PendingAnswer, Read, Refusal, ReplyBuilder, Request};
 use am_backend::{Backend, Counted, Incoming};
@@ -546,12 +547,12 @@ impl<U: Backend> ServerState<'_, U> {
     }
 
     /// Answers with a decision, or keeps its request waiting for exchanges with the Alertmanagers, which begin now.
-    fn answer_or_hear(&mut self, verdict: Verdict, unheard: Option<Request>) -> Called
+    fn answer_or_hear(&mut self, verdict: ReasonedReply, unheard: Option<Request>) -> Called
         ensures gives { GivesOrWaits verdict.reply unheard result }
         ensures stays { outlets U.store_of U.outbound self.new ≡ outlets U.store_of U.outbound self.old }
     {
         let is_notified = verdict.is_notified();
-        let Verdict { reply, why } = verdict;
+        let ReasonedReply { reply, why } = verdict;
         match (unheard, self.span()) {
             (Some(request), Some(span)) if is_notified => { self.wait_for_exchanges(request, span) }
             _ => {

@@ -292,7 +292,7 @@ impl<U: Backend> ServerState<'_, U> {
     fn schedule_transfer(&mut self, config: &Config, name: Option<&str>, asked: FrameRequests)
         ensures { outlets U.store_of U.outbound self.new ≡ outlets U.store_of U.outbound self.old }
     {
-        self.duties.owe_tick(asked.ticks);
+        self.duties.request_tick(asked.ticks);
         if !asked.asks || self.duties.waits_for_pull() {
             return;
         }

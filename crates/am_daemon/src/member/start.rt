@@ -8,7 +8,7 @@ use crate::live::live;
 use crate::running::Member;
 use am_alertmanager::Replicas;
 use am_api_decisions::RecentAlerts;
-use am_backend::{Backend, Host, SystemBackend, config_of, lock_of, secret_of};
+use am_backend::{Backend, MemberRuntime, SystemBackend, config_of, lock_of, secret_of};
 use am_diagnostics::{Fault, HasAudience, report, signals, status};
 use am_instance::{Config, ConfigError, Instance, Place};
 use am_member::PatternsAhead;
@@ -33,7 +33,7 @@ const MOST_WAITING: usize = 134_217_728;
 const MOST_ANSWER: usize = 67_125_248;
 
 /// Runs a member, prints why it ends early, and returns the exit status of the program.
-pub fn run<'a, R: Host + HasAudience>(rt: &'a R, options: &'a Options<'a>) -> u8 {
+pub fn run<'a, R: MemberRuntime + HasAudience>(rt: &'a R, options: &'a Options<'a>) -> u8 {
     match run_on(rt, options) {
         Ok(None) => status::DONE,
         // (a state that is too large to be saved is no refused input)
@@ -48,7 +48,10 @@ pub fn run<'a, R: Host + HasAudience>(rt: &'a R, options: &'a Options<'a>) -> u8
 /// # Errors
 ///
 /// The first [`Fault`] of the start, in the order of names, secret, silences, log, listeners.
-fn run_on<'a, R: Host>(rt: &'a R, options: &'a Options<'a>) -> Result<Option<Fault>, Fault> {
+fn run_on<'a, R: MemberRuntime>(
+    rt: &'a R,
+    options: &'a Options<'a>,
+) -> Result<Option<Fault>, Fault> {
     let config = config_of(rt.alloc(), options)?;
     let secret = secret_of(rt, options)?;
     let lock = lock_of(options, &secret);
@@ -57,7 +60,7 @@ fn run_on<'a, R: Host>(rt: &'a R, options: &'a Options<'a>) -> Result<Option<Fau
 }
 
 /// Runs the member that has this instance and this backend.
-fn run_kept<R: Host, U: Backend + Drop>(
+fn run_kept<R: MemberRuntime, U: Backend + Drop>(
     rt: &R,
     options: &Options<'_>,
     lock: Option<Lock<'_>>,
@@ -210,7 +213,7 @@ fn limits(options: &Options<'_>) -> Limits {
 
 /// The state that is kept of each peer, by place.
 #[derive(Drop)]
-struct Links {
+struct PeerLinks {
     addresses: Vec<Option<SocketAddr>>,
     awaited: Vec<Place>,
     transfers: Vec<StateTransfer>,
@@ -219,17 +222,17 @@ struct Links {
 
 /// The state that is kept of each Alertmanager beside the member, by place.
 #[derive(Drop)]
-struct Beside {
+struct AlertmanagersBeside {
     asked: Vec<Option<SocketAddr>>,
     replicas: Replicas,
 }
 
 /// The state that is kept of all members.
 #[derive(Drop)]
-struct Places<'a> {
+struct MemberPlaces<'a> {
     hosts: Vec<&'a str>,
-    links: Links,
-    beside: Beside,
+    links: PeerLinks,
+    beside: AlertmanagersBeside,
 }
 
 /// Returns the server of a member that has this backend.
@@ -252,22 +255,22 @@ fn server_of<'a, U>(
     alloc: Global,
     options: &Options<'a>,
     backend: U,
-    places: Places<'a>,
+    places: MemberPlaces<'a>,
     random: StdRng,
     duties: Timers,
 ) -> Server<'a, U> {
-    let Places {
+    let MemberPlaces {
         hosts,
         links,
         beside,
     } = places;
-    let Links {
+    let PeerLinks {
         addresses,
         awaited,
         transfers,
         pending_frames,
     } = links;
-    let Beside { asked, replicas } = beside;
+    let AlertmanagersBeside { asked, replicas } = beside;
     let waiting = options.waiting.min(options.at_once / 2);
     let state = ServerState {
         alloc,
@@ -295,11 +298,11 @@ fn places_of<'a>(
     alloc: Global,
     config: &Config,
     options: &Options<'a>,
-) -> Result<Places<'a>, AllocError> {
+) -> Result<MemberPlaces<'a>, AllocError> {
     let links = links_of(alloc, config, options)?;
     let beside = beside_of(alloc, config, options)?;
     let hosts = hosts_of(alloc, options)?;
-    Ok(Places {
+    Ok(MemberPlaces {
         hosts,
         links,
         beside,
@@ -307,12 +310,16 @@ fn places_of<'a>(
 }
 
 /// Returns the state of each peer before any is heard.
-fn links_of(alloc: Global, config: &Config, options: &Options<'_>) -> Result<Links, AllocError> {
+fn links_of(
+    alloc: Global,
+    config: &Config,
+    options: &Options<'_>,
+) -> Result<PeerLinks, AllocError> {
     let addresses = addresses(alloc, config, &options.peers)?;
     let awaited = peer_places(alloc, &addresses)?;
     let transfers = transfers(alloc, addresses.len())?;
     let pending_frames = pending_frames(alloc, addresses.len())?;
-    Ok(Links {
+    Ok(PeerLinks {
         addresses,
         awaited,
         transfers,
@@ -321,10 +328,14 @@ fn links_of(alloc: Global, config: &Config, options: &Options<'_>) -> Result<Lin
 }
 
 /// Returns the state of each Alertmanager beside the member before any is asked.
-fn beside_of(alloc: Global, config: &Config, options: &Options<'_>) -> Result<Beside, AllocError> {
+fn beside_of(
+    alloc: Global,
+    config: &Config,
+    options: &Options<'_>,
+) -> Result<AlertmanagersBeside, AllocError> {
     let asked = asked(alloc, config, &options.replicas)?;
     let replicas = Replicas::new(alloc, &asked, options.gossip_every, config.unknown())?;
-    Ok(Beside { asked, replicas })
+    Ok(AlertmanagersBeside { asked, replicas })
 }
 
 /// Returns the timers of what the member does by itself from now on.

@@ -6,14 +6,14 @@ use super::links::address_of;
 use super::server_state::ServerState;
 use am_api_silences::Read;
 use am_api_status::{
-    MemberStatus, Neighbor, Peer, StatusCall, StatusResource, call_of, metrics_reply, not_ready,
-    page_reply, receivers_reply, status_reply, well_reply,
+    ClusterPeer, MemberStatus, Neighbor, StatusCall, StatusResource, call_of, metrics_reply,
+    not_ready, page_reply, receivers_reply, status_reply, well_reply,
 };
 use am_backend::Backend;
 use am_http::session::SessionOutput;
 use am_http::{Cause, Refusal};
 use am_instance::{Config, Instance};
-use am_metrics::{PeerName, Shown, SilenceCounts, families};
+use am_metrics::{MemberFacts, PeerName, SilenceCounts, families};
 use am_options::{VERSION, options_text};
 use am_peers::{later_moment, shown_name};
 use am_server::{CallProgress, ConnectionState, StateCount};
@@ -182,7 +182,7 @@ impl<U: Backend> ServerState<'_, U> {
     }
 
     /// Returns all members, with the addresses at which they listen.
-    fn members_shown(&self, config: &Config) -> Result<Vec<Peer>, AllocError> {
+    fn members_shown(&self, config: &Config) -> Result<Vec<ClusterPeer>, AllocError> {
         let alloc = self.alloc;
         let options = self.backend.options();
         let own = options.peers_address.unwrap_or(options.address);
@@ -192,7 +192,7 @@ impl<U: Backend> ServerState<'_, U> {
                 continue;
             }
             let address = address_of(&self.addresses, place).unwrap_or(own);
-            peers.push(Peer {
+            peers.push(ClusterPeer {
                 name: Text::copied(alloc, name.as_str())?,
                 address: Text::new(format!(in alloc; "{address}")?),
             })?;
@@ -288,11 +288,11 @@ impl<U: Backend> ServerState<'_, U> {
         &self,
         instance: &'b Instance,
         silences: SilenceCounts,
-    ) -> Result<Shown<'b>, AllocError> {
+    ) -> Result<MemberFacts<'b>, AllocError> {
         let process = self.backend.process();
         let peers = peers_counted(self.alloc, instance.config(), &self.addresses)?;
         let beside = peers_counted(self.alloc, instance.config(), &self.asked)?;
-        Ok(Shown {
+        Ok(MemberFacts {
             version: VERSION,
             members: (peers.len() as u64).saturating_add(1),
             peers,

@@ -4,7 +4,7 @@ ghost use Rattle.std.specs.Prelude.{◌≡◌, ◌<◌, ◌≤◌, None, Some, l
 ghost use Rattle.std.specs.Char.{digit_value};
 ghost use Rattle.am_matcher.specs.Re2Pieces.{Count, number, is_number, number_at, bounded, count_behind, count_at, skip_lazy, repetition, counted, brace};
 
-use crate::re2::pieces::{Part, Piece, Spelling, outside};
+use crate::re2::pieces::{PatternPart, PatternPiece, Spelling, outside};
 use crate::re2::runs::{before, split_digits};
 use std::marker::Model;
 
@@ -131,18 +131,18 @@ fn skip_lazy(text: &[char]) -> &[char]
 
 /// Returns the repetition in front of the rest, with the `?` behind it if one is there.
 #[tactic(auto, unfolding(crate::specs::Re2Pieces::repetition, crate::specs::Re2Spelling::spelled))]
-pub fn repetition<'a>(text: &'a [char], most: u32, rest: &'a [char]) -> Piece<'a>
+pub fn repetition<'a>(text: &'a [char], most: u32, rest: &'a [char]) -> PatternPiece<'a>
     ensures value { result ≡ repetition text.now most rest.now }
     ensures shorter { length result.rest ≤ length rest.now }
 {
     let rest = skip_lazy(rest);
-    let part = Part::Repeat(most.max(1));
+    let part = PatternPart::Repeat(most.max(1));
     outside(part, Spelling::Source(before(text, rest)), rest)
 }
 
 /// Returns the repetition of a count, or `None` if the count is out of order or too great.
 #[tactic(auto, unfolding(crate::specs::Re2Pieces::counted))]
-fn counted<'a>(text: &'a [char], count: Bounds<'a>) -> Option<Piece<'a>>
+fn counted<'a>(text: &'a [char], count: Bounds<'a>) -> Option<PatternPiece<'a>>
     ensures value { result ≡ counted text.now count.entry }
     ensures shorter { IfSome result (λ found. length found.rest ≤ length count.entry.rest) }
 {
@@ -155,12 +155,12 @@ fn counted<'a>(text: &'a [char], count: Bounds<'a>) -> Option<Piece<'a>>
 
 /// Reads the brace at the front of the text: a count, or a character.
 #[tactic(auto, unfolding(crate::specs::Re2Pieces::brace, crate::specs::Re2Spelling::spelled))]
-pub fn brace<'a>(text: &'a [char], behind: &'a [char]) -> Option<Piece<'a>>
+pub fn brace<'a>(text: &'a [char], behind: &'a [char]) -> Option<PatternPiece<'a>>
     ensures value { result ≡ brace text.now behind.now }
     ensures shorter { IfSome result (λ found. length found.rest ≤ length behind.now) }
 {
     match count_at(behind) {
-        None => Some(outside(Part::Atom, Spelling::Character('{'), behind)),
+        None => Some(outside(PatternPart::Atom, Spelling::Character('{'), behind)),
         Some(count) => counted(text, count),
     }
 }

@@ -7,7 +7,7 @@ ghost use Rattle.am_matcher.specs.Re2Pieces.{named_property, braced_property, pr
 
 use crate::re2::escapes::{escaped_character, is_perl};
 use crate::re2::names::{is_class, is_property};
-use crate::re2::pieces::{Part, Piece, Place, Spelling, of_class, outside};
+use crate::re2::pieces::{PatternPart, PatternPiece, PatternPlace, Spelling, of_class, outside};
 use crate::re2::runs::{before, split_word};
 
 /// Returns the spelling of the property with this name, and the text behind it.
@@ -94,7 +94,7 @@ fn behind_class(text: &[char]) -> Option<&[char]>
 
 /// Reads a POSIX class in brackets, whose name is behind the front of the text.
 #[tactic(auto, unfolding(crate::specs::Re2Pieces::named_class, crate::specs::Re2Spelling::spelled))]
-fn named_class<'a>(text: &'a [char], behind: &'a [char]) -> Option<Piece<'a>>
+fn named_class<'a>(text: &'a [char], behind: &'a [char]) -> Option<PatternPiece<'a>>
     ensures value { result ≡ named_class text.now behind.now }
     ensures shorter { IfSome result (λ found. length found.rest < length behind.now) }
 {
@@ -134,7 +134,7 @@ fn range_end(text: &[char]) -> Option<(char, &[char])>
 
 /// Returns the range of these characters, or `None` if they are out of order.
 #[tactic(auto, unfolding(crate::specs::Re2Pieces::range_of, crate::specs::Re2Spelling::spelled))]
-fn range_of<'a>(low: char, high: char, rest: &'a [char]) -> Option<Piece<'a>>
+fn range_of<'a>(low: char, high: char, rest: &'a [char]) -> Option<PatternPiece<'a>>
     ensures value { result ≡ range_of low high rest.now }
     ensures rest { IfSome result (λ found. found.rest ≡ rest.now) }
 {
@@ -147,7 +147,7 @@ fn range_of<'a>(low: char, high: char, rest: &'a [char]) -> Option<Piece<'a>>
 
 /// Returns the range that begins with this character and goes on behind a hyphen.
 #[tactic(auto, unfolding(crate::specs::Re2Pieces::range_from))]
-fn range_from<'a>(low: char, behind: &'a [char]) -> Option<Piece<'a>>
+fn range_from<'a>(low: char, behind: &'a [char]) -> Option<PatternPiece<'a>>
     ensures value { result ≡ range_from low behind.now }
     ensures shorter { IfSome result (λ found. length found.rest < length behind.now) }
 {
@@ -159,7 +159,7 @@ fn range_from<'a>(low: char, behind: &'a [char]) -> Option<Piece<'a>>
 
 /// Reads a range that begins with this character, or the character alone.
 #[tactic(auto, unfolding(crate::specs::Re2Pieces::range, crate::specs::Re2Pieces::is_range, crate::specs::Re2Spelling::spelled))]
-fn range<'a>(low: char, text: &'a [char]) -> Option<Piece<'a>>
+fn range<'a>(low: char, text: &'a [char]) -> Option<PatternPiece<'a>>
     ensures value { result ≡ range low text.now }
     ensures shorter { IfSome result (λ found. length found.rest ≤ length text.now) }
 {
@@ -172,7 +172,7 @@ fn range<'a>(low: char, text: &'a [char]) -> Option<Piece<'a>>
 
 /// Reads a character or a range at the front.
 #[tactic(auto, unfolding(crate::specs::Re2Pieces::range_at))]
-fn range_at(text: &[char]) -> Option<Piece<'_>>
+fn range_at(text: &[char]) -> Option<PatternPiece<'_>>
     ensures value { result ≡ range_at text.now }
     ensures shorter { IfSome result (λ found. length found.rest < length text.now) }
 {
@@ -184,7 +184,7 @@ fn range_at(text: &[char]) -> Option<Piece<'_>>
 
 /// Reads a set in brackets. No range begins with it.
 #[tactic(auto, unfolding(crate::specs::Re2Pieces::set_in_class))]
-fn set_in_class<'a>(spelling: Spelling<'a>, rest: &'a [char]) -> Option<Piece<'a>>
+fn set_in_class<'a>(spelling: Spelling<'a>, rest: &'a [char]) -> Option<PatternPiece<'a>>
     ensures value { result ≡ set_in_class (spelled spelling.entry) rest.now }
     ensures rest { IfSome result (λ found. found.rest ≡ rest.now) }
 {
@@ -197,7 +197,7 @@ fn set_in_class<'a>(spelling: Spelling<'a>, rest: &'a [char]) -> Option<Piece<'a
 
 /// Reads the set of a property in brackets.
 #[tactic(auto, unfolding(crate::specs::Re2Pieces::property_in_class))]
-fn property_in_class(negated: bool, text: &[char]) -> Option<Piece<'_>>
+fn property_in_class(negated: bool, text: &[char]) -> Option<PatternPiece<'_>>
     ensures value { result ≡ property_in_class negated text.now }
     ensures shorter { IfSome result (λ found. length found.rest < length text.now) }
 {
@@ -209,7 +209,7 @@ fn property_in_class(negated: bool, text: &[char]) -> Option<Piece<'_>>
 
 /// Reads an escape in brackets, whose backslash is at the front of the text.
 #[tactic(auto, unfolding(crate::specs::Re2Pieces::escape_in_class, crate::specs::Re2Spelling::spelled))]
-fn escape_in_class<'a>(text: &'a [char], behind: &'a [char]) -> Option<Piece<'a>>
+fn escape_in_class<'a>(text: &'a [char], behind: &'a [char]) -> Option<PatternPiece<'a>>
     requires { length behind.now < length text.now }
     ensures value { result ≡ escape_in_class text.now behind.now }
     ensures shorter { IfSome result (λ found. length found.rest < length text.now) }
@@ -225,7 +225,7 @@ fn escape_in_class<'a>(text: &'a [char], behind: &'a [char]) -> Option<Piece<'a>
 
 /// Reads the piece at the start of brackets.
 #[tactic(auto, unfolding(crate::specs::Re2Pieces::class_item))]
-pub fn class_item(text: &[char]) -> Option<Piece<'_>>
+pub fn class_item(text: &[char]) -> Option<PatternPiece<'_>>
     ensures value { result ≡ class_item text.now }
     ensures shorter { IfSome result (λ found. length found.rest < length text.now) }
 {
@@ -238,12 +238,16 @@ pub fn class_item(text: &[char]) -> Option<Piece<'_>>
 
 /// Reads the next piece in brackets.
 #[tactic(auto, unfolding(crate::specs::Re2Pieces::later_item, crate::specs::Re2Spelling::spelled))]
-pub fn later_item(text: &[char]) -> Option<Piece<'_>>
+pub fn later_item(text: &[char]) -> Option<PatternPiece<'_>>
     ensures value { result ≡ later_item text.now }
     ensures shorter { IfSome result (λ found. length found.rest < length text.now) }
 {
     match text {
-        [']', rest @ ..] => Some(outside(Part::Atom, Spelling::Source(before(text, rest)), rest)),
+        [']', rest @ ..] => Some(outside(
+            PatternPart::Atom,
+            Spelling::Source(before(text, rest)),
+            rest,
+        )),
         _ if is_range(text) => None,
         _ => class_item(text),
     }
@@ -251,16 +255,16 @@ pub fn later_item(text: &[char]) -> Option<Piece<'_>>
 
 /// Reads the start of a class at the front of the text.
 #[tactic(auto, unfolding(crate::specs::Re2Pieces::class_start, crate::specs::Re2Spelling::spelled))]
-pub fn class_start<'a>(text: &'a [char], behind: &'a [char]) -> Piece<'a>
+pub fn class_start<'a>(text: &'a [char], behind: &'a [char]) -> PatternPiece<'a>
     ensures value { result ≡ class_start text.now behind.now }
     ensures shorter { length result.rest ≤ length behind.now }
 {
     let rest = skip_negation(behind);
-    Piece {
+    PatternPiece {
         part: None,
         spelling: Spelling::Source(before(text, rest)),
         name: None,
-        place: Place::ClassStart,
+        place: PatternPlace::ClassStart,
         rest,
     }
 }

@@ -4,7 +4,7 @@ ghost use Rattle.std.specs.Prelude.{◌≡◌, ◌==◌, ◌<◌, ◌≤◌, len
 ghost use Rattle.std.specs.List.{list_any};
 ghost use Rattle.am_matcher.specs.Re2Pieces.{has_twice, are_flags, is_name, named_group, flagged_group, group};
 
-use crate::re2::pieces::{Part, Piece, Place, Spelling, outside};
+use crate::re2::pieces::{PatternPart, PatternPiece, PatternPlace, Spelling, outside};
 use crate::re2::runs::{before, split_flags, split_word};
 
 /// Returns whether the letter is among these.
@@ -49,17 +49,17 @@ fn is_name(word: &[char]) -> bool
 
 /// Reads the start of a group whose name is at the front.
 #[tactic(auto, unfolding(crate::specs::Re2Pieces::named_group, crate::specs::Re2Spelling::spelled))]
-fn named_group(text: &[char]) -> Option<Piece<'_>>
+fn named_group(text: &[char]) -> Option<PatternPiece<'_>>
     ensures value { result ≡ named_group text.now }
     ensures shorter { IfSome result (λ found. length found.rest < length text.now) }
 {
     let (name, rest) = split_word(text);
     match rest {
-        ['>', rest @ ..] if is_name(name) => Some(Piece {
-            part: Some(Part::Open),
+        ['>', rest @ ..] if is_name(name) => Some(PatternPiece {
+            part: Some(PatternPart::Open),
             spelling: Spelling::Group,
             name: Some(name),
-            place: Place::Outside,
+            place: PatternPlace::Outside,
             rest,
         }),
         _ => None,
@@ -68,17 +68,25 @@ fn named_group(text: &[char]) -> Option<Piece<'_>>
 
 /// Reads the start of a group with flags, or flags alone. They are behind the front of the text.
 #[tactic(auto, unfolding(crate::specs::Re2Pieces::flagged_group, crate::specs::Re2Spelling::spelled))]
-fn flagged_group<'a>(text: &'a [char], behind: &'a [char]) -> Option<Piece<'a>>
+fn flagged_group<'a>(text: &'a [char], behind: &'a [char]) -> Option<PatternPiece<'a>>
     ensures value { result ≡ flagged_group text.now behind.now }
     ensures shorter { IfSome result (λ found. length found.rest < length behind.now) }
 {
     let (flags, rest) = split_flags(behind);
     match rest {
         [':', rest @ ..] if flags.is_empty() || are_flags(flags) => {
-            Some(outside(Part::Open, Spelling::Source(before(text, rest)), rest))
+            Some(outside(
+                PatternPart::Open,
+                Spelling::Source(before(text, rest)),
+                rest,
+            ))
         }
         [')', rest @ ..] if are_flags(flags) => {
-            Some(outside(Part::Fixed, Spelling::Source(before(text, rest)), rest))
+            Some(outside(
+                PatternPart::Fixed,
+                Spelling::Source(before(text, rest)),
+                rest,
+            ))
         }
         _ => None,
     }
@@ -86,13 +94,13 @@ fn flagged_group<'a>(text: &'a [char], behind: &'a [char]) -> Option<Piece<'a>>
 
 /// Reads the group or the flags that begin with the parenthesis at the front of the text.
 #[tactic(auto, unfolding(crate::specs::Re2Pieces::group, crate::specs::Re2Spelling::spelled))]
-pub fn group<'a>(text: &'a [char], behind: &'a [char]) -> Option<Piece<'a>>
+pub fn group<'a>(text: &'a [char], behind: &'a [char]) -> Option<PatternPiece<'a>>
     ensures value { result ≡ group text.now behind.now }
     ensures shorter { IfSome result (λ found. length found.rest ≤ length behind.now) }
 {
     match behind {
         ['?', 'P', '<', rest @ ..] => named_group(rest),
         ['?', rest @ ..] => flagged_group(text, rest),
-        _ => Some(outside(Part::Open, Spelling::Group, behind)),
+        _ => Some(outside(PatternPart::Open, Spelling::Group, behind)),
     }
 }

@@ -5,7 +5,7 @@ ghost use Rattle.am_matcher.specs.Re2Nesting.{at_end, opened, closed, repeated, 
 ghost use Rattle.am_matcher.specs.Re2.{IsExpression};
 
 use crate::re2::braces::MOST_TIMES;
-use crate::re2::pieces::Part;
+use crate::re2::pieces::PatternPart;
 use std::alloc::{AllocError, Global};
 use std::marker::Model;
 
@@ -96,29 +96,29 @@ fn open(nesting: &mut Nesting) -> bool
 
 /// Goes back over a part, and returns whether it may stand there.
 #[tactic(auto, unfolding(crate::specs::Re2Nesting::back_over))]
-fn step(nesting: &mut Nesting, part: Part) -> Result<bool, AllocError>
+fn step(nesting: &mut Nesting, part: PatternPart) -> Result<bool, AllocError>
     ensures { IfOk result (λ may. MatchBool may (back_over part nesting.old ≡ Some nesting.new) (back_over part nesting.old ≡ None)) }
 {
     match part {
-        Part::Repeat(most) => Ok(repeat(nesting, most)),
-        Part::Atom => {
+        PatternPart::Repeat(most) => Ok(repeat(nesting, most)),
+        PatternPart::Atom => {
             nesting.waiting = None;
             Ok(true)
         }
-        Part::Fixed | Part::Bar => Ok(nesting.waiting.is_none()),
-        Part::Close => close(nesting),
-        Part::Open => Ok(open(nesting)),
+        PatternPart::Fixed | PatternPart::Bar => Ok(nesting.waiting.is_none()),
+        PatternPart::Close => close(nesting),
+        PatternPart::Open => Ok(open(nesting)),
     }
 }
 
 /// Returns the place of the first end of a group that has no start, or 0 if there is none.
-fn unopened(parts: &[Part]) -> usize {
+fn unopened(parts: &[PatternPart]) -> usize {
     let mut depth: usize = 0;
     for (place, part) in parts.iter().enumerate() {
         match part {
-            Part::Open => depth = depth.saturating_add(1),
-            Part::Close if depth == 0 => return place,
-            Part::Close => depth -= 1,
+            PatternPart::Open => depth = depth.saturating_add(1),
+            PatternPart::Close if depth == 0 => return place,
+            PatternPart::Close => depth -= 1,
             _ => {}
         }
     }
@@ -126,7 +126,7 @@ fn unopened(parts: &[Part]) -> usize {
 }
 
 /// Returns the place of a part that may not stand where it is, or `None` if there is none.
-pub fn misplaced(alloc: Global, parts: &[Part]) -> Result<Option<usize>, AllocError>
+pub fn misplaced(alloc: Global, parts: &[PatternPart]) -> Result<Option<usize>, AllocError>
     ensures { IfOk result (λ place. MatchOption place (IsExpression 1 100 parts.now) (λ _. ¬ IsExpression 1 100 parts.now)) }
 {
     let mut nesting = at_end(alloc);

@@ -8,7 +8,7 @@ use std::marker::Model;
 
 /// The place where a piece of a pattern stands.
 #[derive(Clone, Copy)]
-pub enum Place {
+pub enum PatternPlace {
     /// Outside of classes and quotations.
     Outside,
     /// At the start of a class, where `]` and `-` are characters.
@@ -21,7 +21,7 @@ pub enum Place {
 
 /// The role of a piece among the pieces beside it.
 #[derive(Clone, Copy)]
-pub enum Part {
+pub enum PatternPart {
     /// A character or a class, which may be repeated.
     Atom,
     /// An assertion, flags or a quotation, which may not be repeated.
@@ -53,18 +53,18 @@ pub enum Spelling<'a> {
 
 /// A piece at the front of a text. Contracts see the text that is written for it.
 #[derive(Drop)]
-pub struct Piece<'a> {
+pub struct PatternPiece<'a> {
     /// The role of the piece, if it isn't inside of a class or of a quotation.
-    pub part: Option<Part>,
+    pub part: Option<PatternPart>,
     pub spelling: Spelling<'a>,
     /// The name of the group that the piece opens.
     pub name: Option<&'a [char]>,
     /// The place of the next piece.
-    pub place: Place,
+    pub place: PatternPlace,
     pub rest: &'a [char],
 }
 
-impl<'a> Model for Piece<'a> {
+impl<'a> Model for PatternPiece<'a> {
     ghost use Rattle.std.specs.Prelude.{option_map};
     ghost use Rattle.am_matcher.specs.Re2Spelling.{Read, spelled};
 
@@ -80,27 +80,27 @@ impl<'a> Model for Piece<'a> {
 }
 
 /// Returns a piece outside of classes.
-pub fn outside<'a>(part: Part, spelling: Spelling<'a>, rest: &'a [char]) -> Piece<'a>
+pub fn outside<'a>(part: PatternPart, spelling: Spelling<'a>, rest: &'a [char]) -> PatternPiece<'a>
     ensures { result ≡ outside part (spelled spelling.entry) rest.now }
 {
-    Piece {
+    PatternPiece {
         part: Some(part),
         spelling,
         name: None,
-        place: Place::Outside,
+        place: PatternPlace::Outside,
         rest,
     }
 }
 
 /// Returns a piece of a class.
-pub fn of_class<'a>(spelling: Spelling<'a>, rest: &'a [char]) -> Piece<'a>
+pub fn of_class<'a>(spelling: Spelling<'a>, rest: &'a [char]) -> PatternPiece<'a>
     ensures { result ≡ of_class (spelled spelling.entry) rest.now }
 {
-    Piece {
+    PatternPiece {
         part: None,
         spelling,
         name: None,
-        place: Place::Class,
+        place: PatternPlace::Class,
         rest,
     }
 }

@@ -1,13 +1,13 @@
 //! A reader of patterns, piece by piece.
 
 ghost use Rattle.std.specs.Prelude.{◌≡◌, ◌++◌, ℕ, List, map, option_map, string_bytes, encode_utf8_all, OnOk, IfOk, MatchOption, MatchResult};
-ghost use Rattle.am_matcher.specs.declared.re2.pieces.Place.TheVariants as places;
+ghost use Rattle.am_matcher.specs.declared.re2.pieces.PatternPlace.TheVariants as places;
 ghost use Rattle.am_matcher.specs.Re2.{Contents, no_contents, join, of_piece, to_list, IsRead, IsSoundContents, IsTranslated};
 
 use crate::pieces::text_of;
 use crate::re2::nesting::misplaced;
 use crate::re2::outside::first_piece;
-use crate::re2::pieces::{Part, Piece, Place};
+use crate::re2::pieces::{PatternPart, PatternPiece, PatternPlace};
 use crate::re2::repeats::repeated;
 use crate::re2::spelling::push_spelling;
 use std::alloc::{AllocError, Global};
@@ -15,8 +15,8 @@ use std::marker::Model;
 
 /// The pieces that were read of a pattern. Contracts see their contents.
 #[derive(Drop)]
-struct Reading {
-    parts: Vec<Part>,
+struct PatternReading {
+    parts: Vec<PatternPart>,
     /// The number of characters before each part.
     places: Vec<usize>,
     written: Vec<char>,
@@ -25,7 +25,7 @@ struct Reading {
     name_places: Vec<usize>,
 }
 
-impl Model for Reading {
+impl Model for PatternReading {
     ghost use Rattle.std.specs.Prelude.{map, string_bytes};
     ghost use Rattle.am_matcher.specs.Re2.{Contents};
 
@@ -35,10 +35,10 @@ impl Model for Reading {
 }
 
 /// Returns a reading before its first piece.
-fn at_start(alloc: Global) -> Reading
+fn at_start(alloc: Global) -> PatternReading
     ensures { result ≡ no_contents }
 {
-    Reading {
+    PatternReading {
         parts: Vec::new(alloc),
         places: Vec::new(alloc),
         written: Vec::new(alloc),
@@ -48,7 +48,7 @@ fn at_start(alloc: Global) -> Reading
 }
 
 /// Appends a value, if there is one.
-fn push_part(parts: &mut Vec<Part>, part: Option<Part>) -> Result<(), AllocError>
+fn push_part(parts: &mut Vec<PatternPart>, part: Option<PatternPart>) -> Result<(), AllocError>
     ensures { OnOk result (parts.new.items ≡ parts.old.items ++ to_list part) }
 {
     if let Some(part) = part {
@@ -76,8 +76,8 @@ fn push_name(
 /// Appends a piece that stands behind this number of characters.
 fn keep(
     alloc: Global,
-    reading: &mut Reading,
-    piece: &Piece<'_>,
+    reading: &mut PatternReading,
+    piece: &PatternPiece<'_>,
     place: usize,
 ) -> Result<(), AllocError>
     ensures { OnOk result (reading.new ≡ join reading.old (of_piece piece.now)) }
@@ -95,13 +95,16 @@ fn keep(
 }
 
 /// Reads all pieces, or returns the number of characters before a fault.
-fn read_pieces(alloc: Global, characters: &[char]) -> Result<Result<Reading, usize>, AllocError>
+fn read_pieces(
+    alloc: Global,
+    characters: &[char],
+) -> Result<Result<PatternReading, usize>, AllocError>
     ensures { IfOk result (λ found. MatchResult found (IsRead places.Outside characters.now)
         (λ _. (contents : Contents) → ¬ IsRead places.Outside characters.now contents)) }
 {
     let mut reading = at_start(alloc);
     let mut left = characters;
-    let mut place = Place::Outside;
+    let mut place = PatternPlace::Outside;
     while !left.is_empty() {
         let at = characters.len().saturating_sub(left.len());
         let Some(piece) = first_piece(place, left) else {
@@ -112,7 +115,7 @@ fn read_pieces(alloc: Global, characters: &[char]) -> Result<Result<Reading, usi
         place = piece.place;
     }
     match place {
-        Place::Outside => Ok(Ok(reading)),
+        PatternPlace::Outside => Ok(Ok(reading)),
         _ => Ok(Err(characters.len())),
     }
 }
@@ -123,7 +126,7 @@ fn number_at(numbers: &[usize], place: usize) -> usize {
 }
 
 /// Returns the number of characters before a fault in what was read, or `None` if there is none.
-fn fault_of(alloc: Global, reading: &Reading) -> Result<Option<usize>, AllocError>
+fn fault_of(alloc: Global, reading: &PatternReading) -> Result<Option<usize>, AllocError>
     ensures { IfOk result (λ at. MatchOption at (IsSoundContents reading.now) (λ _. ¬ IsSoundContents reading.now)) }
 {
     if let Some(place) = repeated(alloc, &reading.names)? {
@@ -139,7 +142,7 @@ fn fault_of(alloc: Global, reading: &Reading) -> Result<Option<usize>, AllocErro
 fn written_of(
     alloc: Global,
     characters: &[char],
-    reading: Reading,
+    reading: PatternReading,
 ) -> Result<Result<Vec<char>, usize>, AllocError>
     requires { IsRead places.Outside characters.now reading }
     ensures { IfOk result (λ found. MatchResult found (λ written. IsTranslated characters.now written.items)

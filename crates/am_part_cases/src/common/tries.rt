@@ -122,7 +122,7 @@ impl<'a> How<'a> {
 }
 
 /// A call over a reader and a writer.
-pub trait Call {
+pub trait TriedCall {
     /// Makes the call, and prints its answer. A fault that has a number of bytes is returned instead.
     fn make(&self, case: &Case, reader: &mut Pieces<'_>, writer: &mut Brittle) -> Option<Cut>;
 }
@@ -182,7 +182,7 @@ impl Case {
     }
 
     /// Makes a try, and prints its outcome; returns whether the read or the write that was to fail was made.
-    fn is_tried<C: Call>(&self, call: &C, how: &How<'_>, whole: &[u8], number: usize) -> bool {
+    fn is_tried<C: TriedCall>(&self, call: &C, how: &How<'_>, whole: &[u8], number: usize) -> bool {
         let is_write = how.each.starts_with("write");
         let mut reader = how.reader(number);
         let mut writer = self.writer(how, if is_write { number } else { 0 });
@@ -201,7 +201,7 @@ impl Case {
         calls >= number
     }
 
-    fn say_tries<C: Call>(&self, call: &C, how: &How<'_>, whole: &[u8]) {
+    fn say_tries<C: TriedCall>(&self, call: &C, how: &How<'_>, whole: &[u8]) {
         let (name, start, end) = match how.each {
             "front" => ("front", 0, how.input.len().saturating_add(1)),
             "size of pieces" => ("pieces of", 1, 51),
@@ -234,7 +234,7 @@ impl Case {
     }
 
     /// Makes the tries that are asked for, prints the answer to the call without them, and returns what was written then.
-    pub fn make<C: Call>(&self, call: &C, how: &How<'_>) -> Brittle {
+    pub fn make<C: TriedCall>(&self, call: &C, how: &How<'_>) -> Brittle {
         let mut writer = self.writer(how, how.failing_write);
         let answer = Case::new(self.alloc);
         let mut reader = Pieces::new(how.input, how.step, how.failing_read);

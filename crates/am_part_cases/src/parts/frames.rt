@@ -1,6 +1,6 @@
 //! Frames as they are read, in any pieces, and as they are made and written; and sessions, piece by piece.
 
-use crate::common::{Brittle, Call, Case, CaseFault, Cut, Pieces, Spelled, cut, first};
+use crate::common::{Brittle, Case, CaseFault, Cut, Pieces, Spelled, TriedCall, cut, first};
 use crate::parts::gossip;
 use crate::parts::requests::print_read;
 use am_gossip::{
@@ -179,7 +179,7 @@ struct Receiving {
     in_full: bool,
 }
 
-impl Call for Receiving {
+impl TriedCall for Receiving {
     fn make(&self, case: &Case, reader: &mut Pieces<'_>, _writer: &mut Brittle) -> Option<Cut> {
         let (mut session, step) = (Session::new(case.alloc), reader.step);
         let mut said = SessionOutput::nothing(case.alloc);

@@ -4,7 +4,7 @@ use crate::common::{Case, CaseFault, cut, first};
 use crate::parts::figures;
 use am_http::{Cause, Read, Resource, call_of, filter_texts, out_of_memory, read_request, reply};
 use am_nflog::HashIter;
-use am_report::{ListedWord, Numbers, Texts, Word};
+use am_report::{EscapedWord, ListedWord, Numbers, Texts};
 use am_schedule::{FaultKind, parse};
 use am_silence_json::JsonKey;
 
@@ -23,7 +23,7 @@ pub fn answer(case: &Case, verb: &str, rest: &str) {
         "schedule" => schedule(case, rest),
         "word" => {
             let bytes = case.spelled(rest);
-            say!(case; Word(&bytes), "\n", ListedWord(&bytes));
+            say!(case; EscapedWord(&bytes), "\n", ListedWord(&bytes));
         }
         "numbers" => {
             let mut numbers = Vec::new(case.alloc);

@@ -1,6 +1,6 @@
 //! Rows that are saved, loaded, taken, folded and shown, and bytes that are sent: calls over readers and writers.
 
-use crate::common::{Brittle, Call, Case, CaseFault, Cut, Pieces, behind, cut, first};
+use crate::common::{Brittle, Case, CaseFault, Cut, Pieces, TriedCall, behind, cut, first};
 use am_merge::Held;
 use am_nflog::MeshEntry;
 use am_report::write_view;
@@ -63,7 +63,7 @@ struct Calling<'a> {
 
 type Outcome = Result<u64, SnapshotError>;
 
-impl Call for Calling<'_> {
+impl TriedCall for Calling<'_> {
     fn make(&self, case: &Case, reader: &mut Pieces<'_>, writer: &mut Brittle) -> Option<Cut> {
         match self.done(case.alloc, reader, writer) {
             Err(SnapshotError::Read { at }) => return Some(("Read", at as u64)),

@@ -1,7 +1,8 @@
 //! Moments and intervals; varints, fields, timestamps and rows, also over readers that give few bytes or fail.
 
 use crate::common::{
-    Brittle, Call, Case, CaseFault, Cut, Pieces, Printed, behind, cut, first, moment_of, phrase,
+    Brittle, Case, CaseFault, Cut, Pieces, Printed, TriedCall, behind, cut, first, moment_of,
+    phrase,
 };
 use crate::parts::versions;
 use am_silence::MeshSilence;
@@ -108,7 +109,7 @@ fn messages<M: Message + Printed>(case: &Case, rest: &str) {
     let (how, pairs) = cut(rest, ": ");
     let bytes = case.bytes(pairs);
     if how.contains("each ") {
-        case.make(&Reading, &case.how(how, bytes.as_slice()));
+        case.make(&RowReading, &case.how(how, bytes.as_slice()));
         return;
     }
     if how.contains("zeros") {
@@ -122,9 +123,9 @@ fn messages<M: Message + Printed>(case: &Case, rest: &str) {
 
 /// A call that reads a row of timestamps to its end or its first fault.
 #[derive(Clone, Copy)]
-struct Reading;
+struct RowReading;
 
-impl Call for Reading {
+impl TriedCall for RowReading {
     fn make(&self, case: &Case, reader: &mut Pieces<'_>, _writer: &mut Brittle) -> Option<Cut> {
         let mut rows = RowReader::<Moment>::new(case.alloc);
         for _ in 0..1_000 {

@@ -9,11 +9,11 @@ ghost use Rattle.am_report.specs.Less.{less_word};
 
 use crate::compared::Compared;
 use crate::differences::next_difference;
+use crate::held_source::{HeldSource, sides_of};
 use crate::json_lines::difference::add_difference;
 use crate::json_lines::tokens::line_of;
 use crate::json_lines::values::InJson;
 use crate::merge_cursor::MergeCursor;
-use crate::replica::{Replica, sides_of};
 use am_silence_json::tokens::add;
 use am_snapshot::SnapshotError;
 use am_version_order::Moment;
@@ -46,7 +46,7 @@ fn add_left<V: InJson>(
 fn add_differences<V: InJson>(
     alloc: Global,
     out: &mut Writer,
-    replicas: &[Replica<'_, V>],
+    replicas: &[HeldSource<'_, V>],
     compared: Compared,
     now: Moment,
 ) -> Result<bool, AllocError>
@@ -67,7 +67,7 @@ struct Differences {
 /// Returns the line of all differences of these sources.
 fn differences_of<V: InJson>(
     alloc: Global,
-    replicas: &[Replica<'_, V>],
+    replicas: &[HeldSource<'_, V>],
     compared: Compared,
     now: Moment,
 ) -> Result<Differences, AllocError>
@@ -93,7 +93,7 @@ fn differences_of<V: InJson>(
 /// and it is not tried again. [`SnapshotError::Memory`] if memory runs out, before a byte goes out.
 pub fn write_differences_json<V: InJson, W: Write>(
     alloc: Global,
-    replicas: &[Replica<'_, V>],
+    replicas: &[HeldSource<'_, V>],
     compared: Compared,
     now: Moment,
     writer: &mut W,

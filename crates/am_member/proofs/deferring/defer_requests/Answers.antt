@@ -8,7 +8,7 @@ use Rattle.am_member.proofs.deferring.defer_requests.Goals as goal
 pub returns-clause-said : goal.returns-clause-said
 returns-clause-said c =
     let said = c.args.said in
-    let left = c.quieten_all.new.frames.items in
+    let left = c.strip_requests.new.frames.items in
     let frames : left ≡ map quiet (filter brings said.frames.items) =
-    sym (map_fixed quiet left c.quieten_all.ensures.quiet) ∙ c.quieten_all.ensures.same ∙ ap (map quiet) c.drop_ticks.ensures in
+    sym (map_fixed quiet left c.strip_requests.ensures.quiet) ∙ c.strip_requests.ensures.same ∙ ap (map quiet) c.drop_ticks.ensures in
     ap (λ (fs : List Frame). let spoken : Spoken = record { frames = fs; request = said.request; fault = said.fault } in spoken) frames

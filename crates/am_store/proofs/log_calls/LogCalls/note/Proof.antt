@@ -25,13 +25,13 @@ use denote.Triple.Entry.{on_entry}
 use denote.Triple.Spec.{Meets, triple_of}
 use denote.Triple.Table.{entered}
 use denote.Triple.Walked.{says, Stays, stay_ref, walk_of, AllGo, Goes-ref, Walks, ends_at, walked, walk_Meets}
-use Rattle.am_store.specs.declared.log_calls.Record.{Record}
+use Rattle.am_store.specs.declared.log_calls.LogCalls.{LogCalls}
 use Rattle.am_store.specs.Events.{event_of}
-use Rattle.am_store.specs.contracts.log_calls.Record as T
-use Rattle.am_store.specs.contracts.log_calls.Record.note.Key.{name as #it}
-use Rattle.am_store.specs.contracts.log_calls.Record.note as it
-use Rattle.am_store.proofs.log_calls.Record.note.Statement as stated
-use Rattle.am_store.proofs.log_calls.Record.note.Code as code
+use Rattle.am_store.specs.contracts.log_calls.LogCalls as T
+use Rattle.am_store.specs.contracts.log_calls.LogCalls.note.Key.{name as #it}
+use Rattle.am_store.specs.contracts.log_calls.LogCalls.note as it
+use Rattle.am_store.proofs.log_calls.LogCalls.note.Statement as stated
+use Rattle.am_store.proofs.log_calls.LogCalls.note.Code as code
 use denote.Ref.{Bor}
 use denote.Builtin.{u8, u64}
 use denote.Exit.{yes}
@@ -40,18 +40,18 @@ use denote.Triple.Walked.{stay_none_slice, Goes-none_slice}
 use Rattle.std.proofs.Common.{◌<◌, ◌^◌, length}
 
 abbrev Arg : Type 0
-Arg = MutBor Record × (Bor (List ℕ) × (Bor (List ℕ) × Unit {0}))
+Arg = MutBor LogCalls × (Bor (List ℕ) × (Bor (List ℕ) × Unit {0}))
 
 abbrev stayed : Stays (it.ended).signature.params (it.ended).kept
 stayed = (stay_ref (0 ∷ []) tt (plain (λ _. T.the_row)), (stay_none_slice (1 ∷ []) tt (plain (λ _. u64)) yes, (stay_none_slice (2 ∷ []) tt (plain (λ _. u8)) yes, tt)))
 
-module _ {M : Type 1} {𝓤 : Ura M} (𝓛 : Logic 𝓤) (at_mem : Memory → SProp 𝓤) (run : Routine → Fun 𝓤) (κ κ' κ'' : Lft) (q q' q'' : Share) (b o : ℕ) (γ : GName) (h : Record) (k s : Bor (List ℕ)) where
+module _ {M : Type 1} {𝓤 : Ura M} (𝓛 : Logic 𝓤) (at_mem : Memory → SProp 𝓤) (run : Routine → Fun 𝓤) (κ κ' κ'' : Lft) (q q' q'' : Share) (b o : ℕ) (γ : GName) (h : LogCalls) (k s : Bor (List ℕ)) where
   open 𝓛 use {H, A}
 
   abbrev x : Arg
   x = (record { ref_ptr = (b, o); ghost_name = γ; now = h }, (k, (s, tt)))
 
-  abbrev h' : Record
+  abbrev h' : LogCalls
   h' = record { marker = h.marker; events = event_of k.now s.now ∷ h.events }
 
   abbrev at : List Val × (List Val × (List Val × Unit {0}))

@@ -2,7 +2,7 @@ use Rattle.std.proofs.Common.{◌≡◌, ℕ, List}
 use Rattle.am_http.specs.Lines.{RefusalLine, line_seen}
 use Rattle.am_api_silences.proofs.Telling.{says_weaker}
 use Rattle.am_api_silences.specs.Replies.{line_bytes}
-use Rattle.am_api_decisions.proofs.answer.Verdict.refusal.Goals as goal
+use Rattle.am_api_decisions.proofs.answer.ReasonedReply.refusal.Goals as goal
 
 pub returns-clause-reason : goal.returns-clause-reason
 returns-clause-reason c =

@@ -20,11 +20,11 @@ use denote.Triple.Entry.{on_entry, alive}
 use denote.Triple.Spec.{Meets, triple_of}
 use denote.Triple.Table.{entered}
 use denote.Triple.Walked.{says, Stays, walk_of, Walks, ends_at, walked, walk_Meets}
-use Rattle.am_store.specs.contracts.disk_calls.Record.new.Key.{name as key}
-use Rattle.am_store.specs.contracts.disk_calls.Record.new as f
-use Rattle.am_store.proofs.disk_calls.Record.new.Statement as stated
-use Rattle.am_store.proofs.disk_calls.Record.new.Code as code
-use Rattle.am_store.specs.contracts.disk_calls.Record as made
+use Rattle.am_store.specs.contracts.disk_calls.DiskCalls.new.Key.{name as key}
+use Rattle.am_store.specs.contracts.disk_calls.DiskCalls.new as f
+use Rattle.am_store.proofs.disk_calls.DiskCalls.new.Statement as stated
+use Rattle.am_store.proofs.disk_calls.DiskCalls.new.Code as code
+use Rattle.am_store.specs.contracts.disk_calls.DiskCalls as made
 
 abbrev stayed : Stays (f.ended).signature.params (f.ended).kept
 stayed = tt

@@ -1,7 +1,7 @@
 use Rattle.std.proofs.Common.{◌≡◌, map, length}
 use Rattle.std.specs.Vec.Iter.{into_iter_items, into_iter_len}
 use Rattle.am_api_decisions.specs.Asking.{counted_with, unasked}
-use Rattle.am_api_decisions.proofs.tally.Tally.add_unasked.Given as goal
+use Rattle.am_api_decisions.proofs.tally.AlertTally.add_unasked.Given as goal
 
 -- with those that are left it counts as with all of them
 abbrev pub invariant-loop-alert : goal.invariant-loop-alert

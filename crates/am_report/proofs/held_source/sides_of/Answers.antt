@@ -2,7 +2,7 @@ use Rattle.std.proofs.lemmas.List.Elements.{All-push}
 use Rattle.am_merge.specs.Maps.{IsMap}
 use Rattle.am_report.specs.Sources.{MergeCursor}
 use Rattle.am_report.proofs.Loops.{sides_more}
-use Rattle.am_report.proofs.replica.sides_of.Goals as goal
+use Rattle.am_report.proofs.held_source.sides_of.Goals as goal
 
 pub loop-replica-preserved : goal.loop-replica-preserved
 loop-replica-preserved g c =

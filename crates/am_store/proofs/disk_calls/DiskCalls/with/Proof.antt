@@ -31,12 +31,12 @@ use denote.Triple.Spec.{Meets, triple_of}
 use denote.Triple.Table.{entered}
 use denote.Triple.Walked.{says, stay_none_ref, stay_none_slice, Stays, walk_of, Walks, ends_at, walked, AllGo, Goes-none_ref, Goes-none_slice, walk_Meets}
 use Rattle.am_store.specs.Calls.{event_of}
-use Rattle.am_store.specs.declared.disk_calls.Record.{Record}
-use Rattle.am_store.specs.contracts.disk_calls.Record.with.Key.{name as key}
-use Rattle.am_store.specs.contracts.disk_calls.Record.with as f
-use Rattle.am_store.specs.contracts.disk_calls.Record as T
-use Rattle.am_store.proofs.disk_calls.Record.with.Statement as stated
-use Rattle.am_store.proofs.disk_calls.Record.with.Code as code
+use Rattle.am_store.specs.declared.disk_calls.DiskCalls.{DiskCalls}
+use Rattle.am_store.specs.contracts.disk_calls.DiskCalls.with.Key.{name as key}
+use Rattle.am_store.specs.contracts.disk_calls.DiskCalls.with as f
+use Rattle.am_store.specs.contracts.disk_calls.DiskCalls as T
+use Rattle.am_store.proofs.disk_calls.DiskCalls.with.Statement as stated
+use Rattle.am_store.proofs.disk_calls.DiskCalls.with.Code as code
 
 abbrev stayed : Stays (f.ended).signature.params (f.ended).kept
 stayed = (
@@ -72,7 +72,7 @@ module _ {M : Type 1} {𝓤 : Ura M} (𝓛 : Logic 𝓤) (mem : Memory → SProp
     abbrev file : Val
     file = vptr a.1.1.1.1.0.ref_ptr.0 a.1.1.1.1.0.ref_ptr.1
 
-    abbrev more : Record
+    abbrev more : DiskCalls
     more = record { events = a.0.now.events ++ event_of a.1.0.now a.1.1.0.now a.1.1.1.0.now a.1.1.1.1.0.now.events ∷ [] }
 
     abbrev bound : (walk_of 𝓛 f.ended stayed (f.clauses 𝓛 mem run)).Ghost

@@ -4,7 +4,7 @@ use Rattle.std.proofs.lemmas.List.{nil_from_length}
 use Rattle.am_api_decisions.specs.declared.message.Alert.{Alert}
 use Rattle.am_api_decisions.specs.Asking.{AskedAlert, Counted, counted_with, unasked}
 use Rattle.am_api_decisions.proofs.AskedMore.{counted_more, counted_none}
-use Rattle.am_api_decisions.proofs.tally.Tally.add_unasked.Goals as goal
+use Rattle.am_api_decisions.proofs.tally.AlertTally.add_unasked.Goals as goal
 
 pub loop-alert-init : goal.loop-alert-init
 loop-alert-init c = rw c.into_iter-alert-iterator.ensures.into_iter_gives (refl, c.requires)

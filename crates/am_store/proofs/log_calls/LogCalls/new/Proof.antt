@@ -21,17 +21,17 @@ use denote.Triple.Entry.{on_entry}
 use denote.Triple.Spec.{Meets, triple_of}
 use denote.Triple.Table.{entered}
 use denote.Triple.Walked.{says, ends_at, walked, walk_Meets}
-use Rattle.am_store.specs.declared.log_calls.Record.{Record}
-use Rattle.am_store.specs.contracts.log_calls.Record as T
-use Rattle.am_store.specs.contracts.log_calls.Record.new.Key.{name as #it}
-use Rattle.am_store.specs.contracts.log_calls.Record.new as it
-use Rattle.am_store.proofs.log_calls.Record.new.Statement as stated
-use Rattle.am_store.proofs.log_calls.Record.new.Code as code
+use Rattle.am_store.specs.declared.log_calls.LogCalls.{LogCalls}
+use Rattle.am_store.specs.contracts.log_calls.LogCalls as T
+use Rattle.am_store.specs.contracts.log_calls.LogCalls.new.Key.{name as #it}
+use Rattle.am_store.specs.contracts.log_calls.LogCalls.new as it
+use Rattle.am_store.proofs.log_calls.LogCalls.new.Statement as stated
+use Rattle.am_store.proofs.log_calls.LogCalls.new.Code as code
 
 abbrev v : Val
 v = vstruct (vcons (vstruct vnil) vnil)
 
-abbrev r : Record
+abbrev r : LogCalls
 r = record { marker = record {}; events = [] }
 
 meets : {M : Type 1} {𝓤 : Ura M} (𝓛 : Logic 𝓤) → (at_mem : Memory → SProp 𝓤) (run : Routine → Fun 𝓤) (𝓣 : Tables 𝓤 𝓛.H)

@@ -1,7 +1,7 @@
 use Rattle.std.proofs.Common.{◌≡◌, map}
 use Rattle.std.specs.List.{AllWithin}
 use Rattle.am_member.specs.Sparing.{quiet}
-use Rattle.am_member.proofs.deferring.quieten_all.Given as goal
+use Rattle.am_member.proofs.deferring.strip_requests.Given as goal
 
 abbrev pub invariant-loop-frame : goal.invariant-loop-frame
 invariant-loop-frame l = record {

@@ -2,7 +2,7 @@ use Rattle.std.proofs.Common.{◌≡◌, take, map}
 use Rattle.std.specs.Prelude.{All}
 use Rattle.am_merge.specs.Maps.{IsMap}
 use Rattle.am_report.specs.Sources.{side_of}
-use Rattle.am_report.proofs.replica.sides_of.Given as goal
+use Rattle.am_report.proofs.held_source.sides_of.Given as goal
 
 abbrev pub invariant-loop-replica : goal.invariant-loop-replica
 invariant-loop-replica g l = record {

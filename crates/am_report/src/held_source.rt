@@ -12,12 +12,12 @@ use std::marker::Model;
 
 /// A source: its name, and the map that it holds.
 #[derive(Drop)]
-pub struct Replica<'a, V: Version> {
+pub struct HeldSource<'a, V: Version> {
     name: &'a str,
     held: Held<V>,
 }
 
-impl<'a, V: Version> Model for Replica<'a, V> {
+impl<'a, V: Version> Model for HeldSource<'a, V> {
     ghost use Rattle.am_report.specs.Sources.{Source};
 
     ghost Value = { Source V };
@@ -25,12 +25,12 @@ impl<'a, V: Version> Model for Replica<'a, V> {
     ghost view = { λ replica. record { name = replica.name.now; held = replica.held } };
 }
 
-impl<'a, V: Version> Replica<'a, V> {
+impl<'a, V: Version> HeldSource<'a, V> {
     /// Returns the source of this name that holds this map.
     pub fn new(name: &'a str, held: Held<V>) -> Self
         ensures { result ≡ record { name = name.now; held = held } }
     {
-        Replica { name, held }
+        HeldSource { name, held }
     }
 
     /// Returns the name of the source.
@@ -55,7 +55,7 @@ impl<'a, V: Version> Replica<'a, V> {
 /// [`AllocError`] if memory runs out.
 pub fn sides_of<'a, 'n, V: Version>(
     alloc: Global,
-    replicas: &'a [Replica<'n, V>],
+    replicas: &'a [HeldSource<'n, V>],
 ) -> Result<Vec<MergeCursor<'a, V>>, AllocError>
     ensures start { IfOk result (λ sides. sides.items ≡ map side_of replicas.now) }
     ensures order { IfOk result (λ sides. All (λ cursor. IsMap V.seen V.Key.cmp cursor.left) sides.items) }
