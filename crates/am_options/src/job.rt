@@ -56,7 +56,7 @@ pub struct ShowJob<'a> {
     /// True if the file stands for itself and the logs beside it.
     pub has_logs: bool,
     /// The form in which the snapshot is shown.
-    pub form: Form,
+    pub form: ViewForm,
     /// The moment of the view; without it, the clock's.
     pub now: Option<Moment>,
     /// The treatment of the fields of versions that aren't known here.
@@ -65,7 +65,7 @@ pub struct ShowJob<'a> {
 
 /// The form in which something is printed.
 #[derive(Clone, Copy)]
-pub enum Form {
+pub enum ViewForm {
     /// Lines of words.
     Lines,
     /// One line of JSON.

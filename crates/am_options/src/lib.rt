@@ -11,7 +11,7 @@ mod times;
 mod words;
 
 pub use job::{
-    DiffForm, DiffJob, FoldJob, Form, Job, MendJob, PullJob, PushJob, ShowJob, StateName,
+    DiffForm, DiffJob, FoldJob, Job, MendJob, PullJob, PushJob, ShowJob, StateName, ViewForm,
 };
 pub use options::Options;
 pub use options_list::{options_text, seconds_in};

@@ -16,7 +16,7 @@ struct Words<'a, 'b>(&'b Options<'a>);
 
 /// The value of an option.
 #[derive(Clone, Copy)]
-enum Value<'a, 'b> {
+enum OptionValue<'a, 'b> {
     /// None: the option is given or not.
     Flag(bool),
     /// A text, if the option is given.
@@ -41,12 +41,12 @@ pub fn seconds_in(interval: Interval) -> u64 {
 }
 
 /// Returns a time as a value in seconds.
-fn seconds<'a, 'b>(time: Option<Duration>) -> Value<'a, 'b> {
-    Value::Number(time.map(|time| time.as_secs()))
+fn seconds<'a, 'b>(time: Option<Duration>) -> OptionValue<'a, 'b> {
+    OptionValue::Number(time.map(|time| time.as_secs()))
 }
 
 /// Returns the options in the order of the help, with their values.
-fn table<'a, 'b>(options: &'b Options<'a>) -> [(&'static str, Value<'a, 'b>); 32] {
+fn table<'a, 'b>(options: &'b Options<'a>) -> [(&'static str, OptionValue<'a, 'b>); 32] {
     let dialect = match options.dialect {
         Dialect::Regex => "regex",
         Dialect::Re2 => "re2",
@@ -54,53 +54,68 @@ fn table<'a, 'b>(options: &'b Options<'a>) -> [(&'static str, Value<'a, 'b>); 32
     let connections = options.connections;
     let ends = connections < u64::MAX;
     [
-        ("name", Value::Text(Some(options.name))),
-        ("listen", Value::Address(Some(options.address))),
-        ("peer", Value::Peers(&options.peers)),
-        ("peers-listen", Value::Address(options.peers_address)),
-        ("secret", Value::Text(options.secret)),
-        ("open-peers", Value::Flag(options.opens_peers)),
-        ("gossip", Value::Peers(&options.replicas)),
-        ("patterns", Value::Text(Some(dialect))),
+        ("name", OptionValue::Text(Some(options.name))),
+        ("listen", OptionValue::Address(Some(options.address))),
+        ("peer", OptionValue::Peers(&options.peers)),
+        ("peers-listen", OptionValue::Address(options.peers_address)),
+        ("secret", OptionValue::Text(options.secret)),
+        ("open-peers", OptionValue::Flag(options.opens_peers)),
+        ("gossip", OptionValue::Peers(&options.replicas)),
+        ("patterns", OptionValue::Text(Some(dialect))),
         (
             "keep-unknown",
-            Value::Flag(options.unknown == Unknown::Keep),
+            OptionValue::Flag(options.unknown == Unknown::Keep),
         ),
-        ("host", Value::Texts(&options.hosts)),
-        ("sil", Value::Text(Some(options.silences))),
-        ("nfl", Value::Text(Some(options.log))),
-        ("retention", Value::Number(Some(options.retention_seconds))),
+        ("host", OptionValue::Texts(&options.hosts)),
+        ("sil", OptionValue::Text(Some(options.silences))),
+        ("nfl", OptionValue::Text(Some(options.log))),
+        (
+            "retention",
+            OptionValue::Number(Some(options.retention_seconds)),
+        ),
         (
             "peer-timeout",
-            Value::Number(Some(seconds_in(options.peer_timeout))),
+            OptionValue::Number(Some(seconds_in(options.peer_timeout))),
         ),
-        ("connections", Value::Number(ends.then_some(connections))),
+        (
+            "connections",
+            OptionValue::Number(ends.then_some(connections)),
+        ),
         ("time-limit", seconds(Some(options.time_limit))),
         ("decide-limit", seconds(Some(options.decide_limit))),
-        ("at-once", Value::Number(Some(u64::from(options.at_once)))),
-        ("waiting", Value::Number(Some(u64::from(options.waiting)))),
+        (
+            "at-once",
+            OptionValue::Number(Some(u64::from(options.at_once))),
+        ),
+        (
+            "waiting",
+            OptionValue::Number(Some(u64::from(options.waiting))),
+        ),
         (
             "most-unfinished",
-            Value::Number(Some(options.most_unfinished as u64)),
+            OptionValue::Number(Some(options.most_unfinished as u64)),
         ),
         (
             "most-bytes",
-            Value::Number(Some(u64::from(options.most_bytes))),
+            OptionValue::Number(Some(u64::from(options.most_bytes))),
         ),
         (
             "lines-a-second",
-            Value::Number(Some(u64::from(options.lines))),
+            OptionValue::Number(Some(u64::from(options.lines))),
         ),
         ("tick-every", seconds(options.tick_every)),
-        ("trust-clock", Value::Flag(options.trusts_clock)),
+        ("trust-clock", OptionValue::Flag(options.trusts_clock)),
         ("pull-every", seconds(options.pull_every)),
         ("save-every", seconds(options.save_every)),
         ("gossip-every", seconds(Some(options.gossip_every))),
-        ("log", Value::Flag(options.keeps_log)),
-        ("pull-first", Value::Flag(options.pull_first)),
+        ("log", OptionValue::Flag(options.keeps_log)),
+        ("pull-first", OptionValue::Flag(options.pull_first)),
         ("pull-first-limit", seconds(Some(options.pull_first_limit))),
-        ("stop-at-input-end", Value::Flag(options.stop_at_input_end)),
-        ("least-repeat", Value::Number(options.least_repeat)),
+        (
+            "stop-at-input-end",
+            OptionValue::Flag(options.stop_at_input_end),
+        ),
+        ("least-repeat", OptionValue::Number(options.least_repeat)),
     ]
 }
 
@@ -108,23 +123,23 @@ fn table<'a, 'b>(options: &'b Options<'a>) -> [(&'static str, Value<'a, 'b>); 32
 fn write_option<W: fmt::Write>(
     f: &mut fmt::Formatter<W>,
     name: &str,
-    value: Value<'_, '_>,
+    value: OptionValue<'_, '_>,
 ) -> fmt::Result {
     match value {
-        Value::Flag(true) => write!(f, "--{name}\n"),
-        Value::Text(Some(text)) => write!(f, "--{name} {text}\n"),
-        Value::Number(Some(number)) => write!(f, "--{name} {number}\n"),
-        Value::Address(Some(address)) => {
+        OptionValue::Flag(true) => write!(f, "--{name}\n"),
+        OptionValue::Text(Some(text)) => write!(f, "--{name} {text}\n"),
+        OptionValue::Number(Some(number)) => write!(f, "--{name} {number}\n"),
+        OptionValue::Address(Some(address)) => {
             let word = AddressWord(address);
             write!(f, "--{name} {word}\n")
         }
-        Value::Texts(texts) => {
+        OptionValue::Texts(texts) => {
             for text in texts {
                 write!(f, "--{name} {text}\n")?;
             }
             Ok(())
         }
-        Value::Peers(peers) => write_peers(f, name, peers),
+        OptionValue::Peers(peers) => write_peers(f, name, peers),
         _ => Ok(()),
     }
 }

@@ -2,7 +2,7 @@
 
 use crate::options::Options;
 use am_peers::{AddressWord, Peer};
-use am_report::Word;
+use am_report::EscapedWord;
 use std::fmt;
 
 /// A member that listens, and the numbers of versions that it has loaded.
@@ -16,7 +16,7 @@ pub struct Started<'a, 'b> {
 /// Writes the names and addresses of peers.
 fn write_peers<W: fmt::Write>(peers: &[Peer<'_>], f: &mut fmt::Formatter<W>) -> fmt::Result {
     for peer in peers {
-        let name = Word(peer.name.as_bytes());
+        let name = EscapedWord(peer.name.as_bytes());
         let address = AddressWord(peer.address);
         write!(f, " {name}={address}")?;
     }
@@ -37,7 +37,7 @@ fn write_replicas<W: fmt::Write>(replicas: &[Peer<'_>], f: &mut fmt::Formatter<W
 
 impl fmt::Display for Started<'_, '_> {
     fn fmt<W: fmt::Write>(&self, f: &mut fmt::Formatter<W>) -> fmt::Result {
-        let name = Word(self.options.name.as_bytes());
+        let name = EscapedWord(self.options.name.as_bytes());
         let address = self.options.address;
         write!(f, "{name} listens on {address}")?;
         if let Some(address) = self.options.peers_address {

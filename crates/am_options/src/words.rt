@@ -94,7 +94,7 @@ pub fn job_of<'a, R: Files + AllocGlobal>(
     if words.len() <= 1 {
         return Ok(Job::Replay(None));
     }
-    let matches = command(rt.alloc())?.try_get_matches_from(words)?;
+    let matches = program(rt.alloc())?.try_get_matches_from(words)?;
     read_job(rt, &matches)
 }
 
@@ -111,20 +111,64 @@ pub fn words_of<R: Env + AllocGlobal>(rt: &R) -> Result<Vec<String>, WordsError>
     }
 }
 
-/// Returns the command of the program, with its tasks.
-fn command<'a>(alloc: Global) -> Result<Command<'a>, AllocError> {
-    Command::new(alloc, "am_tool")
+/// The names of the program's commands, in the order of its help.
+const COMMANDS: [&str; 8] = [
+    "replay", "fold", "show", "diff", "pull", "push", "mend", "instance",
+];
+
+/// Returns the command of a name, which is `replay` for any other one.
+fn command_of<'a>(alloc: Global, name: &str) -> Result<Command<'a>, AllocError> {
+    match name {
+        "fold" => files::fold_command(alloc),
+        "show" => files::show_command(alloc),
+        "diff" => diff::command(alloc),
+        "pull" => live::pull_command(alloc),
+        "push" => live::push_command(alloc),
+        "mend" => mend::command(alloc),
+        "instance" => instance::command(alloc),
+        _ => files::replay_command(alloc),
+    }
+}
+
+/// Returns the program as `clap` has it, with its commands.
+fn program<'a>(alloc: Global) -> Result<Command<'a>, AllocError> {
+    let mut program = Command::new(alloc, "am_tool")
         .version(VERSION)
         .about("The state that instances of Alertmanager share")
-        .subcommand_required(true)
-        .subcommand(files::replay_command(alloc)?)?
-        .subcommand(files::fold_command(alloc)?)?
-        .subcommand(files::show_command(alloc)?)?
-        .subcommand(diff::command(alloc)?)?
-        .subcommand(live::pull_command(alloc)?)?
-        .subcommand(live::push_command(alloc)?)?
-        .subcommand(mend::command(alloc)?)?
-        .subcommand(instance::command(alloc)?)
+        .subcommand_required(true);
+    for name in &COMMANDS {
+        let command = command_of(alloc, name)?;
+        program = program.subcommand(command)?;
+    }
+    Ok(program)
+}
+
+/// Reads the job of the command of a name.
+fn read_named<'a, R: Files + AllocGlobal>(
+    rt: &R,
+    name: &str,
+    args: &ArgMatches<'a>,
+) -> Result<Job<'a>, Mistake<'a>> {
+    let alloc = rt.alloc();
+    match name {
+        "fold" => files::read_fold(alloc, args),
+        "show" => files::read_show(args),
+        "diff" => diff::read_job(alloc, args),
+        "pull" => live::read_pull(args),
+        "push" => live::read_push(args),
+        "mend" => mend::read_job(alloc, args),
+        "instance" => instance::read_job(rt, args),
+        _ => Ok(files::read_replay(args)),
+    }
+}
+
+/// Returns the error of a mistake in the arguments of a command.
+fn error_of(alloc: Global, command: Command<'_>, mistake: Mistake<'_>) -> WordsError {
+    match mistake {
+        Mistake::Value(text) => refusal(alloc, command, text),
+        Mistake::Peer => WordsError::Peer,
+        Mistake::Memory => WordsError::Memory,
+    }
 }
 
 /// Reads the job that is asked for.
@@ -136,24 +180,13 @@ fn read_job<'a, R: Files + AllocGlobal>(
     let Some((name, args)) = matches.subcommand() else {
         return Ok(Job::Replay(None));
     };
-    let (command, job) = match name {
-        "fold" => (files::fold_command(alloc)?, files::read_fold(alloc, args)),
-        "show" => (files::show_command(alloc)?, files::read_show(args)),
-        "diff" => (diff::command(alloc)?, diff::read_job(alloc, args)),
-        "pull" => (live::pull_command(alloc)?, live::read_pull(args)),
-        "push" => (live::push_command(alloc)?, live::read_push(args)),
-        "mend" => (mend::command(alloc)?, mend::read_job(alloc, args)),
-        "instance" => (instance::command(alloc)?, instance::read_job(rt, args)),
-        _ => (files::replay_command(alloc)?, Ok(files::read_replay(args))),
-    };
+    let command = command_of(alloc, name)?;
     if let Some(text) = signed_number(alloc, &command, args)? {
         return Err(refusal(alloc, command, &text));
     }
-    match job {
+    match read_named(rt, name, args) {
         Ok(job) => Ok(job),
-        Err(Mistake::Value(text)) => Err(refusal(alloc, command, text)),
-        Err(Mistake::Peer) => Err(WordsError::Peer),
-        Err(Mistake::Memory) => Err(WordsError::Memory),
+        Err(mistake) => Err(error_of(alloc, command, mistake)),
     }
 }
 

@@ -2,7 +2,7 @@
 
 use super::arguments::{Argument, LOG, Rule, STATE, TEXT, Takes, U32, with_arguments};
 use super::{Mistake, ensure_file, now_of, state_of, unknown_of};
-use crate::job::{FoldJob, Form, Job, ShowJob};
+use crate::job::{FoldJob, Job, ShowJob, ViewForm};
 use crate::source::is_file;
 use am_version_order::Moment;
 use clap::{ArgMatches, Command};
@@ -138,9 +138,9 @@ pub fn read_show<'a>(args: &ArgMatches<'a>) -> Result<Job<'a>, Mistake<'a>> {
         file,
         has_logs: args.get_flag("log"),
         form: if args.get_flag("json") {
-            Form::Json
+            ViewForm::Json
         } else {
-            Form::Lines
+            ViewForm::Lines
         },
         now,
         unknown: unknown_of(args),

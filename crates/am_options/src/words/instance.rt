@@ -230,7 +230,7 @@ const SECONDS: ValueParser<'static> = ValueParser::Unsigned(1, 999_999_999);
 
 /// The values of options that are judged beyond what `clap` does.
 #[derive(Clone, Copy)]
-struct Judged {
+struct CheckedOptions {
     address: SocketAddr,
     peers_address: Option<SocketAddr>,
     retention: Interval,
@@ -256,11 +256,14 @@ pub fn read_job<'a, R: Files + AllocGlobal>(
 }
 
 /// Judges the words, all but the peers.
-fn judge<'a, R: Files + AllocGlobal>(rt: &R, args: &ArgMatches<'a>) -> Result<Judged, Mistake<'a>> {
+fn judge<'a, R: Files + AllocGlobal>(
+    rt: &R,
+    args: &ArgMatches<'a>,
+) -> Result<CheckedOptions, Mistake<'a>> {
     let address = address_of(text(args, "listen")).ok_or(Mistake::Value(BAD_LISTEN))?;
     let peers_address = peers_address(args)?;
     judge_words(rt, args, peers_address)?;
-    Ok(Judged {
+    Ok(CheckedOptions {
         address,
         peers_address,
         retention: interval(args, "retention")?,
@@ -281,7 +284,7 @@ fn read_lists<'a>(alloc: Global, args: &ArgMatches<'a>) -> Result<Lists<'a>, Mis
 }
 
 /// Returns the options by which the member is run.
-fn options<'a>(args: &ArgMatches<'a>, judged: Judged, lists: Lists<'a>) -> Options<'a> {
+fn options<'a>(args: &ArgMatches<'a>, judged: CheckedOptions, lists: Lists<'a>) -> Options<'a> {
     Options {
         name: text(args, "name"),
         address: judged.address,
