@@ -42,8 +42,9 @@ CROWD, SOON = 5000, 50
 # How many times as long others may wait beside many patterns as beside one.
 ONE_TURN = 5
 
-# Against how many silences a large pattern is held.
+# Against how many silences a large pattern is held, and how many a light filter leaves out.
 FILTERED = 2000
+LEFT_OUT = 50_000
 
 library = None
 
@@ -1079,6 +1080,21 @@ def test_long_filter(folder):
         compare("a stop", (member.stop(), member.lines[1:]), (0, []))
 
 
+def test_light_filter(folder):
+    """A list by a name that one silence has takes no memory for all others."""
+    long_list("h", folder, LEFT_OUT, 20)
+    member = alone("h", folder, ["--time-limit", str(PATIENCE)])
+    compare("a post", post(member, "one")[0], 200)
+    before = peak(member)
+    status, body = member.ask("GET", f"{LIST}?filter=" + quote('job="one"'))
+    compare("the list", (status, [it["comment"] for it in json.loads(body)]), (200, ["one"]))
+    grown = peak(member) - before
+    check("what doesn't pass isn't copied", grown < 2, grown)
+    status, body = member.ask("GET", f"{LIST}?filter=" + quote('job!="one"'))
+    compare("the list of all others", (status, len(json.loads(body))), (200, LEFT_OUT))
+    compare("a stop", (member.stop(), member.lines[1:]), (0, []))
+
+
 def test_long_value(folder):
     """A list is refused if a large pattern among its filters meets a silence so long that the search might take minutes."""
     member = alone("v", folder, ["--time-limit", "60"])
@@ -1327,6 +1343,7 @@ def main():
             test_slow_readers,
             test_patterns, test_all_patterns, test_long_value,
             test_long_filter,
+            test_light_filter,
             test_long_posts,
             test_full,
             test_room_again,

@@ -11,6 +11,7 @@ ghost use Rattle.am_api_silences.specs.ListFilters.{IsParted};
 ghost use Rattle.am_api_silences.specs.declared.reply_builder.ReplyBuilder.TheVariants as makings;
 
 use crate::events::event_by;
+use crate::list_filter::are_light;
 use crate::replies::{ResponseBytes, no_memory, tell};
 use crate::reply_builder::{ReplyBuilder, make};
 use crate::table;
@@ -99,8 +100,16 @@ fn stopped(alloc: Global, error: StepError) -> PendingAnswer
     }
 }
 
+/// Returns whether an event asks for no list, or for one whose filters can be held against all silences at once.
+fn is_light(instance: &Instance, event: &Event) -> bool {
+    match event {
+        Event::Request(SilenceRequest::List { filters }) => are_light(filters, instance),
+        _ => true,
+    }
+}
+
 /// Takes the filters out of an event that asks for a list, so that it asks for all silences.
-fn take_filters(alloc: Global, event: Event) -> (Event, Vec<Filter>)
+fn split_filters(alloc: Global, event: Event) -> (Event, Vec<Filter>)
     ensures { IsParted event result.0 result.1.items }
 {
     match event {
@@ -114,11 +123,22 @@ fn take_filters(alloc: Global, event: Event) -> (Event, Vec<Filter>)
     }
 }
 
-/// Makes the step of an event, and begins to answer it. The filters of a list are held against its silences afterwards.
+/// Takes the filters out of an event that asks for a list, unless they are light: then its step applies them.
+fn take_filters(alloc: Global, instance: &Instance, event: Event) -> (Event, Vec<Filter>)
+    ensures { IsParted event result.0 result.1.items }
+{
+    if is_light(instance, &event) {
+        return (event, Vec::new(alloc));
+    }
+    split_filters(alloc, event)
+}
+
+/// Makes the step of an event, and begins to answer it. The filters of a list that would take too long in one step are held
+/// against its silences afterwards.
 fn step(alloc: Global, instance: &mut Instance, event: Event, now: Moment) -> PendingAnswer
     ensures { WhenMade (λ answered. IsStepAnswer event instance.old now answered instance.new) result }
 {
-    let (bare, filters) = take_filters(alloc, event);
+    let (bare, filters) = take_filters(alloc, instance, event);
     match instance.step(bare, now) {
         Ok(outcome) => done(alloc, outcome, filters),
         Err(error) => stopped(alloc, error),
@@ -138,8 +158,8 @@ fn event_at(
     event_by(alloc, dialect, instance.patterns(), request, bits)
 }
 
-/// Makes the step of a request at `now`, and begins its reply: a list is sifted by its filters and written afterwards, a stretch at
-/// a time. `bits` are random: a silence that the request makes gets its identifier from them.
+/// Makes the step of a request at `now`, and begins its reply: a list is written afterwards, a stretch at a time, and so are heavy
+/// filters held against it. `bits` are random: a silence that the request makes gets its identifier from them.
 ///
 /// If no step is made, the instance is as it was, and nothing is sent. If memory runs out, the answer says so; the step may stand
 /// then, and its frames are in the answer.

@@ -5,6 +5,7 @@ ghost use Rattle.std.specs.List.{list_all};
 ghost use Rattle.am_matcher.specs.Matching.{passes};
 ghost use Rattle.am_api_silences.specs.ListFilters.{passing};
 
+use am_instance::Instance;
 use am_matcher::Filter;
 use am_silence::{MeshSilence, State};
 use am_wire::Message;
@@ -23,6 +24,9 @@ const STATE_BYTES: usize = 160;
 
 /// The most steps that holding one filter against one silence may take: some seconds' work.
 const MOST_STEPS: usize = 1_000_000_000;
+
+/// The most steps that a list is judged with at once, and not in stretches: some hundredths of a second's work.
+const MOST_STEPS_AT_ONCE: usize = 32 << 20;
 
 /// The silences of a list, of which those are sought that pass all filters.
 pub struct ListFilter {
@@ -85,6 +89,24 @@ fn steps_of(filters: &[Filter], rows: &[(MeshSilence, State)]) -> usize {
         bytes = bytes.max(row.0.size() as usize);
     }
     states.saturating_mul(bytes)
+}
+
+/// Returns whether filters can be held against all silences of an instance at once: a step is counted for each byte of a silence,
+/// and as many more as a filter's pattern has states.
+pub(crate) fn are_light(filters: &[Filter], instance: &Instance) -> bool {
+    let mut weight = 0usize;
+    for filter in filters {
+        weight = weight.saturating_add(1 + filter.size() / STATE_BYTES);
+    }
+    let mut left = MOST_STEPS_AT_ONCE;
+    for version in instance.silences().iter() {
+        let steps = weight.saturating_mul(version.size() as usize);
+        if steps > left {
+            return false;
+        }
+        left -= steps;
+    }
+    true
 }
 
 /// Returns whether the silence of a version passes all filters.

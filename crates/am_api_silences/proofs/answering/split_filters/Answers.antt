@@ -1,6 +1,6 @@
 use Rattle.std.proofs.Common.{inr, refl, ◌∙◌, ap}
 use Rattle.am_instance.specs.declared.event.Event.TheVariants as events
-use Rattle.am_api_silences.proofs.answering.take_filters.Goals as goal
+use Rattle.am_api_silences.proofs.answering.split_filters.Goals as goal
 
 pub returns-in-Request-List : goal.returns-in-Request-List
 returns-in-Request-List c =
