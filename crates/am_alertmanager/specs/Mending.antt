@@ -34,7 +34,7 @@ module _ {K X : Type 0} (seen : X → Version K) where
   kept_of now old None = old
   kept_of now old (Some v) = kept now old v
 
-  -- why a version that was sent isn't held
+  -- the reason that a version that was sent isn't held
   abbrev pub why_refused : ℕ → Option X → X → Refused
   why_refused now old v =
       if nat_le (seen v).expires now then Expired

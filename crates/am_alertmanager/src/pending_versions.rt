@@ -189,7 +189,7 @@ impl PendingVersions {
     /// Adds new versions, read by the policy for unknown fields. Returns whether there was room and memory for them; if not,
     /// all versions that came are forgotten.
     pub fn add(&mut self, alloc: Global, unknown: Unknown, part: &Part) -> bool
-        // PROMISE: At most 16 MiB of new versions wait for an Alertmanager; where more come, all that came is forgotten.
+        // PROMISE: At most 16 MiB of new versions wait for an Alertmanager; if more come, all that came is forgotten.
         ensures bounded { self.new.waiting ≤ MOST_WAITING }
         ensures forgotten { result ≡ false → HasNothingNew self.new }
     {

@@ -33,7 +33,7 @@ repeat_in d = option_and_then interval_of (number_in (codes "repeat") d)
 abbrev pub is_told : Data → Bool
 is_told d = unwrap_or (truth_in (codes "notify") d) false
 
--- who was notified
+-- the receiver that was notified
 abbrev pub receiver_of : Data → Result Receiver MessageKey
 receiver_of d = do
   group_name ← ok_or (text_in (codes "receiver") d) keys.Receiver

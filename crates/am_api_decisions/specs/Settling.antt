@@ -43,7 +43,7 @@ decide_event group counted =
     events.Decide group.group_key (receiver_of group) counted.firing counted.resolved (group.terms.repeat.seconds * 1_000_000_000)
     group.terms.send_resolved
 
--- why a group is notified, or why not: if it is, and not every alert was held against the silences, that is the reason
+-- the reason that a group is notified, or isn't: if it is, and not every alert was held against the silences, that is the reason
 abbrev pub why_of : Judgement → Decision → Why
 why_of judgement Skip = whys.Skip
 why_of Whole (Notify reason) = whys.Notify reason

@@ -24,15 +24,15 @@ abbrev pub for_peers : Option ℕ → List (ℕ × Frame) → List (ℕ × Frame
 for_peers None frames = frames
 for_peers (Some disk) frames = frames_beside disk frames
 
--- what waits, once these frames wait behind the others
+-- the frames that wait, once these wait behind the others
 abbrev pub with_queued : List (ℕ × Frame) → Sent → Sent
 with_queued frames sent = record sent { frames = sent.frames ++ frames }
 
--- what is sent to peers
+-- the frames that are sent to peers
 abbrev pub to_peers : Option ℕ → Sent → Sent
 to_peers disk sent = record sent { frames = for_peers disk sent.frames }
 
--- what waits, once this many frames more aren't sent for lack of memory
+-- the frames that wait, once this many more aren't sent for lack of memory
 abbrev pub left_out : ℕ → Sent → Sent
 left_out count sent = record sent { memory = capped (sent.memory + count) }
 

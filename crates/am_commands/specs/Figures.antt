@@ -1,4 +1,4 @@
--- The differences of sources as figures, and what went out where writing them stopped.
+-- The differences of sources as figures, and what went out if writing them stopped.
 -- X is the type of versions, `seen` is what the merge sees of one, and `contents` is what a writer holds.
 use Rattle.std.specs.Prelude.{◌≡◌, ℕ, Bool, List, Option}
 use Rattle.std.specs.declared.cmp.Ordering.{Ordering}

@@ -16,7 +16,7 @@ use Rattle.am_commands.specs.declared.opened.Keys.{Keys}
 use Rattle.am_commands.specs.declared.opened.Keys.TheVariants.{Once, Repeated}
 
 module _ {K X : Type 0} (seen : X → Version K) (reads : ℕ → List ℕ → Result X WireError) where
-  -- the map of a row: its versions, where no key may come twice, and else of each key the best of them
+  -- the map of a row: its versions, if no key may come twice, and otherwise the best of each key
   abbrev pub GivesRow : Keys → List ℕ → List X → Type 0
   GivesRow Once row held = IsLoaded seen reads row held
   GivesRow Repeated row held = (versions : List X) × AreMessages reads row versions × HoldsBest seen versions held
@@ -28,7 +28,7 @@ module _ {K X : Type 0} (seen : X → Version K) (reads : ℕ → List ℕ → R
       (fault : RowFault) × (e ≡ load_fault fault) × (versions : List X) × StopsWithin reads limit row versions left fault
 
   module _ {R : Type 0} (remaining : R → Option (List ℕ)) where
-    -- the map of a source that is a row alone; where it has none, nothing
+    -- the map of a source that is a row alone; if it has none, nothing
     abbrev pub GivesOpened : Keys → Option R → List X → Type 0
     GivesOpened keys None held = held ≡ []
     GivesOpened keys (Some reader) held = IfSome (remaining reader) (λ row. GivesRow keys row held)

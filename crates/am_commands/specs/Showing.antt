@@ -22,7 +22,7 @@ use Rattle.am_commands.specs.declared.opened.SourceRequest.{SourceRequest}
 use Rattle.am_commands.specs.declared.opened.Keys.TheVariants.{Once}
 use Rattle.am_commands.specs.declared.opened.ReadOptions.{ReadOptions}
 
--- the path, or that of standard input where there is none
+-- the path, or that of standard input if there is none
 abbrev pub file_or_input : Option (Bor (List ℕ)) → List ℕ
 file_or_input None = STANDARD_INPUT.now
 file_or_input (Some file) = file.now

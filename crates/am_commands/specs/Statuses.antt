@@ -1,4 +1,4 @@
--- The exit status of the program where a command stopped.
+-- The exit status of the program if a command stopped.
 use Rattle.std.specs.Prelude.{ℕ}
 use Rattle.am_diagnostics.specs.Statuses.{fault_status, file_status, row_status}
 use Rattle.am_commands.specs.declared.fault.SourceFault.{SourceFault}

@@ -20,7 +20,7 @@ pub fn moment_of<R: CommandRuntime>(rt: &R, named: Option<Moment>) -> Result<Mom
     }
 }
 
-/// Says to a person that the moment that the command line names is before what was read, where it is so early that it may have
+/// Says to a person that the moment that the command line names is before what was read, if it is so early that it may have
 /// been meant in seconds.
 pub fn warn<R: CommandRuntime>(rt: &R, named: Option<Moment>) {
     let (Some(now), Audience::Person) = (named, rt.audience()) else {

@@ -19,10 +19,10 @@ use std::alloc::{AllocError, Global};
 
 /// A source of versions, which is read once, to its end.
 pub trait Source<V: Version>: Drop {
-    /// ReadOptions it may give this map.
+    /// Reading it may give this map.
     ghost gives: { Self → List V → Type 0 };
 
-    /// ReadOptions it may stop with this fault.
+    /// Reading it may stop with this fault.
     ghost stops: { Self → SourceFault → Type 0 };
 
     /// Reads it, and returns the map that it holds.

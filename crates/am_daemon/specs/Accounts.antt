@@ -71,7 +71,7 @@ Go peer went old new = ((went ≡ []) × Stays peer old new)
     ⊎ ((went ≡ put_by_at peer old) × (put_by_at peer new ≡ []) × (waiting_for peer new ≡ waiting_for peer old)
     × (((config : Settings) × (answer : List ℕ) × (bytes : Option (List ℕ)) × IsGiven config peer answer bytes old new) ⊎ IsLost peer old new))
 
--- what comes to wait for a peer, what leaves, what of that is put by, and what of those put by goes
+-- the frames that come to wait for a peer, those that leave, those of them that are put by, and those put by that go
 pub record Account : Type 0 where
   pub came : List Frame
   pub left : List Frame

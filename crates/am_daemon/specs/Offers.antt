@@ -18,8 +18,8 @@ use Rattle.am_backend.specs.Outbound.{AreGone, IsTaken, IsEncodingFor, left_out}
 use Rattle.am_daemon.specs.declared.member.pending_frames.PendingFrames.{PendingFrames}
 use Rattle.am_daemon.specs.declared.member.server_state.ServerState.{ServerState}
 
--- what is put by for a peer until its link answers: frames; whether a link is open, or asked for; and the number of frames that went
--- to that link
+-- the frames that are put by for a peer until its link answers; whether a link is open, or asked for; and the number of frames
+-- that went to that link
 pub record PutBy : Type 0 where
   pub frames : List Frame
   pub is_open : Bool
@@ -29,7 +29,7 @@ pub record PutBy : Type 0 where
 abbrev pub nothing_put_by : PutBy
 nothing_put_by = record { frames = []; is_open = false; number = 0 }
 
--- what is put by, as contracts see it
+-- the frames that are put by, and their link, as contracts see them
 abbrev pub put_by_of : PendingFrames → PutBy
 put_by_of pending = record { frames = pending.frames.items; is_open = pending.is_open; number = pending.count }
 
@@ -41,15 +41,15 @@ put_behind frames it = record it { frames = it.frames ++ frames; is_open = true 
 abbrev pub gone_on : ℕ → PutBy → PutBy
 gone_on count it = record it { frames = []; number = capped (it.number + count) }
 
--- what is to be sent to peers: the frames that wait, what is put by for each peer, by place, the addresses of the Alertmanagers beside
--- the member, by place, and the lock by which frames are sealed
+-- all that is to be sent to peers: the frames that wait, what is put by for each peer, by place, the addresses of the
+-- Alertmanagers beside the member, by place, and the lock by which frames are sealed
 pub record ForPeers : Type 0 where
   pub queue : Sent
   pub put_by : List PutBy
   pub asked : List (Option SocketAddr)
   pub lock : Option Lock
 
--- what a member's state has for peers, where its backend has these frames that wait, and this lock
+-- all that a member's state has for peers, if its backend has these frames that wait, and this lock
 abbrev pub for_peers : {U : Type 0} → (U → Sent) → (U → Option Lock) → ServerState U → ForPeers
 for_peers outbound sealed_by state = record {
   queue = outbound state.backend;
@@ -58,7 +58,7 @@ for_peers outbound sealed_by state = record {
   lock = sealed_by state.backend;
 }
 
--- what is put by for a peer
+-- the frames that are put by for a peer, and its link
 abbrev pub put_by_for : ForPeers → ℕ → PutBy
 put_by_for held peer = slice_index_or held.put_by peer nothing_put_by
 

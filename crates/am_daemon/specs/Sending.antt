@@ -21,7 +21,7 @@ use Rattle.am_instance.specs.declared.reply.Outcome.{Outcome}
 use Rattle.am_member.specs.Exchanging.{IsSessionAnswer}
 use Rattle.am_member.specs.declared.session_answer.SessionAnswer.{SessionAnswer}
 
--- where what steps send goes: the store, the frames that wait for peers, and what is put by for each peer, by place
+-- the places to which frames of steps go: the store, the frames that wait for peers, and what is put by for each peer, by place
 pub record Outlets : Type 0 where
   pub store : Store
   pub queue : Sent

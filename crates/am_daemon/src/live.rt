@@ -30,7 +30,7 @@ pub fn live<'a, U: Backend, R: Net + Clock + Input>(
     member: &mut Member<'a, U>,
     limits: Limits,
 ) -> io::Result<()>
-    // PROMISE: At each moment, what the program's member holds comes of one life of its connections; and over the stream of each just one reply goes out, behind its challenge where frames are sealed: that of its own request's step; the decision, the outcome of a notice or the log's list that its own request asks for; the line of a refusal with a status from 400 on; or a page about the member or the recent alerts.
+    // PROMISE: At each moment, what the program's member holds comes of one life of its connections; and over the stream of each just one reply goes out, behind its challenge if frames are sealed: that of its own request's step; the decision, the outcome of a notice or the log's list that its own request asks for; the line of a refusal with a status from 400 on; or a page about the member or the recent alerts.
     ensures lived { (left : ℕ → Option (Line ConnectionState NotedStream))
         × (history : Leads ⟦<Member<'a, U> as Service>⟧ (IsCall ⟦<Member<'a, U> as Service>⟧) arrived_over gone_over member.old no_lines member.new left)
         × IsAlwaysLived ⟦<Member<'a, U> as Service>⟧ (IsCall ⟦<Member<'a, U> as Service>⟧) arrived_over gone_over

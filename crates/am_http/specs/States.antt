@@ -24,7 +24,7 @@ IsSound (Asking bytes) = (0 < length bytes.items) × IsUnfinished bytes.items
 IsSound (Hearing h) = IsSome h.feeder
 IsSound _ = ⊤
 
--- why nothing more is heard after a piece: its fault, or a byte beyond the limit
+-- the reason that nothing more is heard after a piece: its fault, or a byte beyond the limit
 abbrev pub ended_by : Option FrameError → List ℕ → Option SessionFault
 ended_by (Some e) lost = Some (InFrame e)
 ended_by None [] = None

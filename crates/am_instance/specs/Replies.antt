@@ -58,7 +58,7 @@ silence_in_view now silences id = if_live mesh_version now (silence_at silences 
 abbrev pub entry_in_view : ℕ → List LogMesh → LogKey → Option LogMesh
 entry_in_view now log key = if_live entry_version now (entry_at log key)
 
--- why a request for a silence is refused
+-- the reason that a request for a silence is refused
 abbrev pub not_found : Option Mesh → Option SilenceError
 not_found None = Some NotFound
 not_found (Some v) = None

@@ -87,7 +87,7 @@ pub record IsAccepted (old : InstanceState) (event : Event) (now : ℕ) : Type 0
   pub known : knows_peer old.config (peer_of event) ≡ true
   pub sound : fault_of old.config now event ≡ None
 
--- why a post is refused, given a verdict on its matchers
+-- the reason that a post is refused, given a verdict on its matchers
 abbrev pub post_refusal : InstanceState → Posted → ℕ → ℕ → Verdict → Option SilenceError
 post_refusal stand posted bits now verdict =
     refusal (posted_over now stand.silences posted.id) verdict (is_some (silence_at stand.silences (id_text bits)))
@@ -100,9 +100,9 @@ plain_verdict dialect matchers =
     then (if list_all (λ m. matches_value m []) matchers then verdicts.AllEmpty else verdicts.Fine)
     else verdicts.Bad
 
--- Why a request is refused, if no memory is needed to find out: the requested silence isn't in view, the one to be ended can't
--- be, or a post is refused. (Of a post with a regular expression, which has to be compiled, only what comes before its patterns
--- counts.)
+-- the reason that a request is refused, if no memory is needed to find out: the requested silence isn't in view, the one to be
+-- ended can't be, or a post is refused. (Of a post with a regular expression, which has to be compiled, only what comes before
+-- its patterns counts.)
 abbrev pub refused_anyway : InstanceState → Event → ℕ → Option SilenceError
 refused_anyway stand (events.Request (requests.Get id)) now = not_found (silence_in_view now stand.silences id)
 refused_anyway stand (events.Request (requests.Delete id)) now =

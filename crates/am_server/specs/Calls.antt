@@ -69,7 +69,7 @@ AnswersAsked (Err refusal) old reply new = Says (λ bytes. bytes ≡ line_bytes 
 abbrev pub IsAnswer : Request → InstanceState → ResponseBytes → InstanceState → Type 0
 IsAnswer request old reply new = (what : Result ParsedCall Refusal) × IsAsked request what × AnswersAsked what old reply new
 
--- why a call is turned away: the member stops, or too many wait
+-- the reason that a call is turned away: the member stops, or too many wait
 pub data CallCause : Type 0 where
   Stops : CallCause
   TooManyWait : CallCause

@@ -58,9 +58,9 @@ abbrev pub said_next : ResponseBytes → Saying → Saying
 said_next reply (Out other written) = Out other written
 said_next reply _ = Out reply 0
 
--- why a member answers a line in place of a step's reply: the request names a host or an origin that isn't the member's; it
--- waited for the first pull, and waits no longer; there is no room for its post; its patterns take too much, in a filter, in a post,
--- or in a post beside those of the silences that are held; what it changed isn't kept on disk; or memory ran out
+-- the reason that a member answers a line, not a step's reply: the request names a host or an origin that isn't the member's; it
+-- waited for the first pull, and waits no longer; there is no room for its post; its patterns take too much, in a filter, in a
+-- post, or in a post beside those of the silences that are held; what it changed isn't kept on disk; or memory ran out
 pub data OwnCause : Type 0 where
   IsForeign : Foreign → OwnCause
   NotReady : OwnCause

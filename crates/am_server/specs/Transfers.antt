@@ -41,7 +41,7 @@ wants_link transfer = waits_at transfer.stage
 abbrev pub with_all_left : StateTransfer → StateTransfer
 with_all_left transfer = record transfer { stage = Open (Silences None) }
 
--- what is left for the link
+-- all that is left for the link
 abbrev pub left_at : TransferStage → Option Handout
 left_at (Open left) = Some left
 left_at _ = None

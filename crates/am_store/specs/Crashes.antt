@@ -18,7 +18,7 @@ pub record Disk : Type 0 where
   -- the file that was created last
   pub created : ℕ
 
--- what is there after a crash: names, and the bytes of each file
+-- all that is there after a crash: names, and the bytes of each file
 pub record Remains : Type 0 where
   pub names : Names
   pub bytes : ℕ → List ℕ

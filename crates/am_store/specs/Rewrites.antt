@@ -36,18 +36,18 @@ own_log path = path ++ codes ".log"
 abbrev pub stretch : ℕ
 stretch = 262144
 
--- where the next piece begins: at the first version of a map, at a key, or nowhere
+-- the place at which the next piece begins: at the first version of a map, at a key, or nowhere
 pub data Place (K : Type 0) : Type 0 where
   First : Place K
   At : (key : K) → Place K
   End : Place K
 
--- where a piece begins that is to have the versions from a key on, or all
+-- the place at which a piece begins that is to have the versions from a key on, or all
 abbrev pub place_from : {K : Type 0} → Option K → Place K
 place_from None = First
 place_from (Some key) = At key
 
--- where the one behind a piece begins
+-- the place at which the piece behind one begins
 abbrev pub place_behind : {K : Type 0} → Option K → Place K
 place_behind None = End
 place_behind (Some key) = At key
@@ -90,14 +90,14 @@ calls_before EndLog stood ended path directory row = saving stood path directory
 calls_before (SettleEnd log) stood ended path directory row = saving stood path directory row ++ (call.Remove (old_log path), ended) ∷ []
 calls_before Done stood ended path directory row = rewriting stood ended path directory row
 
--- where the next piece begins when a stage is next
+-- the place at which the next piece begins when a stage is next
 abbrev pub place_of : {K F : Type 0} → CompactionStage K F → Place K
 place_of GiveBack = First
 place_of Make = First
 place_of (Write new from) = place_from from
 place_of _ = End
 
--- what a stage has in hand: the new file with this row, or the row's length, or the directory
+-- A stage has this in hand: the new file with this row, or the row's length, or the directory
 abbrev pub Has : {K F : Type 0} → (F → Option (List ℕ)) → CompactionStage K F → List ℕ → List ℕ → List ℕ → Type 0
 Has contents (Write new from) path directory row =
     (string_bytes new.name ≡ beside path) × (contents new.file ≡ Some row) × (new.written ≡ length row)

@@ -223,7 +223,7 @@ impl StateLog {
         self.begin(rt, path, &own, directory)
     }
 
-    /// Begins a new log with this path, where there is none.
+    /// Begins a new log at this path, at which there is none.
     fn begin<R: Files<File = File>>(
         &mut self,
         rt: &R,

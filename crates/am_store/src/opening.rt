@@ -31,7 +31,7 @@ fn is_link<R: Files + AllocGlobal>(rt: &R, path: &str) -> bool {
     fs::read_link(rt, path).is_ok()
 }
 
-/// Returns whether a file is there, as [`is_there`] does, and refuses a link: what is written would go where it leads.
+/// Returns whether a file is there, as [`is_there`] does, and refuses a link: bytes would go to the file that it names.
 ///
 /// # Errors
 ///

@@ -183,7 +183,7 @@ impl<U: Backend> Server<'_, U> {
 
     /// Returns what is given for the next peer, if anything is.
     pub fn outgoing(&mut self, config: &Config) -> Option<PeerBytes>
-        // PROMISE: What is given for a peer is the encoding of just the frames that wait for it, in order, each once; or, where frames are sealed, these are put by for it, behind those before, and a link is opened; or none waits, and a link is opened for what is held.
+        // PROMISE: What is given for a peer is the encoding of just the frames that wait for it, in order, each once; or, if frames are sealed, these are put by for it, behind those before, and a link is opened; or none waits, and a link is opened for what is held.
         ensures offered { IfSome result (λ it. IsOffered it.peer it.bytes.items (for_peers U.outbound U.sealed_by self.old.state) (for_peers U.outbound U.sealed_by self.new.state)) }
         // PROMISE: Nothing is given only if something is still to be committed, and then all that waits for peers waits on; or if no frame waits any more.
         ensures rested { IfNone result (((uncommitted_in (U.store_of self.old.state.backend).commit_state ≡ true) × (for_peers U.outbound U.sealed_by self.new.state ≡ for_peers U.outbound U.sealed_by self.old.state))

@@ -22,7 +22,7 @@ module _ {K X : Type 0} (seen : X → Version K) where
   missing_data holdings =
       object (member (codes "sources") (sources_data None holdings) (member (codes "relation") (string (codes "missing")) no_members))
 
-  -- those that hold nothing, where there are some
+  -- those that hold nothing, if there are some
   abbrev pub missing_group : List (Holding X) → List Data
   missing_group holdings = if list_any (λ holding. is_same seen holding.here None) holdings then missing_data holdings ∷ [] else []
 

@@ -1,4 +1,4 @@
--- The line of all differences of sources, and what went out where writing it stopped. X is the type of versions,
+-- The line of all differences of sources, and what went out if writing it stopped. X is the type of versions,
 -- `seen` is what the merge sees of one, `key_data` is the value of a key, `name` and `value` are the name and the
 -- value of the member that is a version, and `by` says by what one is less than another.
 use Rattle.std.specs.Prelude.{◌≡◌, ℕ, Bool, List, Option, map}
