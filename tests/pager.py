@@ -15,7 +15,9 @@ import json
 import os
 import re
 import signal
+import shutil
 import socket
+import ssl
 import subprocess
 import sys
 import tempfile
@@ -24,7 +26,7 @@ import time
 
 from lib.answering import Answering
 from lib.members import PATIENCE, TOP, eventually, free_ports, outcome, sent
-from lib.tally import check, compare, finish, try_each
+from lib.tally import check, compare, finish, skip, try_each
 from operations import Figures
 
 PAGER = f"{TOP}/install/am_pager"
@@ -87,10 +89,11 @@ def member(name="a", decide=(200, ANSWER), notified=(200, {"logged": True}), por
 
 
 class Pager:
-    """An am_pager, and what it said."""
+    """An am_pager, and what it said, with these variables in its environment."""
 
-    def __init__(self, members, *words, listen=None):
+    def __init__(self, members, *words, listen=None, **variables):
         (self.port,) = free_ports(1)
+        self.environment = {**os.environ, **variables}
         self.command = [PAGER, "--listen", listen or str(self.port)]
         for it in members:
             self.command += ["--member", str(it)]
@@ -98,7 +101,7 @@ class Pager:
         self.lines = []
 
     def __enter__(self):
-        self.process = subprocess.Popen(self.command, stdin=subprocess.DEVNULL, stderr=subprocess.PIPE)
+        self.process = subprocess.Popen(self.command, stdin=subprocess.DEVNULL, stderr=subprocess.PIPE, env=self.environment)
         threading.Thread(target=self.read, daemon=True).start()
         check("am_pager listens", eventually(lambda: any(" listens on " in it for it in self.lines)), self.command)
         return self
@@ -207,6 +210,22 @@ def test_send_again(_folder):
         check("nothing is sent in others' turns", all(it[0] - taken(own, "/v1/decide")[0][0] < TURN for it in receiver.came))
 
 
+def dripping_body():
+    """The port of a receiver that answers 200 at once, with a body that goes on and on, a byte at a time."""
+    server = socket.create_server(("127.0.0.1", 0))
+
+    def drip():
+        stream = server.accept()[0]
+        with contextlib.suppress(OSError):
+            stream.sendall(b"HTTP/1.1 200 OK\r\nConnection: close\r\n\r\n")
+            while True:
+                stream.sendall(b"x")
+                time.sleep(0.1)
+
+    threading.Thread(target=drip, daemon=True).start()
+    return server.getsockname()[1]
+
+
 def test_slow_receiver(_folder):
     """A receiver that drips its reply is given up in time."""
 
@@ -219,6 +238,92 @@ def test_slow_receiver(_folder):
         status, text, took = pager.ask()
         compare("a slow receiver", (status, text), (200, "Skip"))
         check("it is given up", abs(took - 3 * TURN) < NEAR, took)
+    own, dripping = member(decide=[(200, ANSWER), (200, SKIP)]), dripping_body()
+    with Pager([own.port], "--to", f"http://127.0.0.1:{dripping}/") as pager:
+        status, text, took = pager.ask()
+        compare("a reply that has no end", (status, text), (200, "First"))
+        check("it is cut", took < TURN / 2 + NEAR, took)
+
+
+# The host `pages.test` has two addresses.
+TWO_ADDRESSES = """
+import socket
+real = socket.getaddrinfo
+
+def found(host, *words, **named):
+    hosts = ("127.0.0.2", "127.0.0.1") if host == "pages.test" else (host,)
+    return [it for one in hosts for it in real(one, *words, **named)]
+
+socket.getaddrinfo = found
+"""
+
+
+@contextlib.contextmanager
+def silent(port):
+    """Has the address 127.0.0.2 neither take nor refuse connections: as many as it has room for wait already."""
+    with socket.create_server(("127.0.0.2", port), backlog=0), contextlib.ExitStack() as waiting:
+        with contextlib.suppress(TimeoutError):
+            while True:
+                waiting.enter_context(socket.create_connection(("127.0.0.2", port), 0.5))
+        yield
+
+
+def test_silent_address(folder):
+    """A host's second address has its part of the time if the first is silent, and what hangs there is given up in time."""
+    with open(f"{folder}/sitecustomize.py", "w", encoding="utf-8") as file:
+        file.write(TWO_ADDRESSES)
+    own, receiver = member(decide=(200, {**ANSWER, "turnSeconds": 8})), accepting()
+    with silent(receiver.port), Pager([own.port], "--to", f"http://pages.test:{receiver.port}/", PYTHONPATH=folder) as pager:
+        compare("one silent address", pager.ask()[:2], (200, "First"))
+    took = receiver.came[0][0] - taken(own, "/v1/decide")[0][0]
+    check("the page comes in the first half of the turn", took < 4 - NEAR, took)
+    over = threading.Event()
+    own, receiver = member(decide=[(200, ANSWER), (200, SKIP)]), serving(lambda *_: (200, b"ok") if over.wait(PATIENCE) else None)
+    with silent(receiver.port), Pager([own.port], "--to", f"http://pages.test:{receiver.port}/", PYTHONPATH=folder) as pager:
+        status, text, took = pager.ask()
+        over.set()
+    compare("one silent, and one that hangs", (status, text), (200, "Skip"))
+    check("it is given up", abs(took - 3 * TURN) < NEAR, took)
+
+
+def test_https(folder):
+    """A page goes to a receiver of HTTPS whose certificate holds; and one that makes no handshake is given up in time."""
+    if not shutil.which("openssl"):
+        skip("a receiver of HTTPS: openssl is not there")
+        return
+    certificate, key = f"{folder}/certificate.pem", f"{folder}/key.pem"
+    words = "openssl req -x509 -newkey ec -pkeyopt ec_paramgen_curve:prime256v1 -nodes -days 2 -subj /CN=pages -addext subjectAltName=IP:127.0.0.1"
+    made = outcome([*words.split(), "-keyout", key, "-out", certificate])
+    compare("a certificate", made[0], 0)
+    own, receiver = member(decide=[(200, ANSWER), (200, ANSWER), (200, SKIP)]), accepting()
+    context = ssl.SSLContext(ssl.PROTOCOL_TLS_SERVER)
+    context.load_cert_chain(certificate, key)
+    receiver.socket = context.wrap_socket(receiver.socket, server_side=True)
+    to = f"https://127.0.0.1:{receiver.port}/hook"
+    with Pager([own.port], "--to", to, SSL_CERT_FILE=certificate) as pager:
+        compare("a certificate that holds", (pager.ask()[:2], len(receiver.came)), ((200, "First"), 1))
+    with Pager([own.port], "--to", to) as pager:
+        compare("one that doesn't", (pager.ask()[:2], len(receiver.came)), ((200, "Skip"), 1))
+        check("a line says it", any("certificate" in it for it in pager.lines), pager.lines)
+    own = member(decide=[(200, ANSWER), (200, SKIP)])
+    with socket.create_server(("127.0.0.1", 0)) as silence:
+        with Pager([own.port], "--to", f"https://127.0.0.1:{silence.getsockname()[1]}/") as pager:
+            status, text, took = pager.ask()
+            compare("no handshake", (status, text), (200, "Skip"))
+            check("it is given up", abs(took - 3 * TURN) < NEAR, took)
+
+
+def test_many_alerts(_folder):
+    """A page of many alerts that are muted is sent at once."""
+    labels = [{"a": f"{it:05}"} for it in range(20_000)]
+    message = {**MESSAGE, "alerts": [{"status": "firing", "labels": it} for it in labels]}
+    muted = {**ANSWER, "muted": [{"labels": it} for it in labels[1:]]}
+    own, receiver = member(decide=(200, muted)), accepting()
+    with Pager([own.port], "--to", url(receiver)) as pager:
+        compare("20,000 alerts", pager.ask(json.dumps(message, separators=(",", ":")).encode())[:2], (200, "First"))
+    compare("one goes out", [it["labels"] for it in json.loads(receiver.came[0][2])["alerts"]], labels[:1])
+    took = receiver.came[0][0] - taken(own, "/v1/decide")[0][0]
+    check("it goes out at once", took < 4, took)
 
 
 def test_other_member(_folder):
@@ -398,6 +503,26 @@ def test_stop(_folder):
     compare("what was being sent is told", len(taken(own, "/v1/notified")), 1)
 
 
+def test_stop_beside_silence(_folder):
+    """A stop ends in time, though no member answers what it is told."""
+    over = threading.Event()
+
+    def hangs():
+        over.wait(PATIENCE)
+        return 500, b"no"
+
+    members = [member(it, notified=[(500, b"no"), hangs]) for it in "abc"]
+    with Pager([it.port for it in members], "--to", url(accepting())) as pager:
+        for group in "gh":
+            compare("a page", pager.ask({**MESSAGE, "groupKey": group})[0], 200)
+        check("it waits", eventually(lambda: any(len(taken(it, "/v1/notified")) > 2 for it in members), 10))
+        begun = time.monotonic()
+        pager.process.send_signal(signal.SIGTERM)
+        compare("the status", pager.process.wait(PATIENCE), 0)
+        check("in 20 seconds", time.monotonic() - begun < 22, time.monotonic() - begun)
+        over.set()
+
+
 def test_words(folder):
     """The help has examples, and what can't be meant is refused."""
     status, output, _ = outcome([PAGER, "--help"])
@@ -423,8 +548,9 @@ def test_words(folder):
 
 
 def main():
-    tests = [test_sent, test_not_sent, test_command, test_send_again, test_slow_receiver, test_other_member, test_member_back, test_bad_members]
-    tests += [test_reports, test_left, test_one_at_a_time, test_bounds, test_stop, test_words]
+    tests = [test_sent, test_not_sent, test_command, test_send_again, test_slow_receiver, test_silent_address, test_https]
+    tests += [test_many_alerts, test_other_member, test_member_back, test_bad_members, test_reports, test_left, test_one_at_a_time, test_bounds]
+    tests += [test_stop, test_stop_beside_silence, test_words]
     with tempfile.TemporaryDirectory() as folder:
         try_each([it for it in tests if not sys.argv[1:] or it.__name__ in sys.argv[1:]], folder)
     finish("pager")
