@@ -91,9 +91,9 @@ def member(name="a", decide=(200, ANSWER), notified=(200, {"logged": True}), por
 class Pager:
     """An am_pager, and what it said, with these variables in its environment."""
 
-    def __init__(self, members, *words, listen=None, **variables):
+    def __init__(self, members, *words, listen=None, to=subprocess.PIPE, **variables):
         (self.port,) = free_ports(1)
-        self.environment = {**os.environ, **variables}
+        self.environment, self.to = {**os.environ, **variables}, to
         self.command = [PAGER, "--listen", listen or str(self.port)]
         for it in members:
             self.command += ["--member", str(it)]
@@ -101,10 +101,18 @@ class Pager:
         self.lines = []
 
     def __enter__(self):
-        self.process = subprocess.Popen(self.command, stdin=subprocess.DEVNULL, stderr=subprocess.PIPE, env=self.environment)
+        self.process = subprocess.Popen(self.command, stdin=subprocess.DEVNULL, stderr=self.to, env=self.environment)
+        if self.to != subprocess.PIPE:
+            check("am_pager answers", eventually(self.is_healthy, 10), self.command)
+            return self
         threading.Thread(target=self.read, daemon=True).start()
         check("am_pager listens", eventually(lambda: any(" listens on " in it for it in self.lines)), self.command)
         return self
+
+    def is_healthy(self):
+        with contextlib.suppress(OSError):
+            return self.ask(query="", method="GET", path="/-/healthy")[0] == 200
+        return False
 
     def read(self):
         for line in self.process.stderr:
@@ -404,6 +412,55 @@ def test_reports(_folder):
         compare("it is dropped", pager.figures().get("maityrunga_pager_reports_dropped_total"), 1)
 
 
+# The thread that tells members again can't start another one, twice.
+NO_THREAD = """
+import threading
+real, failing = threading.Timer.start, [1, 1]
+
+def start(timer):
+    if threading.current_thread().name == "reports" and failing:
+        failing.pop()
+        raise RuntimeError("can't start new thread")
+    real(timer)
+
+threading.Timer.start = start
+"""
+
+
+def test_no_thread(folder):
+    """A member is told again also when the system had no thread for it."""
+    os.mkdir(f"{folder}/threads")
+    with open(f"{folder}/threads/sitecustomize.py", "w", encoding="utf-8") as file:
+        file.write(NO_THREAD)
+    own = member(notified=[(500, b'"state too large"'), (200, {"logged": True})])
+    with Pager([own.port], "--to", url(accepting()), PYTHONPATH=f"{folder}/threads") as pager:
+        compare("a page", pager.ask()[:2], (200, "First"))
+        check("a member hears of it", eventually(lambda: len(taken(own, "/v1/notified")) == 2, 10), own.came)
+        check("a line says it", any("can't start new thread" in it for it in pager.lines), pager.lines)
+
+
+def test_lines(_folder):
+    """Nobody waits for whoever reads the lines: neither if nobody does, nor if they are never taken."""
+    for what in ("gone", "full"):
+        taking, giving = os.pipe()
+        if what == "gone":
+            os.close(taking)
+        else:
+            os.set_blocking(giving, False)
+            with contextlib.suppress(BlockingIOError):
+                while True:
+                    os.write(giving, b"x" * 4096)
+            os.set_blocking(giving, True)
+        slow = {**ANSWER, "turnSeconds": 6}
+        answers = [(500, b"no"), (200, b"ok")]
+        own, receiver = member(decide=(200, slow)), serving(lambda *_: answers.pop(0))
+        with Pager([own.port], "--to", url(receiver), to=giving) as pager:
+            compare(f"{what}: a page", (pager.ask()[:2], len(receiver.came)), ((200, "First"), 2))
+            pager.process.send_signal(signal.SIGTERM)
+            compare(f"{what}: a stop", pager.process.wait(10), 0)
+        os.close(giving)
+
+
 def test_left(_folder):
     """Where Alertmanager doesn't wait any longer, the member's place is given back, and nothing is sent."""
     over = threading.Event()
@@ -549,8 +606,8 @@ def test_words(folder):
 
 def main():
     tests = [test_sent, test_not_sent, test_command, test_send_again, test_slow_receiver, test_silent_address, test_https]
-    tests += [test_many_alerts, test_other_member, test_member_back, test_bad_members, test_reports, test_left, test_one_at_a_time, test_bounds]
-    tests += [test_stop, test_stop_beside_silence, test_words]
+    tests += [test_many_alerts, test_other_member, test_member_back, test_bad_members, test_reports, test_no_thread, test_lines]
+    tests += [test_left, test_one_at_a_time, test_bounds, test_stop, test_stop_beside_silence, test_words]
     with tempfile.TemporaryDirectory() as folder:
         try_each([it for it in tests if not sys.argv[1:] or it.__name__ in sys.argv[1:]], folder)
     finish("pager")
