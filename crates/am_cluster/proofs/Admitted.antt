@@ -1,4 +1,4 @@
--- When a settle is let in, and what is written down where it isn't.
+-- The conditions of a settle, and the records of one that is refused.
 use Rattle.std.proofs.Common.{◌≡◌, ℕ, zero, suc, ◌+◌, ◌-◌, max, length-append, ◌<◌, ◌≤◌, Bool, true, false, cond, eqb, ltb, List, [], ◌∷◌, ◌++◌, Some, Result, Ok, Err, refl, sym, ap, ◌∙◌, subst, slice_get, length, map, arith, append_assoc, append-nil, inl, inr}
 use Rattle.std.specs.Prelude.{Any, filter}
 use Rattle.std.specs.List.{range_with_len}

@@ -1,4 +1,4 @@
--- When the answer to a question is that a group is notified for the first time.
+-- The cases in which a group is notified for the first time.
 use Rattle.std.proofs.Common.{◌≡◌, ◌↔◌, ◌≢◌, ℕ, ◌+◌, Bool, true, false, not, ◌&&◌, Option, Some, None, List, refl, sym, ap, ◌∙◌}
 use Rattle.std.specs.Prelude.{option_map, nat_lt, if◌then◌else◌}
 use Rattle.std.specs.FinSet.{is_subset}

@@ -1,4 +1,4 @@
--- Which versions are in the frames that a step sent.
+-- The versions in the frames that a step sent.
 use Rattle.std.proofs.Common.{◌≡◌, ◌⊎◌, inl, inr, ℕ, List, [], ◌∷◌, ◌++◌, Bool, true, false, refl, sym, subst}
 use Rattle.std.specs.Prelude.{All, Contains, Option, slice_index_or}
 use Rattle.std.proofs.lemmas.List.Elements.{All-nil, All-cons, All-head, All-tail, All-append, All-contains_itself, Contains-append_left, Contains-append_right}

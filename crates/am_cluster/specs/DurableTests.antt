@@ -13,7 +13,7 @@ module _ {K X : Type 0} (seen : X → Version K) where
   brings_live q (Took place now source versions frames) = place == q && list_any (λ v. is_live now (seen v)) versions
   brings_live q _ = false
 
-  -- whether, after one more step, a save stands behind each step that brought the member something live
+  -- true if, after one more step, a save stands behind each step that brought the member something live
   abbrev pub saved_after : ℕ → Bool → RunStep X → Bool
   saved_after q saved step = saves q step || (saved && not (brings_live q step))
 

@@ -33,7 +33,7 @@ impl<V: Version> SentVersions<V> {
     ///
     /// # Errors
     ///
-    /// Why the replica didn't answer.
+    /// The reason that the replica didn't answer.
     pub fn send<R: CommandRuntime>(&self, rt: &R, to: &PullJob<'_>) -> Result<(), SourceFault> {
         if self.rows.is_empty() {
             return Ok(());
