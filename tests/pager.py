@@ -253,12 +253,16 @@ def test_slow_receiver(_folder):
         check("it is cut", took < TURN / 2 + NEAR, took)
 
 
-# The host `pages.test` has two addresses.
+# The host `pages.test` has two addresses, and `slow.test` has one, which is found after a second and a half.
 TWO_ADDRESSES = """
 import socket
+import time
 real = socket.getaddrinfo
 
 def found(host, *words, **named):
+    if host == "slow.test":
+        time.sleep(1.5)
+        host = "127.0.0.1"
     hosts = ("127.0.0.2", "127.0.0.1") if host == "pages.test" else (host,)
     return [it for one in hosts for it in real(one, *words, **named)]
 
@@ -292,6 +296,9 @@ def test_silent_address(folder):
         over.set()
     compare("one silent, and one that hangs", (status, text), (200, "Skip"))
     check("it is given up", abs(took - 3 * TURN) < NEAR, took)
+    own, receiver = member(decide=[(200, ANSWER), (200, SKIP)]), accepting()
+    with Pager([own.port], "--to", f"http://slow.test:{receiver.port}/", PYTHONPATH=folder) as pager:
+        compare("a name that is found too late", (pager.ask()[:2], receiver.came), ((200, "Skip"), []))
 
 
 def test_https(folder):
