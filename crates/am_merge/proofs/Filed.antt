@@ -7,7 +7,7 @@ use Rattle.std.specs.List.Sorted.{IsSorted}
 use Rattle.std.specs.Cmp.{IsTotalOrder}
 use Rattle.std.proofs.lemmas.Bool.Decides.{nat_tests}
 use Rattle.std.proofs.lemmas.List.Elements.{All-from_recursion, recursion_from_All, All-weaker, All-contains_itself}
-use Rattle.std.proofs.lemmas.List.Sorted.{Contains-permutation, All-permutation}
+use Rattle.std.proofs.lemmas.List.Sorted.{Contains-permutation, All-permutation, ranks_by, sorted_far}
 use Rattle.std.proofs.lemmas.Map.Keys.{IsDistinct-IsPermutation}
 use Rattle.std.specs.declared.cmp.Ordering.{Ordering}
 use Rattle.std.specs.declared.cmp.Ordering.TheVariants.{Less, Equal, Greater}
@@ -19,8 +19,7 @@ use Rattle.slab.proofs.SlabLemmas.{Contains-entries}
 use Rattle.am_version_order.specs.Versions.{Version}
 use Rattle.am_merge.specs.Maps.{IsMap}
 use Rattle.am_merge.specs.Indexes.{filed, Names, IsIndex}
-use Rattle.am_merge.specs.Orders.{IsRisingBy, time_order, place_order}
-use Rattle.am_merge.specs.Listings.{AreApart}
+use Rattle.am_merge.specs.Orders.{time_order, place_order}
 use Rattle.am_merge.specs.Entries.{expiry_slot, expiry_entry, with_slots, by_time, time_cmp}
 use Rattle.am_merge.specs.Buckets.{bucket_slot, number_of, bytes_cmp, bucket_cmp, by_bucket, bucket_entry}
 use Rattle.am_merge.specs.Stores.{IsKeyIndex, IsExpiryIndex, IsBucketIndex}
@@ -31,9 +30,17 @@ use Rattle.am_merge.proofs.Indexes as indexes
 use Rattle.am_merge.proofs.Indexes.{some_is}
 use Rattle.am_merge.proofs.Stores.{times, with_slots_is, some_with_slots, key_unique}
 use Rattle.am_merge.proofs.Buckets.{places, empty_number}
-use Rattle.am_merge.proofs.Listings.{apart-map, keys_versions, Contains-map}
-use Rattle.am_merge.proofs.Parts.{sorted_pairs}
+use Rattle.am_merge.proofs.Built.{AreApart, apart-map, keys_versions, Contains-map}
 use Rattle.am_merge.proofs.Totals.{time_total, place_total}
+
+-- each item is before all that follow it
+abbrev IsRisingBy : {T : Type 0} → (T → T → Ordering) → List T → Type 0
+IsRisingBy order [] = Unit {0}
+IsRisingBy order (x ∷ xs) = AllByRecursion (λ y. order x y ≡ Less) xs × IsRisingBy order xs
+
+-- of a sorted list, no item is before one that precedes it
+sorted_pairs : {T : Type 0} (order : T → T → Ordering) → IsTotalOrder order → (xs : List T) → IsSorted order xs → AllPairs (λ one other. is_lt (order other one) ≡ false) xs
+sorted_pairs order total xs sorted i j d less within = sorted_far (λ one other. is_lt (order one other)) (ranks_by total (λ one. one)) xs sorted i j d (omega arith) within
 
 -- ---- the order of places
 then_apart : (a b c : Ordering) → ordering_then a (ordering_then b c) ≡ ordering_then (ordering_then a b) c

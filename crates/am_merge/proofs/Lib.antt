@@ -18,8 +18,5 @@ pub mod Walks
 pub mod Steps
 pub mod Fronts
 pub mod Totals
-pub mod Filing
-pub mod Listings
+pub mod Built
 pub mod Filed
-pub mod Parts
-pub mod BestFirst

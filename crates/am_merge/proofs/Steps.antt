@@ -20,7 +20,7 @@ use Rattle.am_merge.specs.Places.{IsPlaceOf, IsGapFor}
 use Rattle.am_merge.specs.Indexes.{Changes, filed}
 use Rattle.am_merge.specs.Entries.{versions_of, key_slot, expiry_slot, key_entry, with_slots, by_time, time_cmp}
 use Rattle.am_merge.specs.Buckets.{bucket_slot, bucket_entry, by_bucket, bucket_cmp}
-use Rattle.am_merge.specs.Stores.{versions, IsAbsent, IsExpiryIndex, IsKeyIndex, IsBucketIndex, IsStore, IsKeyCursor, IsGapCursor, IsSlotAt, IsWithout, HasRooms}
+use Rattle.am_merge.specs.Stores.{versions, IsAbsent, IsExpiryIndex, IsKeyIndex, IsBucketIndex, IsKeyed, IsStore, keyed, IsKeyCursor, IsGapCursor, IsSlotAt, IsWithout, HasRooms}
 use Rattle.am_merge.specs.declared.entry.KeyEntry.{KeyEntry}
 use Rattle.am_merge.specs.declared.entry.BucketEntry.{BucketEntry}
 use Rattle.am_merge.specs.declared.entry.ExpiryEntry.{ExpiryEntry}
@@ -31,6 +31,10 @@ use Rattle.am_merge.proofs.Firsts.{version_inside}
 use Rattle.am_merge.proofs.Buckets.{bucket_put, bucket_taken, bucket_swapped}
 use Rattle.std.proofs.lemmas.Bool.{cases_eq}
 use Rattle.am_merge.proofs.Stores.{item_within, cursor_within, changes_of, changes_after, expiry_taken, expiry_put, key_put, versions_put, key_taken, versions_taken, version_here, versions_swapped, key_swapped, key_unique, versions_length}
+
+-- the table of the one slab is that of the other
+table_is : {X : Type 0} (old new : Slab X) → new.slots ≡ old.slots → get old ≡ get new
+table_is old new slots = λ i key. slice_index_or (sym slots i) key None
 
 module _ {K X : Type 0} (seen : X → Version K) where
   pub taken_out : (old new : Slab X) (rows after : Rows ExpiryEntry) (slot : ℕ) (v : X) (cursor : Cursor) → get old slot ≡ Some v → Updates old new slot None → IsExpiryIndex seen (get old) (entries rows) → IsItem rows cursor → HoldsAt (λ e. expiry_slot e ≡ slot) (entries rows) (place rows cursor) → entries after ≡ remove (entries rows) (place rows cursor) → IsExpiryIndex seen (get new) (entries after)
@@ -44,6 +48,67 @@ module _ {K X : Type 0} (seen : X → Version K) where
       (expiry_put seen (get old) (get new) (entries rows) slot v (place rows cursor) vacant
       (changes_of old new slot (Some v) (subst (λ s. Updates old new s (Some v)) same updates)) is
       (subst (λ t. IsGapFor (by_time seen) time_cmp (filed expiry_slot (with_slots (get old)) (entries rows)) (t, slot) (place rows cursor)) moment gap))
+
+  -- ---- the index by key
+  module _ (head_of : K → ℕ) (cmp : K → K → Ordering) (keys : IsKeyOrder cmp) where
+    abbrev Keyed : Store X → Type 0
+    Keyed store = IsKeyed seen head_of cmp store
+
+    -- the version at a cursor has its key
+    pub cursor_key : (old : Store X) (key : K) (cursor : Cursor) (slot : ℕ) (w : X) → Keyed old → IsKeyCursor seen cmp old key cursor → IsSlotAt old.keys cursor slot → get old.table slot ≡ Some w → (seen w).key ≡ key
+    cursor_key old key cursor slot w is at own there =
+        ap (λ x. (seen x).key) (sym (version_here seen head_of cmp keys (get old.table) (get old.table) (entries old.keys) slot w is.index (place old.keys cursor) there (item_within old.keys cursor at.item) own)) ∙ at.place.here w
+
+    module _ (old mid : Store X) (after : Rows KeyEntry) (slot head : ℕ) (v : X) (cursor : Cursor) (is : Keyed old) (gap : IsGapCursor seen cmp old (seen v).key cursor) (vacant : get old.table slot ≡ None) (updates : Updates old.table mid.table slot (Some v)) (same : mid.keys ≡ old.keys) (head_is : head ≡ head_of (seen v).key) (put : entries after ≡ insert (entries mid.keys) (place mid.keys cursor) (record { head = head; slot = slot })) where
+      known : entries after ≡ insert (entries old.keys) (place old.keys cursor) (key_entry seen head_of slot v)
+      known = put ∙ (λ i. insert (entries (same i)) (place (same i) cursor) (record { head = head_is i; slot = slot }))
+
+      changes : Changes (get old.table) (get mid.table) slot (Some v)
+      changes = changes_of old.table mid.table slot (Some v) updates
+
+      pub added_versions : versions_of (get mid.table) (entries after) ≡ insert (versions old) (place old.keys cursor) v
+      added_versions = ap (versions_of (get mid.table)) known ∙ versions_put seen head_of cmp keys (get old.table) (get mid.table) (entries old.keys) slot v is.index (place old.keys cursor) vacant changes
+
+      pub added_keyed : slab_len mid.table ≡ slab_len old.table + 1 → Keyed (record mid { keys = after })
+      added_keyed long =
+          record {
+            index = subst (IsKeyIndex seen head_of cmp (get mid.table)) (sym known) (key_put seen head_of cmp keys (get old.table) (get mid.table) (entries old.keys) slot v is.index (place old.keys cursor) vacant changes gap.gap);
+            count = let longer = length-insert (entries old.keys) (place old.keys cursor) (key_entry seen head_of slot v) (cursor_within old.keys cursor gap.within) in let count = is.count in let now = ap length known in omega arith;
+          }
+
+    module _ (old mid new : Store X) (slot : ℕ) (w v : X) (cursor : Cursor) (is : Keyed old) (at : IsKeyCursor seen cmp old (seen v).key cursor) (own : IsSlotAt old.keys cursor slot) (there : get old.table slot ≡ Some w) (out : Updates old.table mid.table slot None) (back : Updates mid.table new.table slot (Some v)) (same_mid : mid.keys ≡ old.keys) (same_new : new.keys ≡ mid.keys) where
+      within : place old.keys cursor < length (entries old.keys)
+      within = item_within old.keys cursor at.item
+
+      swap : Changes (get old.table) (get new.table) slot (Some v)
+      swap = changes_after (get old.table) (get mid.table) (get new.table) slot None (Some v) (changes_of old.table mid.table slot None out) (changes_of mid.table new.table slot (Some v) back)
+
+      same_key : (seen v).key ≡ (seen w).key
+      same_key = sym (cursor_key old (seen v).key cursor slot w is at own there)
+
+      rows_same : entries new.keys ≡ entries old.keys
+      rows_same = ap entries (same_new ∙ same_mid)
+
+      pub replaced_versions : versions new ≡ set (versions old) (place old.keys cursor) v
+      replaced_versions =
+          ap (versions_of (get new.table)) rows_same
+          ∙ versions_swapped seen head_of cmp keys (get old.table) (get new.table) (entries old.keys) slot w is.index (place old.keys cursor) there within own v swap same_key
+          ∙ sym (set_split (versions old) (place old.keys cursor) v (let long = versions_length seen head_of cmp keys (get old.table) (entries old.keys) is.index in let low = within in omega arith))
+
+      pub replaced_keyed : slab_len mid.table + 1 ≡ slab_len old.table → slab_len new.table ≡ slab_len mid.table + 1 → Keyed new
+      replaced_keyed less more =
+          record {
+            index = subst (IsKeyIndex seen head_of cmp (get new.table)) (sym rows_same) (key_swapped seen head_of cmp keys (get old.table) (get new.table) (entries old.keys) slot w is.index (place old.keys cursor) there within own v swap same_key);
+            count = let count = is.count in let now = ap length rows_same in omega arith;
+          }
+
+    -- a store with the same slots and the same blocks of keys
+    pub moved_keyed : (old new : Store X) → new.table.slots ≡ old.table.slots → new.keys.blocks ≡ old.keys.blocks → Keyed old → Keyed new
+    moved_keyed old new slots key_blocks is =
+        record {
+          index = subst (λ t. IsKeyIndex seen head_of cmp t (entries new.keys)) (table_is old.table new.table slots) (subst (IsKeyIndex seen head_of cmp (get old.table)) (ap joined (sym key_blocks)) is.index);
+          count = ap (count_by is_some) slots ∙ is.count ∙ ap (λ bs. length (joined bs)) (sym key_blocks);
+        }
 
   module _ (head_of : K → ℕ) (cmp : K → K → Ordering) (keys : IsKeyOrder cmp) (bucket_of : X → List ℕ) where
     abbrev Whole : Store X → Type 0
@@ -84,58 +149,6 @@ module _ {K X : Type 0} (seen : X → Version K) where
       | inr differs ↦ differs (key_unique seen head_of cmp keys (get old.table) (entries old.keys) s slot v w is.keys (sym (out.others s differs) ∙ here) there (same ∙ sym own))
     ]
 
-    -- the version at a cursor has its key
-    pub cursor_key : (old : Store X) (key : K) (cursor : Cursor) (slot : ℕ) (w : X) → Whole old → IsKeyCursor seen cmp old key cursor → IsSlotAt old.keys cursor slot → get old.table slot ≡ Some w → (seen w).key ≡ key
-    cursor_key old key cursor slot w is at own there =
-        ap (λ x. (seen x).key) (sym (version_here seen head_of cmp keys (get old.table) (get old.table) (entries old.keys) slot w is.keys (place old.keys cursor) there (item_within old.keys cursor at.item) own)) ∙ at.place.here w
-
-    module _ (old mid : Store X) (after : Rows KeyEntry) (slot head : ℕ) (v : X) (cursor : Cursor) (is : Whole old) (gap : IsGapCursor seen cmp old (seen v).key cursor) (vacant : get old.table slot ≡ None) (updates : Updates old.table mid.table slot (Some v)) (same : mid.keys ≡ old.keys) (head_is : head ≡ head_of (seen v).key) (put : entries after ≡ insert (entries mid.keys) (place mid.keys cursor) (record { head = head; slot = slot })) where
-      known : entries after ≡ insert (entries old.keys) (place old.keys cursor) (key_entry seen head_of slot v)
-      known = put ∙ (λ i. insert (entries (same i)) (place (same i) cursor) (record { head = head_is i; slot = slot }))
-
-      changes : Changes (get old.table) (get mid.table) slot (Some v)
-      changes = changes_of old.table mid.table slot (Some v) updates
-
-      pub added_versions : versions_of (get mid.table) (entries after) ≡ insert (versions old) (place old.keys cursor) v
-      added_versions = ap (versions_of (get mid.table)) known ∙ versions_put seen head_of cmp keys (get old.table) (get mid.table) (entries old.keys) slot v is.keys (place old.keys cursor) vacant changes
-
-      pub added : (rows : Rows BucketEntry) → IsExpiryIndex seen (get mid.table) (entries mid.expiries) → Filed (get mid.table) (entries rows) → slab_len mid.table ≡ slab_len old.table + 1 → Whole (record mid { keys = after; buckets = rows })
-      added rows expiries buckets long =
-          record {
-            keys = subst (IsKeyIndex seen head_of cmp (get mid.table)) (sym known) (key_put seen head_of cmp keys (get old.table) (get mid.table) (entries old.keys) slot v is.keys (place old.keys cursor) vacant changes gap.gap);
-            expiries = expiries;
-            buckets = buckets;
-            count = let longer = length-insert (entries old.keys) (place old.keys cursor) (key_entry seen head_of slot v) (cursor_within old.keys cursor gap.within) in let count = is.count in let now = ap length known in omega arith;
-          }
-
-    module _ (old mid new : Store X) (slot : ℕ) (w v : X) (cursor : Cursor) (is : Whole old) (at : IsKeyCursor seen cmp old (seen v).key cursor) (own : IsSlotAt old.keys cursor slot) (there : get old.table slot ≡ Some w) (out : Updates old.table mid.table slot None) (back : Updates mid.table new.table slot (Some v)) (same_mid : mid.keys ≡ old.keys) (same_new : new.keys ≡ mid.keys) where
-      within : place old.keys cursor < length (entries old.keys)
-      within = item_within old.keys cursor at.item
-
-      swap : Changes (get old.table) (get new.table) slot (Some v)
-      swap = changes_after (get old.table) (get mid.table) (get new.table) slot None (Some v) (changes_of old.table mid.table slot None out) (changes_of mid.table new.table slot (Some v) back)
-
-      same_key : (seen v).key ≡ (seen w).key
-      same_key = sym (cursor_key old (seen v).key cursor slot w is at own there)
-
-      rows_same : entries new.keys ≡ entries old.keys
-      rows_same = ap entries (same_new ∙ same_mid)
-
-      pub replaced_versions : versions new ≡ set (versions old) (place old.keys cursor) v
-      replaced_versions =
-          ap (versions_of (get new.table)) rows_same
-          ∙ versions_swapped seen head_of cmp keys (get old.table) (get new.table) (entries old.keys) slot w is.keys (place old.keys cursor) there within own v swap same_key
-          ∙ sym (set_split (versions old) (place old.keys cursor) v (let long = versions_length seen head_of cmp keys (get old.table) (entries old.keys) is.keys in let low = within in omega arith))
-
-      pub replaced : IsExpiryIndex seen (get new.table) (entries new.expiries) → Filed (get new.table) (entries new.buckets) → slab_len mid.table + 1 ≡ slab_len old.table → slab_len new.table ≡ slab_len mid.table + 1 → Whole new
-      replaced expiries buckets less more =
-          record {
-            keys = subst (IsKeyIndex seen head_of cmp (get new.table)) (sym rows_same) (key_swapped seen head_of cmp keys (get old.table) (get new.table) (entries old.keys) slot w is.keys (place old.keys cursor) there within own v swap same_key);
-            expiries = expiries;
-            buckets = buckets;
-            count = let count = is.count in let now = ap length rows_same in omega arith;
-          }
-
     module _ (old mid : Store X) (after : Rows KeyEntry) (slot : ℕ) (w : X) (cursor : Cursor) (is : Whole old) (item : IsItem old.keys cursor) (own : HoldsAt (λ e. key_slot e ≡ slot) (entries old.keys) (place old.keys cursor)) (there : get old.table slot ≡ Some w) (out : Updates old.table mid.table slot None) (same : mid.keys ≡ old.keys) (left : entries after ≡ remove (entries mid.keys) (place mid.keys cursor)) where
       known_left : entries after ≡ remove (entries old.keys) (place old.keys cursor)
       known_left = left ∙ (λ i. remove (entries (same i)) (place (same i) cursor))
@@ -167,15 +180,14 @@ module _ {K X : Type 0} (seen : X → Version K) where
     -- a store with the same slots and the same blocks
     pub moved : (old new : Store X) → new.table.slots ≡ old.table.slots → new.keys.blocks ≡ old.keys.blocks → new.expiries.blocks ≡ old.expiries.blocks → new.buckets.blocks ≡ old.buckets.blocks → Whole old → Whole new
     moved old new slots key_blocks expiry_blocks bucket_blocks is =
+        let table = table_is old.table new.table slots in
+        let by_key = moved_keyed head_of cmp keys old new slots key_blocks (keyed seen head_of cmp bucket_of is) in
         record {
-          keys = subst (λ t. IsKeyIndex seen head_of cmp t (entries new.keys)) table_is (subst (IsKeyIndex seen head_of cmp (get old.table)) (ap joined (sym key_blocks)) is.keys);
-          expiries = subst (λ t. IsExpiryIndex seen t (entries new.expiries)) table_is (subst (IsExpiryIndex seen (get old.table)) (ap joined (sym expiry_blocks)) is.expiries);
-          buckets = subst (λ t. Filed t (entries new.buckets)) table_is (subst (Filed (get old.table)) (ap joined (sym bucket_blocks)) is.buckets);
-          count = ap (count_by is_some) slots ∙ is.count ∙ ap (λ bs. length (joined bs)) (sym key_blocks);
+          keys = by_key.index;
+          expiries = subst (λ t. IsExpiryIndex seen t (entries new.expiries)) table (subst (IsExpiryIndex seen (get old.table)) (ap joined (sym expiry_blocks)) is.expiries);
+          buckets = subst (λ t. Filed t (entries new.buckets)) table (subst (Filed (get old.table)) (ap joined (sym bucket_blocks)) is.buckets);
+          count = by_key.count;
         }
-      where
-        table_is : get old.table ≡ get new.table
-        table_is = λ i key. slice_index_or (sym slots i) key None
 
 -- room for more is room for less
 pub less_room : {T : Type 0} (rows : Rows T) (n : ℕ) → HasRoom rows (n + 1) → HasRoom rows n

@@ -1,12 +1,11 @@
 -- A property of all versions that a map was made of is one of the map's versions.
 use Rattle.std.proofs.Common.{◌≡◌, ℕ, List, [], ◌∷◌, take, ⊎_elim, sym, subst}
-use Rattle.std.specs.Prelude.{All, Contains, Result, Ok, Err, OnOk, IfErr}
+use Rattle.std.specs.Prelude.{All, Contains, Result, Ok, Err, OnOk, OnErr, IfErr}
 use Rattle.std.proofs.lemmas.List.Elements.{All-nil, All-cons, All-contains, All-contains_itself, All-take, All-weaker}
 use Rattle.std.specs.declared.cmp.Ordering.{Ordering}
 use Rattle.am_version_order.specs.Versions.{Version}
 use Rattle.am_merge.specs.Maps.{IsMap, IsJoin}
 use Rattle.am_merge.specs.Takings.{IsPut}
-use Rattle.am_merge.specs.Views.{HoldsBest}
 use Rattle.am_merge.specs.Stores.{versions}
 use Rattle.am_merge.specs.declared.held.MergeError.{MergeError}
 use Rattle.am_merge.specs.declared.store.Store.{Store}
@@ -27,9 +26,10 @@ pub all_of_merge : {K X : Type 0} (seen : X → Version K) (cmp : K → K → Or
 all_of_merge seen cmp keys P map other new (Ok n) order joined stopped all more = all_of_join seen cmp keys P map other new order joined all more
 all_of_merge seen cmp keys P map other new (Err e) order joined stopped all more = all_of_join seen cmp keys P map (take e.taken other) new order stopped all (All-take P e.taken other more)
 
--- of the best of a map and of others
-pub all_of_best : {K X : Type 0} (seen : X → Version K) (P : X → Type 0) (set map : List X) → HoldsBest seen set map → All P set → All P map
-all_of_best seen P set map held all = All-weaker (Contains map) P (λ v member. All-contains P set v all (held.best v member).member) map (All-contains_itself map)
+-- of a version that was taken, unless memory ran out
+pub all_of_taking : {K X A E : Type 0} (seen : X → Version K) (cmp : K → K → Ordering) → IsKeyOrder cmp → (P : X → Type 0) (map : List X) (v : X) (new : List X) (result : Result A E) → OnOk result (IsPut seen cmp map v new) → OnErr result (new ≡ map) → All P map → P v → All P new
+all_of_taking seen cmp keys P map v new (Ok a) put same all own = all_of_put seen cmp keys P map v new put all own
+all_of_taking seen cmp keys P map v new (Err e) put same all own = subst (All P) (sym same) all
 
 -- an empty store in the place of another
 pub emptied : {X : Type 0} (Is : Store X → Type 0) (P : X → Type 0) (empty store : Store X) → store ≡ empty → Is empty → versions empty ≡ [] → Is store × All P (versions store)

@@ -1,7 +1,7 @@
 -- The entries of the index by bucket, and their position relative to what is searched for.
 -- A key's place among the buckets is its bucket with the key; the bucket without a key is the front of the bucket.
 use Rattle.std.specs.Prelude.{ℕ, ◌+◌, ◌*◌, ◌%◌, ◌^◌, List, [], ◌∷◌, Option, Some, None, fold, take_while, bytes_eq, if◌then◌else◌, ◌==◌}
-use Rattle.std.specs.Option.{option_cmp}
+use Rattle.std.specs.Option.{option_cmp, option_map}
 use Rattle.std.specs.declared.cmp.Ordering.{Ordering}
 use Rattle.std.specs.declared.cmp.Ordering.TheVariants.{Less, Equal, Greater}
 use Rattle.std.specs.Ordering.{nat_cmp, ordering_then}
@@ -9,6 +9,7 @@ use Rattle.std.specs.Cmp.Lexicographic.{slice_cmp}
 use Rattle.am_version_order.specs.Versions.{Version}
 use Rattle.am_merge.specs.Entries.{key_entry, key_order}
 use Rattle.am_merge.specs.declared.entry.BucketEntry.{BucketEntry}
+use Rattle.am_merge.specs.declared.entry.KeyEntry.{KeyEntry}
 
 -- the slot of the entry's version in the table
 abbrev pub bucket_slot : BucketEntry → ℕ
@@ -26,6 +27,10 @@ number_of (byte ∷ bytes) = let number = fold numbered 0 (byte ∷ bytes) in if
 -- the order of buckets by their numbers, and then by their bytes
 abbrev pub bytes_cmp : List ℕ → List ℕ → Ordering
 bytes_cmp one other = ordering_then (nat_cmp (number_of one) (number_of other)) (slice_cmp nat_cmp one other)
+
+-- the entry by bucket of the version in the slot of an entry by key
+abbrev pub bucket_at : {X : Type 0} → (X → List ℕ) → (ℕ → Option X) → KeyEntry → Option BucketEntry
+bucket_at bucket_of table e = option_map (λ v. record { number = number_of (bucket_of v); key = e }) (table e.slot)
 
 module _ {K : Type 0} (cmp : K → K → Ordering) where
   -- the order of places by their buckets, and then by their keys, which are behind the front

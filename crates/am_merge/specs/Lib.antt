@@ -11,4 +11,3 @@ pub mod Stores
 pub mod Takings
 pub mod Views
 pub mod Orders
-pub mod Listings

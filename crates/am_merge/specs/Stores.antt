@@ -79,18 +79,27 @@ module _ {K X : Type 0} (seen : X → Version K) where
       pub index : IsIndex key_slot (key_entry seen head_of) table es
       pub order : IsMap seen cmp (versions_of table es)
 
+    -- the index by key is that of the table
+    pub record IsKeyed (store : Store X) : Type 0 where
+      pub index : IsKeyIndex (get store.table) (entries store.keys)
+      pub count : slab_len store.table ≡ length (entries store.keys)
+
     module _ (bucket_of : X → List ℕ) where
       -- the entries are those of the table's versions, in the order of their buckets
       pub record IsBucketIndex (table : ℕ → Option X) (es : List BucketEntry) : Type 0 where
         pub index : IsIndex bucket_slot (bucket_entry seen bucket_of head_of) table es
         pub order : IsMap (by_bucket seen bucket_of) (bucket_cmp cmp) (filed bucket_slot table es)
 
-      -- the indexes are those of the table
+      -- all indexes are those of the table
       pub record IsStore (store : Store X) : Type 0 where
         pub keys : IsKeyIndex (get store.table) (entries store.keys)
         pub expiries : IsExpiryIndex (get store.table) (entries store.expiries)
         pub buckets : IsBucketIndex (get store.table) (entries store.buckets)
         pub count : slab_len store.table ≡ length (entries store.keys)
+
+      -- so the index by key is
+      pub keyed : {store : Store X} → IsStore store → IsKeyed store
+      keyed is = record { index = is.keys; count = is.count }
 
   module _ (cmp : K → K → Ordering) where
     -- the entry of the key's version is at the cursor

@@ -1,86 +1,106 @@
-//! A builder of maps from many versions at once.
+//! A builder of maps from many versions.
 
-ghost use Rattle.std.specs.Prelude.{◌≡◌, ◌++◌, ◌∷◌, [], length, IfOk, OnOk, OnErr};
-ghost use Rattle.am_merge.specs.Views.{HoldsBest};
+ghost use Rattle.std.specs.Prelude.{◌≡◌, [], Ok, true, false, is_none, IfOk, OnErr, OnOk};
+ghost use Rattle.am_merge.specs.Maps.{at};
+ghost use Rattle.am_merge.specs.Takings.{IsPut};
 
-use crate::bulk::{Listing, build, listing_of, push};
+use crate::bulk::{add_by_key, build, by_key, put_by_key};
 use crate::held::Held;
-use crate::store::empty_store;
+use crate::store::{Store, empty_store, find};
 use am_version_order::Version;
 use std::alloc::{AllocError, Global};
 use std::marker::Model;
 use std::mem;
 
-/// A builder of a map from versions in any order, of which a key may have several.
+/// A map that is being made of many versions. It has the index by key alone, until the others are built at once.
 ///
-/// Contracts see it as the list of its versions.
+/// Contracts see it as the list of its versions in the order of their keys.
 #[derive(Drop)]
 pub struct HeldBuilder<V: Version> {
-    listing: Listing<V>,
+    store: Store<V>,
     alloc: Global,
 }
 
 impl<V: Version> Model for HeldBuilder<V> {
     ghost use Rattle.std.specs.Prelude.{List, All};
-    ghost use Rattle.am_merge.specs.Listings.{IsListing, versions_in};
+    ghost use Rattle.am_merge.specs.Stores.{versions, IsKeyed};
 
     ghost Value = { List V };
 
-    ghost view = { λ builder. versions_in builder.listing };
+    ghost view = { λ builder. versions builder.store };
 
-    ghost invariant = { λ builder. IsListing V.seen V.head_of V.bucket_of builder.listing
-        × All V.is_value (versions_in builder.listing) };
+    ghost invariant = { λ builder. IsKeyed V.seen V.head_of V.Key.cmp builder.store
+        × All V.is_value (versions builder.store) };
 }
 
 impl<V: Version> HeldBuilder<V> {
-    /// Takes all versions out of a map, and makes room for `more` entries.
-    ///
-    /// # Errors
-    ///
-    /// [`AllocError`] if memory runs out. The versions are lost then.
-    pub fn of(held: &mut Held<V>, more: usize) -> Result<HeldBuilder<V>, AllocError>
-        ensures same { IfOk result (λ builder. builder ≡ held.old) }
+    /// Returns a builder of the empty map, without allocating.
+    pub fn new(alloc: Global) -> HeldBuilder<V>
+        ensures { result ≡ [] }
+    {
+        HeldBuilder::of(&mut Held::new(alloc))
+    }
+
+    /// Takes all versions out of a map, without allocating.
+    pub fn of(held: &mut Held<V>) -> HeldBuilder<V>
+        ensures same { result ≡ held.old }
         ensures left { held.new ≡ [] }
     {
         let alloc = held.alloc;
         let store = mem::replace(&mut held.store, empty_store(alloc));
-        Ok(HeldBuilder {
-            listing: listing_of(store, more, alloc)?,
+        HeldBuilder {
+            store: by_key(store, alloc),
             alloc,
-        })
+        }
     }
 
-    /// Returns the number of versions.
-    pub fn len(&self) -> usize
-        ensures { result ≡ length self.now }
-    {
-        self.listing.table.len()
-    }
-
-    /// Adds a version.
+    /// Takes a version. It is kept, live or not, if it is greater than the one of its key.
     ///
     /// # Errors
     ///
     /// [`AllocError`] if memory runs out. Nothing has changed then.
-    pub fn push(&mut self, version: V) -> Result<(), AllocError>
-        ensures added { OnOk result (self.new ≡ self.old ++ version ∷ []) }
+    pub fn take(&mut self, version: V) -> Result<(), AllocError>
+        // PROMISE: A map that is built of many versions takes each of them as a map does.
+        ensures taken { OnOk result (IsPut V.seen V.Key.cmp self.old version self.new) }
         ensures err { OnErr result (self.new ≡ self.old) }
     {
         let _content = version.canonical();
-        push(&mut self.listing, version)
+        put_by_key(&mut self.store, version)
     }
 
-    /// Builds the map of the greatest version of each key.
+    /// Takes a version if it is the first one of its key, and returns whether it is. Nothing changes if the key has one already.
+    ///
+    /// # Errors
+    ///
+    /// [`AllocError`] if memory runs out. Nothing has changed then.
+    pub fn insert_new(&mut self, version: V) -> Result<bool, AllocError>
+        ensures answer { IfOk result (λ new.
+            new ≡ is_none (at V.seen V.Key.cmp self.old (V.seen version).key)) }
+        ensures put { result ≡ Ok true → IsPut V.seen V.Key.cmp self.old version self.new }
+        ensures held { result ≡ Ok false → self.new ≡ self.old }
+        ensures err { OnErr result (self.new ≡ self.old) }
+    {
+        match find(&self.store, version.key()) {
+            Ok(_) => Ok(false),
+            Err(cursor) => {
+                let _content = version.canonical();
+                add_by_key(&mut self.store, cursor, version)?;
+                Ok(true)
+            }
+        }
+    }
+
+    /// Builds the map.
     ///
     /// # Errors
     ///
     /// [`AllocError`] if memory runs out.
     pub fn build(self) -> Result<Held<V>, AllocError>
-        // PROMISE: Of versions that are taken at once the greatest of each key is held, as if one came after the other.
-        ensures { IfOk result (HoldsBest V.seen self) }
+        // PROMISE: A map that is built has just the versions that it took.
+        ensures { IfOk result (λ held. held ≡ self) }
     {
-        let HeldBuilder { listing, alloc } = self;
-        let store = build(listing, alloc)?;
+        let HeldBuilder { store, alloc } = self;
+        let store = build(store, alloc)?;
         Ok(Held { store, alloc })
     }
 }

@@ -1,156 +1,176 @@
-//! The filing of many versions at once: all go into a table, and each index is built anew.
+//! Stores with the index by key alone, into which many versions are put before the other indexes are built.
 
-ghost use Rattle.std.specs.Prelude.{◌≡◌, ◌≢◌, ◌+◌, ◌++◌, ◌∷◌, [], ℕ, All, None, IsPermutation, IfOk, OnOk, OnErr, filter_map, length, map};
-ghost use Rattle.slab.specs.Slab.{get, slab_len, entries as slots};
-ghost use Rattle.am_merge.specs.Rows.{entries};
-ghost use Rattle.am_merge.specs.Indexes.{Names, IsIndex, filed};
+ghost use Rattle.std.specs.Prelude.{◌≡◌, [], All, filter_map, IfErr, IfOk, OnErr, OnOk, map, slice_set, length, insert};
+ghost use Rattle.slab.specs.Slab.{get, entries as slots, HasRoomFor};
+ghost use Rattle.am_merge.specs.Cursors.{place};
+ghost use Rattle.am_merge.specs.Rows.{entries, HasRoom};
+ghost use Rattle.am_merge.specs.Indexes.{IsIndex};
 ghost use Rattle.am_merge.specs.Entries.{expiry_entry};
-ghost use Rattle.am_merge.specs.Buckets.{bucket_slot, bucket_entry};
-ghost use Rattle.am_merge.specs.Maps.{IsMap};
-ghost use Rattle.am_merge.specs.Views.{HoldsBest};
-ghost use Rattle.am_merge.specs.Stores.{versions, IsStore, IsKeyIndex, IsExpiryIndex, IsBucketIndex, HasSlot};
-ghost use Rattle.am_merge.specs.Listings.{IsListing, AreApart, IsBeatenBy, versions_in, bucket_at};
+ghost use Rattle.am_merge.specs.Buckets.{bucket_slot, bucket_entry, bucket_at};
+ghost use Rattle.am_merge.specs.Maps.{replaces};
+ghost use Rattle.am_merge.specs.Takings.{IsPut};
+ghost use Rattle.am_merge.specs.Stores.{versions, IsKeyed, IsStore, IsKeyCursor, IsGapCursor, IsKeyIndex, IsExpiryIndex, IsBucketIndex, HasSlot};
 
 use crate::blocks::{Blocks, Cursor};
+use crate::changes::is_greater;
 use crate::entry::{BucketEntry, ExpiryEntry, KeyEntry, bucket_number};
-use crate::orders::{BestFirst, ByBucket, ByExpiry, ByHead, ByKey, ByNumber, Parted, part, sort};
-use crate::store::{Store, entry_of};
+use crate::orders::{ByBucket, ByExpiry, ByKey, ByNumber, sort};
+use crate::store::{Store, find};
 use am_version_order::Version;
 use slab::Slab;
 use std::alloc::{AllocError, Global};
 
-/// A table of versions, and their entries in any order. A key may have several versions.
-#[derive(Drop)]
-pub struct Listing<V> {
-    pub table: Slab<V>,
-    pub entries: Vec<BucketEntry>,
-}
-
-/// Returns the versions of a store as a listing, with room for `more` entries.
-pub fn listing_of<V: Version>(
-    store: Store<V>,
-    more: usize,
-    alloc: Global,
-) -> Result<Listing<V>, AllocError>
+/// Returns a store without its indexes by expiry and by bucket.
+pub fn by_key<V: Version>(store: Store<V>, alloc: Global) -> Store<V>
     requires { IsStore V.seen V.head_of V.Key.cmp V.bucket_of store }
-    ensures listing { IfOk result (IsListing V.seen V.head_of V.bucket_of) }
-    ensures same { IfOk result (λ listing. versions_in listing ≡ versions store) }
+    ensures keyed { IsKeyed V.seen V.head_of V.Key.cmp result }
+    ensures same { versions result ≡ versions store }
 {
     let Store {
         table,
         keys,
         expiries: _,
         buckets: _,
-        last: _,
+        last,
     } = store;
-    let size = table.len().saturating_add(more);
-    Ok(Listing {
-        entries: entries_of(&table, &keys, size, alloc)?,
+    Store {
         table,
+        keys,
+        expiries: Blocks::new(alloc),
+        buckets: Blocks::new(alloc),
+        last,
+    }
+}
+
+/// Puts a version in if it is greater than the one of its key, whatever the indexes by expiry and by bucket have.
+///
+/// # Errors
+///
+/// [`AllocError`] if memory runs out. The versions are unchanged then.
+pub fn put_by_key<V: Version>(store: &mut Store<V>, version: V) -> Result<(), AllocError>
+    requires { IsKeyed V.seen V.head_of V.Key.cmp store.old }
+    ensures keyed { IsKeyed V.seen V.head_of V.Key.cmp store.new }
+    ensures put { OnOk result (IsPut V.seen V.Key.cmp (versions store.old) version (versions store.new)) }
+    ensures err { OnErr result (versions store.new ≡ versions store.old) }
+{
+    match find(store, version.key()) {
+        Ok(cursor) => {
+            if is_greater(store, cursor, &version) {
+                replace_by_key(store, cursor, version);
+            }
+            Ok(())
+        }
+        Err(cursor) => add_by_key(store, cursor, version),
+    }
+}
+
+/// Replaces the version of a version's key, in the same slot.
+fn replace_by_key<V: Version>(store: &mut Store<V>, cursor: Cursor, version: V)
+    requires keyed { IsKeyed V.seen V.head_of V.Key.cmp store.old }
+    requires cursor { IsKeyCursor V.seen V.Key.cmp store.old (V.seen version).key cursor }
+    ensures keyed { IsKeyed V.seen V.head_of V.Key.cmp store.new }
+    ensures replaced { versions store.new ≡ slice_set (versions store.old) (place store.old.keys cursor) version }
+{
+    store.last = cursor;
+    let slot = store.keys.get(cursor).slot;
+    let _replaced = store.table.remove(slot);
+    store.table.insert_reserved(version);
+}
+
+/// Inserts the first version of a key. All allocation precedes all changes.
+///
+/// # Errors
+///
+/// [`AllocError`] if memory runs out. The versions are unchanged then.
+pub fn add_by_key<V: Version>(
+    store: &mut Store<V>,
+    cursor: Cursor,
+    version: V,
+) -> Result<(), AllocError>
+    requires keyed { IsKeyed V.seen V.head_of V.Key.cmp store.old }
+    requires cursor { IsGapCursor V.seen V.Key.cmp store.old (V.seen version).key cursor }
+    ensures keyed { IsKeyed V.seen V.head_of V.Key.cmp store.new }
+    ensures put { OnOk result (IsPut V.seen V.Key.cmp (versions store.old) version (versions store.new)) }
+    ensures err { OnErr result (versions store.new ≡ versions store.old) }
+{
+    reserve_key(store)?;
+    insert_by_key(store, cursor, version);
+    Ok(())
+}
+
+/// Makes room for one more key.
+fn reserve_key<V: Version>(store: &mut Store<V>) -> Result<(), AllocError>
+    requires { IsKeyed V.seen V.head_of V.Key.cmp store.old }
+    ensures keyed { IsKeyed V.seen V.head_of V.Key.cmp store.new }
+    ensures table { OnOk result (HasRoomFor store.new.table 1) }
+    ensures room { OnOk result (HasRoom store.new.keys 1) }
+    ensures blocks { store.new.keys.blocks ≡ store.old.keys.blocks }
+    ensures versions { versions store.new ≡ versions store.old }
+{
+    store.table.reserve(1)?;
+    store.keys.reserve(1)
+}
+
+/// Inserts the first version of a key, without allocating.
+fn insert_by_key<V: Version>(store: &mut Store<V>, cursor: Cursor, version: V)
+    requires keyed { IsKeyed V.seen V.head_of V.Key.cmp store.old }
+    requires cursor { IsGapCursor V.seen V.Key.cmp store.old (V.seen version).key cursor }
+    requires table { HasRoomFor store.old.table 1 }
+    requires room { HasRoom store.old.keys 1 }
+    ensures keyed { IsKeyed V.seen V.head_of V.Key.cmp store.new }
+    ensures added { versions store.new ≡ insert (versions store.old) (place store.old.keys cursor) version }
+{
+    store.last = cursor;
+    let head = V::head(version.key());
+    let slot = store.table.vacant_key();
+    store.table.insert_reserved(version);
+    store.keys.insert(cursor, KeyEntry { head, slot });
+}
+
+/// Returns the store with all its indexes, of which that by key is there.
+///
+/// # Errors
+///
+/// [`AllocError`] if memory runs out.
+pub fn build<V: Version>(store: Store<V>, alloc: Global) -> Result<Store<V>, AllocError>
+    requires { IsKeyed V.seen V.head_of V.Key.cmp store }
+    ensures store { IfOk result (IsStore V.seen V.head_of V.Key.cmp V.bucket_of) }
+    ensures same { IfOk result (λ built. versions built ≡ versions store) }
+{
+    let Store {
+        table,
+        keys,
+        expiries: _,
+        buckets: _,
+        last,
+    } = store;
+    let expiries = build_expiries(&table, alloc)?;
+    let list = entries_of(&table, &keys, alloc)?;
+    let buckets = build_buckets(&table, list, alloc)?;
+    Ok(Store {
+        table,
+        keys,
+        expiries,
+        buckets,
+        last,
     })
 }
 
-/// Returns the entries of a table's versions in the order of these keys, in a list with room for `size` entries.
+/// Returns the entries of a table's versions by bucket, in the order of these keys.
 fn entries_of<V: Version>(
     table: &Slab<V>,
     keys: &Blocks<KeyEntry>,
-    size: usize,
     alloc: Global,
 ) -> Result<Vec<BucketEntry>, AllocError>
     requires { All (λ e. HasSlot table.now e.slot) (entries keys.now) }
     ensures { IfOk result (λ list. list.items ≡ filter_map (bucket_at V.bucket_of (get table.now)) (entries keys.now)) }
 {
-    let mut list = Vec::with_capacity(alloc, size)?;
+    let mut list = Vec::with_capacity(alloc, table.len())?;
     for key in keys.walk() {
         let number = bucket_number(table[key.slot].bucket());
         list.push(BucketEntry { number, key })?;
     }
     Ok(list)
-}
-
-/// Puts a version into the table, and appends its entry.
-///
-/// # Errors
-///
-/// [`AllocError`] if memory runs out. The versions are unchanged then.
-pub fn push<V: Version>(listing: &mut Listing<V>, version: V) -> Result<(), AllocError>
-    requires { IsListing V.seen V.head_of V.bucket_of listing.old }
-    ensures listing { IsListing V.seen V.head_of V.bucket_of listing.new }
-    ensures pushed { OnOk result (versions_in listing.new ≡ versions_in listing.old ++ version ∷ []) }
-    ensures err { OnErr result (versions_in listing.new ≡ versions_in listing.old) }
-{
-    listing.table.reserve(1)?;
-    let entry = entry_of(&version, listing.table.vacant_key());
-    listing.entries.push(entry)?;
-    listing.table.insert_reserved(version);
-    Ok(())
-}
-
-/// Returns the store of the greatest version of each key.
-pub fn build<V: Version>(listing: Listing<V>, alloc: Global) -> Result<Store<V>, AllocError>
-    requires { IsListing V.seen V.head_of V.bucket_of listing }
-    ensures store { IfOk result (IsStore V.seen V.head_of V.Key.cmp V.bucket_of) }
-    ensures best { IfOk result (λ store. HoldsBest V.seen (versions_in listing) (versions store)) }
-{
-    let Listing { mut table, entries } = listing;
-    let parted = best_first(&table, entries, alloc)?;
-    remove_all(&mut table, parted.ties);
-    Ok(Store {
-        keys: build_keys(parted.firsts.as_slice(), alloc)?,
-        expiries: build_expiries(&table, alloc)?,
-        buckets: build_buckets(&table, parted.firsts, alloc)?,
-        table,
-        last: Cursor {
-            block: 0,
-            offset: 0,
-        },
-    })
-}
-
-/// Returns the entries of the greatest version of each key in the order of the keys, and the other entries.
-fn best_first<V: Version>(
-    table: &Slab<V>,
-    mut entries: Vec<BucketEntry>,
-    alloc: Global,
-) -> Result<Parted<BucketEntry>, AllocError>
-    requires { All (Names bucket_slot (bucket_entry V.seen V.bucket_of V.head_of) (get table.now)) entries.items }
-    ensures all { IfOk result (λ parted. IsPermutation entries.items (parted.firsts.items ++ parted.ties.items)) }
-    ensures order { IfOk result (λ parted. IsMap V.seen V.Key.cmp (filed bucket_slot (get table.now) parted.firsts.items)) }
-    ensures beaten { IfOk result (λ parted. All (IsBeatenBy V.seen (get table.now) parted.firsts.items) parted.ties.items) }
-{
-    // Comparing numbers alone is faster. After that only entries with equal numbers are out of order.
-    sort(&mut entries, &ByHead)?;
-    sort(
-        &mut entries,
-        &BestFirst {
-            keys: ByKey { table },
-        },
-    )?;
-    part(entries, &ByKey { table }, alloc)
-}
-
-/// Removes the versions in the slots of these entries from a table.
-fn remove_all<V: Version>(table: &mut Slab<V>, gone: Vec<BucketEntry>)
-    requires there { All (λ e. HasSlot table.old e.key.slot) gone.items }
-    requires apart { AreApart bucket_slot gone.items }
-    ensures gone { All (λ e. get table.new e.key.slot ≡ None) gone.items }
-    ensures others { (slot : ℕ) → All (λ e. bucket_slot e ≢ slot) gone.items → get table.new slot ≡ get table.old slot }
-    ensures len { slab_len table.new + length gone.items ≡ slab_len table.old }
-{
-    for entry in gone {
-        table.remove(entry.key.slot);
-    }
-}
-
-/// Returns the index by key of entries that are in its order.
-fn build_keys(list: &[BucketEntry], alloc: Global) -> Result<Blocks<KeyEntry>, AllocError>
-    ensures { IfOk result (λ keys. entries keys ≡ map (λ e. e.key) list.now) }
-{
-    let mut keys = Vec::with_capacity(alloc, list.len())?;
-    for entry in list {
-        keys.push(entry.key)?;
-    }
-    Blocks::from_slice(alloc, keys.as_slice())
 }
 
 /// Returns the index by expiry of a table.

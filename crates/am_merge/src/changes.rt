@@ -4,7 +4,7 @@ ghost use Rattle.std.specs.Prelude.{◌≡◌, ℕ, List, ◌+◌, ◌<◌, ◌�
 ghost use Rattle.std.specs.Prelude.{IfSome, IfNone, IsOk, OnOk, OnErr, IsTrue, IsPermutation, true, false, ◌↔◌, insert};
 ghost use Rattle.std.specs.Prelude.{slice_set};
 ghost use Rattle.am_merge.specs.Maps.{IsMap, IsJoin, HasTwice, replaces, swept};
-ghost use Rattle.am_merge.specs.Stores.{versions, HasRooms, IsStore, IsKeyCursor, IsGapCursor, IsExpiredAt};
+ghost use Rattle.am_merge.specs.Stores.{versions, HasRooms, IsKeyed, IsStore, IsKeyCursor, IsGapCursor, IsExpiredAt};
 ghost use Rattle.am_merge.specs.Cursors.{place};
 ghost use Rattle.am_merge.specs.Takings.{IsPut, new_keys, new_versions, taken_by};
 
@@ -18,8 +18,8 @@ use am_version_order::{Moment, Version};
 use std::alloc::{AllocError, Global};
 
 /// Returns whether a version is greater than the one at the cursor, which has the same key.
-fn is_greater<V: Version>(store: &Store<V>, cursor: Cursor, version: &V) -> bool
-    requires store { IsStore V.seen V.head_of V.Key.cmp V.bucket_of store.now }
+pub fn is_greater<V: Version>(store: &Store<V>, cursor: Cursor, version: &V) -> bool
+    requires keyed { IsKeyed V.seen V.head_of V.Key.cmp store.now }
     requires cursor { IsKeyCursor V.seen V.Key.cmp store.now (V.seen version.now).key cursor }
     ensures answer { result ≡ replaces V.seen V.Key.cmp (versions store.now) version.now }
     ensures kept { result ≡ false →

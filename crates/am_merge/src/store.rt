@@ -11,7 +11,7 @@ ghost use Rattle.am_merge.specs.Entries.{key_slot, expiry_slot, by_time, time_cm
 ghost use Rattle.am_merge.specs.Buckets.{bucket_slot, bucket_entry, bucket_order, bucket_cmp, by_bucket, number_of};
 ghost use Rattle.am_merge.specs.Indexes.{filed};
 ghost use Rattle.am_merge.specs.Places.{IsGapFor};
-ghost use Rattle.am_merge.specs.Stores.{versions, HasRooms, HasRoomOver, IsSame, IsStore, IsAbsent, IsBucketIndex};
+ghost use Rattle.am_merge.specs.Stores.{versions, HasRooms, HasRoomOver, IsSame, IsKeyed, IsStore, IsAbsent, IsBucketIndex};
 ghost use Rattle.am_merge.specs.Stores.{IsExpiryIndex, IsKeyCursor, IsGapCursor, IsSlotAt, IsWithout, HasSlot};
 
 use crate::blocks::{Blocks, Cursor};
@@ -53,7 +53,7 @@ pub fn empty_store<V: Version>(alloc: Global) -> Store<V>
 
 /// Returns the place of a key's entry, or the place at which it would be inserted.
 pub fn find<V: Version>(store: &Store<V>, key: &V::Key) -> Result<Cursor, Cursor>
-    requires { IsStore V.seen V.head_of V.Key.cmp V.bucket_of store.now }
+    requires { IsKeyed V.seen V.head_of V.Key.cmp store.now }
     ensures found { IfOk result (IsKeyCursor V.seen V.Key.cmp store.now key.now) }
     ensures absent { IfErr result (IsGapCursor V.seen V.Key.cmp store.now key.now) }
 {
@@ -79,7 +79,7 @@ pub fn key_front<V: Version>(store: &Store<V>, key: &V::Key) -> Cursor
 
 /// Returns the version at a cursor of the index by key.
 pub fn version_at<V: Version>(store: &Store<V>, cursor: Cursor) -> &V
-    requires store { IsStore V.seen V.head_of V.Key.cmp V.bucket_of store.now }
+    requires keyed { IsKeyed V.seen V.head_of V.Key.cmp store.now }
     requires item { IsItem store.now.keys cursor }
     ensures { result.now ≡ slice_index_or (versions store.now) (place store.now.keys cursor) result.now }
 {

@@ -1,4 +1,4 @@
--- A map that has the best of each key of some versions, and as many as they are, has just these.
+-- Versions in the order of a map are loaded.
 use Rattle.std.proofs.Common.{◌≡◌, ℕ, zero, suc, Bool, true, false, List, [], ◌∷◌, length, get_or, Result, inl, inr, refl, sym, ap, subst, ◌∙◌, arith}
 use Rattle.std.specs.Prelude.{Contains, IsPermutation}
 use Rattle.std.specs.List.{IsDistinct, remove}
@@ -40,35 +40,9 @@ module _ {K X : Type 0} (seen : X → Version K) (cmp : K → K → Ordering) (k
       let both = subst (λ (k : K). eq_by_cmp cmp (seen (get_or versions i d)).key k ≡ true) same yes in
       absurd cc
 
-  -- each is among others that are as many, and no two have one key: so they are the others
-  among_as_many : (held versions : List X) → AreDistinct seen held → ((v : X) → Contains held v → Contains versions v) → length held ≡ length versions → IsPermutation versions held
-  among_as_many [] [] distinct inside same = IsPermutation-refl []
-  among_as_many [] (w ∷ ws) distinct inside same = absurd (omega (arith, same))
-  among_as_many (v ∷ vs) versions distinct inside same =
-      let (k, within, is) = inside v (Contains-head v vs) in
-      let others = remove versions k in
-      let moved : IsPermutation versions (v ∷ others) = IsPermutation-remove versions k v within (sym is) in
-      let size : length (v ∷ others) ≡ length versions = length_permutation versions (v ∷ others) moved in
-      let rest : (w : X) → Contains vs w → Contains others w =
-      λ w there. other_than v vs others w distinct there (Contains-permutation versions (v ∷ others) w moved (inside w (Contains-tail v w vs there))) in
-      let further : AreDistinct seen vs = λ i j d less below. distinct (suc i) (suc j) d (omega (arith, less)) (omega (arith, below)) in
-      IsPermutation-trans versions (v ∷ others) (v ∷ vs) moved (IsPermutation-cons v others vs (among_as_many vs others further rest (omega (arith, same, size)))) where
-        other_than : (v : X) (vs others : List X) (w : X) → AreDistinct seen (v ∷ vs) → Contains vs w → Contains (v ∷ others) w → Contains others w
-        other_than v vs others w distinct (k, within, is) there =
-            elim (Contains-cases v w others there) [
-              | inl same ↦ absurd (distinct zero (suc k) w (omega arith) (omega (arith, within)) (ap (λ (x : X). (seen x).key) (same ∙ sym is)))
-              | inr among ↦ among
-            ]
-
   -- versions in another order that is that of a map are loaded
   pub loaded_of : (reads : ℕ → List ℕ → Result X WireError) (row : List ℕ) (versions held : List X) → AreMessages reads row versions → IsMap seen cmp held → IsPermutation versions held
       → IsLoaded seen reads row held
   loaded_of reads row versions held are order moved =
       let apart = distinct_map held order in
       (versions, are, are_distinct versions (IsDistinct-IsPermutation alike flips held versions (IsPermutation-sym versions held moved) apart), moved)
-
-  pub loaded : (reads : ℕ → List ℕ → Result X WireError) (row : List ℕ) (versions held : List X) → AreMessages reads row versions → IsMap seen cmp held → HoldsBest seen versions held → length held ≡ length versions
-      → IsLoaded seen reads row held
-  loaded reads row versions held are order best same =
-      let apart = are_distinct held (distinct_map held order) in
-      loaded_of reads row versions held are order (among_as_many held versions apart (λ v there. (best.best v there).member) same)

@@ -7,8 +7,8 @@ ghost use Rattle.am_wire.specs.Limits.{most};
 ghost use Rattle.am_wire.specs.Inputs.{AreMessages, StopsAfter, StopsWithin};
 ghost use Rattle.am_merge.specs.Views.{HoldsBest};
 
-use am_merge::Held;
-use am_version_order::{Moment, Version};
+use am_merge::{Held, HeldBuilder};
+use am_version_order::Version;
 use am_wire::{MOST_MESSAGE_BYTES, Message, RowFault, RowReader, Unknown};
 use std::alloc::Global;
 use std::io::Read;
@@ -57,10 +57,11 @@ pub fn take_row_within<V: Version + Message, R: Read>(
     ensures fault { IfErr result (λ fault. IfSome (R.remaining reader.old) (λ input.
         (versions : List V) × StopsWithin (V.reads unknown) limit input versions (R.remaining reader.new) fault)) }
 {
-    let mut held = Held::new(alloc);
+    let mut builder = HeldBuilder::new(alloc);
     let mut rows = RowReader::within(alloc, limit);
     while let Some(version) = rows.next_by(unknown, reader)? {
-        held.take(version, Moment::LEAST)?;
+        builder.take(version)?;
     }
+    let held = builder.build()?;
     Ok(held)
 }

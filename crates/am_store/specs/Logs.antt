@@ -14,11 +14,11 @@ module _ {K X : Type 0} (seen : X → Version K) (reads : ℕ → List ℕ → R
   AreInBatches (batch ∷ batches) versions =
       (first : List X) × (others : List X) × AreMessages reads batch first × AreInBatches batches others × (versions ≡ first ++ others)
 
-  -- The versions of a row are appended to others.
+  -- A map has, for each key, the best version among those of another map and of a row.
   pub record ReadsOn (before : List X) (row : List ℕ) (after : List X) : Type 0 where
     pub versions : List X
     pub all : AreMessages reads row versions
-    pub behind : after ≡ before ++ versions
+    pub best : HoldsBest seen (before ++ versions) after
 
   -- A map has, for each key, the best version among those of another map and of all whole batches of a log.
   pub record JoinsLog (map : List X) (log : List ℕ) (joined : List X) : Type 0 where

@@ -1,7 +1,7 @@
 //! The contents of the logs beside a file.
 
 ghost use Rattle.std.specs.Prelude.{◌≡◌, OnOk, IfOk, IfSome};
-ghost use Rattle.am_merge.specs.Views.{HoldsBest};
+ghost use Rattle.am_merge.specs.Maps.{IsMap};
 ghost use Rattle.am_store.specs.Logs.{JoinsLog, ReadsOn};
 
 use crate::batches::Batches;
@@ -65,70 +65,44 @@ pub fn fault_of(error: LogError) -> FileFault {
     }
 }
 
-/// The least number of versions that are read before a map is built of them.
-const MANY: usize = 65_536;
-
-/// The fault for want of memory.
-const NO_MEMORY: FileFault = FileFault::Snapshot(SnapshotError::Memory);
-
-/// Takes the versions out of a map, leaving it empty, with room for as many more as are read before a map is built of them.
-fn builder_of<V: Version>(held: &mut Held<V>) -> Result<HeldBuilder<V>, FileFault>
-    ensures { IfOk result (λ builder. builder ≡ held.old) }
-{
-    let more = held.len().max(MANY);
-    match HeldBuilder::of(held, more) {
-        Ok(builder) => Ok(builder),
-        Err(_) => Err(NO_MEMORY),
-    }
-}
-
-/// Builds the map of the greatest version of each key.
+/// Builds the map.
 fn build<V: Version>(builder: HeldBuilder<V>) -> Result<Held<V>, FileFault>
-    ensures { IfOk result (HoldsBest V.seen builder) }
+    ensures { IfOk result (λ held. held ≡ builder) }
 {
     match builder.build() {
         Ok(held) => Ok(held),
-        Err(_) => Err(NO_MEMORY),
+        Err(_) => Err(FileFault::Snapshot(SnapshotError::Memory)),
     }
 }
 
-/// Builds the map of the greatest version of each key, and takes its versions out again.
-fn rebuild<V: Version>(builder: HeldBuilder<V>) -> Result<HeldBuilder<V>, FileFault>
-    ensures { IfOk result (HoldsBest V.seen builder) }
-{
-    let mut held = build(builder)?;
-    builder_of(&mut held)
-}
-
-/// Returns the number of versions at which a map is built of them, if there are `count` now.
-fn most_of(count: usize) -> usize {
-    count.saturating_add(count.max(MANY))
-}
-
-/// Adds the versions of a batch to others.
+/// Takes the versions of a batch.
 fn read_batch<V: Version + Message>(
     alloc: Global,
     unknown: Unknown,
     builder: &mut HeldBuilder<V>,
     batch: &[u8],
 ) -> Result<(), WireError>
-    ensures { OnOk result (ReadsOn V.seen (V.reads unknown) builder.old batch.now builder.new) }
+    requires { IsMap V.seen V.Key.cmp builder.old }
+    ensures order { OnOk result (IsMap V.seen V.Key.cmp builder.new) }
+    ensures read { OnOk result (ReadsOn V.seen (V.reads unknown) builder.old batch.now builder.new) }
 {
     for message in Messages::<V>::within(alloc, unknown, batch, 0) {
         let version = message?;
-        builder.push(version)?;
+        builder.take(version)?;
     }
     Ok(())
 }
 
-/// Adds the versions of a batch to others, with its error as a file's fault.
+/// Takes the versions of a batch, with its error as a file's fault.
 fn read_on<V: Version + Message>(
     alloc: Global,
     unknown: Unknown,
     builder: &mut HeldBuilder<V>,
     batch: &[u8],
 ) -> Result<(), FileFault>
-    ensures { OnOk result (ReadsOn V.seen (V.reads unknown) builder.old batch.now builder.new) }
+    requires { IsMap V.seen V.Key.cmp builder.old }
+    ensures order { OnOk result (IsMap V.seen V.Key.cmp builder.new) }
+    ensures read { OnOk result (ReadsOn V.seen (V.reads unknown) builder.old batch.now builder.new) }
 {
     match read_batch(alloc, unknown, builder, batch) {
         Ok(()) => Ok(()),
@@ -149,18 +123,14 @@ fn read_rest<V: Version + Message, R: Read>(
     batches: &mut Batches,
     reader: &mut R,
 ) -> Result<Held<V>, FileFault>
+    requires { IsMap V.seen V.Key.cmp builder }
     ensures { IfOk result (λ held. IfSome (R.remaining reader.old) (λ log. JoinsLog V.seen (V.reads unknown) builder log held)) }
 {
-    let mut most = most_of(builder.len());
     'blocks: for _ in 0..u64::MAX {
         match batches.next(reader) {
             Ok(Some(batch)) => read_on(alloc, unknown, &mut builder, &batch)?,
             Ok(None) => return build(builder),
             Err(error) => return Err(fault_of(error)),
-        }
-        if builder.len() >= most {
-            builder = rebuild(builder)?;
-            most = most_of(builder.len());
         }
     }
     Err(NO_LOG)
@@ -184,7 +154,7 @@ pub fn join_batches<V: Version + Message, R: Read>(
     let mut batches = Batches::new(alloc);
     match batches.next(reader) {
         Ok(Some(first)) => {
-            let mut builder = builder_of(held)?;
+            let mut builder = HeldBuilder::of(held);
             read_on(alloc, unknown, &mut builder, &first)?;
             *held = read_rest(alloc, unknown, builder, &mut batches, reader)?;
             Ok(end_of(&batches))

@@ -4,7 +4,7 @@ use Rattle.std.proofs.lemmas.List.Elements.{recursion_from_All}
 use Rattle.slab.specs.Slab.{get}
 use Rattle.am_merge.specs.Rows.{entries}
 use Rattle.am_merge.specs.Stores.{HasSlot}
-use Rattle.am_merge.specs.Listings.{bucket_at}
+use Rattle.am_merge.specs.Buckets.{bucket_at}
 use Rattle.am_merge.proofs.bulk.entries_of.Goals as goal
 
 pub loop-key-init : goal.loop-key-init

@@ -3,7 +3,7 @@ use Rattle.std.specs.List.{AllByRecursion}
 use Rattle.slab.specs.Slab.{get}
 use Rattle.am_merge.specs.Rows.{entries}
 use Rattle.am_merge.specs.Stores.{HasSlot}
-use Rattle.am_merge.specs.Listings.{bucket_at}
+use Rattle.am_merge.specs.Buckets.{bucket_at}
 use Rattle.am_merge.proofs.bulk.entries_of.Given as goal
 
 abbrev pub invariant-loop-key : goal.invariant-loop-key

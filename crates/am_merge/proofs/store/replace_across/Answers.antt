@@ -1,8 +1,9 @@
 use Rattle.std.proofs.Common.{◌+◌, Some, refl, sym, ◌∙◌, subst, arith}
 use Rattle.slab.specs.Slab.{Updates}
 use Rattle.am_merge.specs.Rows.{HasRoom}
+use Rattle.am_merge.specs.Stores.{keyed}
 use Rattle.am_merge.proofs.Keys.{key_order as order_of_keys}
-use Rattle.am_merge.proofs.Steps.{replaced, replaced_versions, filed_put, filed_taken, taken_absent, cursor_key}
+use Rattle.am_merge.proofs.Steps.{replaced_keyed, replaced_versions, filed_put, filed_taken, taken_absent, cursor_key}
 use Rattle.am_merge.proofs.store.replace_across.Goals as goal
 
 pub bucket_gap-place-requires-clause-index : goal.bucket_gap-place-requires-clause-index
@@ -12,7 +13,7 @@ bucket_gap-place-requires-clause-index g c =
 pub bucket_gap-place-requires-clause-absent : goal.bucket_gap-place-requires-clause-absent
 bucket_gap-place-requires-clause-absent g c =
     taken_absent g.V.Version.seen g.V.Version.head_of g.V.Key.Ord.cmp (order_of_keys g.met.V.Key.Ord.total g.met.V.Version.exact_keys) g.V.Version.bucket_of c.args.store.now c.take_out-replaced.new.store.table c.args.slot c.take_out-replaced.result (g.V.Version.seen c.args.version).key c.requires.store c.take_out-replaced.ensures.own
-    (cursor_key g.V.Version.seen g.V.Version.head_of g.V.Key.Ord.cmp (order_of_keys g.met.V.Key.Ord.total g.met.V.Version.exact_keys) g.V.Version.bucket_of c.args.store.now (g.V.Version.seen c.args.version).key c.args.cursor c.args.slot c.take_out-replaced.result c.requires.store c.requires.cursor c.requires.slot c.take_out-replaced.ensures.own)
+    (cursor_key g.V.Version.seen g.V.Version.head_of g.V.Key.Ord.cmp (order_of_keys g.met.V.Key.Ord.total g.met.V.Version.exact_keys) c.args.store.now (g.V.Version.seen c.args.version).key c.args.cursor c.args.slot c.take_out-replaced.result (keyed g.V.Version.seen g.V.Version.head_of g.V.Key.Ord.cmp g.V.Version.bucket_of c.requires.store) c.requires.cursor c.requires.slot c.take_out-replaced.ensures.own)
     c.take_out-replaced.ensures.updates
 
 pub put_in-requires-clause-expiries : goal.put_in-requires-clause-expiries
@@ -28,13 +29,17 @@ returns-clause-store g c =
     let back = subst (λ s. Updates c.take_out-replaced.new.store.table c.put_in.new.store.table s (Some c.args.version)) same c.put_in.ensures.updates in
     let none = c.take_out-replaced.ensures.updates.changed in
     let left = filed_taken g.V.Version.seen g.V.Version.head_of g.V.Key.Ord.cmp (order_of_keys g.met.V.Key.Ord.total g.met.V.Version.exact_keys) g.V.Version.bucket_of c.args.store.now.table c.take_out-replaced.new.store.table c.args.store.now.buckets c.take_out-replaced.new.store.buckets c.remove.new.self c.args.slot c.take_out-replaced.result c.bucket_cursor-left.result c.take_out-replaced.ensures.own c.take_out-replaced.ensures.updates c.requires.store.buckets c.bucket_cursor-left.ensures.item c.bucket_cursor-left.ensures.own c.take_out-replaced.ensures.buckets c.remove.ensures.items in
-    replaced g.V.Version.seen g.V.Version.head_of g.V.Key.Ord.cmp (order_of_keys g.met.V.Key.Ord.total g.met.V.Version.exact_keys) g.V.Version.bucket_of c.args.store.now c.take_out-replaced.new.store (record c.put_in.new.store { buckets = c.insert.new.self }) c.args.slot c.take_out-replaced.result c.args.version c.args.cursor c.requires.store c.requires.cursor c.requires.slot c.take_out-replaced.ensures.own c.take_out-replaced.ensures.updates back c.take_out-replaced.ensures.keys c.put_in.ensures.keys c.put_in.ensures.index
-    (filed_put g.V.Version.seen g.V.Version.head_of g.V.Key.Ord.cmp (order_of_keys g.met.V.Key.Ord.total g.met.V.Version.exact_keys) g.V.Version.bucket_of c.take_out-replaced.new.store.table c.put_in.new.store.table c.remove.new.self c.put_in.new.store.buckets c.insert.new.self c.args.slot c.args.slot c.args.version c.entry_of-entry.result c.bucket_gap-place.result none back left c.bucket_gap-place.ensures.gap c.put_in.ensures.buckets c.entry_of-entry.ensures refl c.insert.ensures.items)
-    c.take_out-replaced.ensures.len c.put_in.ensures.len
+    let by_key = replaced_keyed g.V.Version.seen g.V.Version.head_of g.V.Key.Ord.cmp (order_of_keys g.met.V.Key.Ord.total g.met.V.Version.exact_keys) c.args.store.now c.take_out-replaced.new.store (record c.put_in.new.store { buckets = c.insert.new.self }) c.args.slot c.take_out-replaced.result c.args.version c.args.cursor (keyed g.V.Version.seen g.V.Version.head_of g.V.Key.Ord.cmp g.V.Version.bucket_of c.requires.store) c.requires.cursor c.requires.slot c.take_out-replaced.ensures.own c.take_out-replaced.ensures.updates back c.take_out-replaced.ensures.keys c.put_in.ensures.keys c.take_out-replaced.ensures.len c.put_in.ensures.len in
+    record {
+      keys = by_key.index;
+      expiries = c.put_in.ensures.index;
+      buckets = filed_put g.V.Version.seen g.V.Version.head_of g.V.Key.Ord.cmp (order_of_keys g.met.V.Key.Ord.total g.met.V.Version.exact_keys) g.V.Version.bucket_of c.take_out-replaced.new.store.table c.put_in.new.store.table c.remove.new.self c.put_in.new.store.buckets c.insert.new.self c.args.slot c.args.slot c.args.version c.entry_of-entry.result c.bucket_gap-place.result none back left c.bucket_gap-place.ensures.gap c.put_in.ensures.buckets c.entry_of-entry.ensures refl c.insert.ensures.items;
+      count = by_key.count;
+    }
 
 pub returns-clause-replaced : goal.returns-clause-replaced
 returns-clause-replaced g c =
-    replaced_versions g.V.Version.seen g.V.Version.head_of g.V.Key.Ord.cmp (order_of_keys g.met.V.Key.Ord.total g.met.V.Version.exact_keys) g.V.Version.bucket_of c.args.store.now c.take_out-replaced.new.store (record c.put_in.new.store { buckets = c.insert.new.self }) c.args.slot c.take_out-replaced.result c.args.version c.args.cursor c.requires.store c.requires.cursor c.requires.slot c.take_out-replaced.ensures.own c.take_out-replaced.ensures.updates (subst (λ s. Updates c.take_out-replaced.new.store.table c.put_in.new.store.table s (Some c.args.version)) (c.put_in.ensures.next ∙ c.take_out-replaced.ensures.next) c.put_in.ensures.updates) c.take_out-replaced.ensures.keys c.put_in.ensures.keys
+    replaced_versions g.V.Version.seen g.V.Version.head_of g.V.Key.Ord.cmp (order_of_keys g.met.V.Key.Ord.total g.met.V.Version.exact_keys) c.args.store.now c.take_out-replaced.new.store (record c.put_in.new.store { buckets = c.insert.new.self }) c.args.slot c.take_out-replaced.result c.args.version c.args.cursor (keyed g.V.Version.seen g.V.Version.head_of g.V.Key.Ord.cmp g.V.Version.bucket_of c.requires.store) c.requires.cursor c.requires.slot c.take_out-replaced.ensures.own c.take_out-replaced.ensures.updates (subst (λ s. Updates c.take_out-replaced.new.store.table c.put_in.new.store.table s (Some c.args.version)) (c.put_in.ensures.next ∙ c.take_out-replaced.ensures.next) c.put_in.ensures.updates) c.take_out-replaced.ensures.keys c.put_in.ensures.keys
 
 pub returns-clause-room : goal.returns-clause-room
 returns-clause-room g c = λ n m had.

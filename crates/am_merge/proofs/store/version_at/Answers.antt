@@ -11,4 +11,4 @@ pub returns : goal.returns
 returns g c =
     let es = entries c.args.store.now.keys in
     let i = place c.args.store.now.keys c.args.cursor in
-    sym (key_named_at g.V.Version.seen g.V.Version.head_of g.V.Key.Ord.cmp (order_of_keys g.met.V.Key.Ord.total g.met.V.Version.exact_keys) (get c.args.store.now.table) es i c.get.result c.index.result.now c.requires.store.keys (slice_get_within es i c.get.result c.get.ensures) (get_or_from_slice_get es i c.get.result c.get.result c.get.ensures) c.index.ensures)
+    sym (key_named_at g.V.Version.seen g.V.Version.head_of g.V.Key.Ord.cmp (order_of_keys g.met.V.Key.Ord.total g.met.V.Version.exact_keys) (get c.args.store.now.table) es i c.get.result c.index.result.now c.requires.keyed.index (slice_get_within es i c.get.result c.get.ensures) (get_or_from_slice_get es i c.get.result c.get.result c.get.ensures) c.index.ensures)

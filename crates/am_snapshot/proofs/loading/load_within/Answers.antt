@@ -1,5 +1,5 @@
-use Rattle.std.proofs.Common.{◌++◌, ◌∷◌, [], ℕ, Bool, ap, List, Result, Ok}
-use Rattle.std.specs.Prelude.{⊤}
+use Rattle.std.proofs.Common.{◌++◌, ◌∷◌, [], ℕ, Bool, ap, subst, sym, List, Result, Ok}
+use Rattle.std.specs.Prelude.{⊤, IsPermutation}
 use Rattle.std.specs.declared.alloc.AllocError.{AllocError}
 use Rattle.std.proofs.lemmas.Result.{err_from_is_err_and}
 use Rattle.std.proofs.lemmas.List.Sorted.{IsPermutation-refl}
@@ -16,7 +16,7 @@ answered b = Ok b
 
 pub loop-rows-init : goal.loop-rows-init
 loop-rows-init g c =
-    rw c.new-held.ensures ([], [], reads_none (g.V.Message.reads c.args.unknown) _ _ _ c.within-rows.ensures, tt, IsPermutation-refl [], distinct_none g.V.Version.seen)
+    rw c.new-builder.ensures ([], [], reads_none (g.V.Message.reads c.args.unknown) _ _ _ c.within-rows.ensures, tt, IsPermutation-refl [], distinct_none g.V.Version.seen)
 
 pub returns-in_err-version-clause-stopped : goal.returns-in_err-version-clause-stopped
 returns-in_err-version-clause-stopped g c =
@@ -32,8 +32,8 @@ returns-then-not-is_new-clause-stopped g c =
     let (bytes, versions, so_far, _, members, distinct) = c.loop-rows.invariant in
     let (row, read, answer) = rw c.in-Some.is at c.in_ok-version.ensures in
     let one = reads_more (g.V.Message.reads c.args.unknown) _ _ _ _ _ _ bytes row versions so_far read _ answer in
-    let found = some_found (at g.V.Version.seen g.V.Key.Ord.cmp c.loop-rows.held (g.V.Version.seen c.in-Some.version).key) c.in_ok-is_new.is_new c.in_ok-is_new.ensures.answer c.if-not-is_new.true in
-    let was = earlier g.V.Version.seen g.V.Key.Ord.cmp keys versions c.loop-rows.held _ found.0 members found.1 in
+    let found = some_found (at g.V.Version.seen g.V.Key.Ord.cmp c.loop-rows.builder (g.V.Version.seen c.in-Some.version).key) c.in_ok-is_new.is_new c.in_ok-is_new.ensures.answer c.if-not-is_new.true in
+    let was = earlier g.V.Version.seen g.V.Key.Ord.cmp keys versions c.loop-rows.builder _ found.0 members found.1 in
     load_repeat g.V.Version.seen (g.V.Message.reads c.args.unknown) _ _ _ _ (bytes ++ row) versions c.in-Some.version found.0 one distinct was.1 was.0
 
 pub loop-rows-preserved : goal.loop-rows-preserved
@@ -43,20 +43,20 @@ loop-rows-preserved g c =
     let (row, read, answer) = rw c.in-Some.is at c.in_ok-version.ensures in
     let new = c.if-not-is_new.false in
     let put = c.in_ok-is_new.ensures.put (ap (λ (b : Bool). answered b) new) in
-    let none = none_found (at g.V.Version.seen g.V.Key.Ord.cmp c.loop-rows.held (g.V.Version.seen c.in-Some.version).key) c.in_ok-is_new.is_new c.in_ok-is_new.ensures.answer new in (
+    let none = none_found (at g.V.Version.seen g.V.Key.Ord.cmp c.loop-rows.builder (g.V.Version.seen c.in-Some.version).key) c.in_ok-is_new.is_new c.in_ok-is_new.ensures.answer new in (
       bytes ++ row,
       versions ++ c.in-Some.version ∷ [],
       reads_more (g.V.Message.reads c.args.unknown) _ _ _ _ _ _ bytes row versions so_far read _ answer,
       put.order,
-      members_more g.V.Version.seen g.V.Key.Ord.cmp keys c.loop-rows.held c.insert_new.new.self c.in-Some.version map put.order put.joined none versions members,
-      distinct_more g.V.Version.seen g.V.Key.Ord.cmp keys c.loop-rows.held c.insert_new.new.self c.in-Some.version map put.order put.joined none versions members distinct,
+      members_more g.V.Version.seen g.V.Key.Ord.cmp keys c.loop-rows.builder c.insert_new.new.self c.in-Some.version map put.order put.joined none versions members,
+      distinct_more g.V.Version.seen g.V.Key.Ord.cmp keys c.loop-rows.builder c.insert_new.new.self c.in-Some.version map put.order put.joined none versions members distinct,
     )
 
 pub returns-clause-members : goal.returns-clause-members
 returns-clause-members g c =
     let (bytes, versions, so_far, _, members, distinct) = c.loop-rows.invariant in
     let (row, read, answer) = rw c.in_default.is at c.in_ok-version.ensures in
-    load_end g.V.Version.seen (g.V.Message.reads c.args.unknown) _ (g.R.Read.remaining c.next_by.new.reader) versions c.loop-rows.held (reads_end (g.V.Message.reads c.args.unknown) _ _ _ _ _ _ bytes row versions so_far read answer).1 distinct members
+    load_end g.V.Version.seen (g.V.Message.reads c.args.unknown) _ (g.R.Read.remaining c.next_by.new.reader) versions c.in_ok-held.held (reads_end (g.V.Message.reads c.args.unknown) _ _ _ _ _ _ bytes row versions so_far read answer).1 distinct (subst (λ (l : List g.row.V.Denot). IsPermutation versions l) (sym c.in_ok-held.ensures) members)
 
 pub returns-clause-size : goal.returns-clause-size
 returns-clause-size g c =

@@ -9,8 +9,8 @@ abbrev pub invariant-loop-rows : goal.invariant-loop-rows
 invariant-loop-rows g l =
     (bytes : List ℕ) × (versions : List g.row.V.Denot)
     × ReadsSoFar (g.V.Message.reads l.unknown) l.limit (g.R.Read.remaining l.fn.reader) (g.R.Read.remaining l.reader) l.rows bytes versions
-    × IsMap g.V.Version.seen g.V.Key.Ord.cmp l.held
-    × IsPermutation versions l.held
+    × IsMap g.V.Version.seen g.V.Key.Ord.cmp l.builder
+    × IsPermutation versions l.builder
     × AreDistinct g.V.Version.seen versions
 
 abbrev pub decreases-loop-rows : goal.decreases-loop-rows

@@ -1,4 +1,4 @@
-use Rattle.std.proofs.Common.{◌++◌, ◌∷◌, [], List}
+use Rattle.std.proofs.Common.{◌++◌, ◌∷◌, [], List, subst, sym}
 use Rattle.std.proofs.lemmas.Result.{err_from_is_err_and}
 use Rattle.am_merge.proofs.Keys.{key_order}
 use Rattle.am_snapshot.proofs.Bests.{IsBestAt-nil, IsBestAt-more, holds_best}
@@ -9,7 +9,7 @@ use Rattle.am_snapshot.proofs.reading.take_row_within.Goals as goal
 pub loop-rows-init : goal.loop-rows-init
 loop-rows-init g c =
     let keys = key_order g.met.V.Key.Ord.total g.met.V.Version.exact_keys in
-    rw c.new-held.ensures ([], [], reads_none (g.V.Message.reads c.args.unknown) _ _ _ c.within-rows.ensures, tt, IsBestAt-nil g.V.Version.seen g.V.Key.Ord.cmp keys)
+    rw c.new-builder.ensures ([], [], reads_none (g.V.Message.reads c.args.unknown) _ _ _ c.within-rows.ensures, tt, IsBestAt-nil g.V.Version.seen g.V.Key.Ord.cmp keys)
 
 pub returns-in_err-version-clause-fault : goal.returns-in_err-version-clause-fault
 returns-in_err-version-clause-fault g c =
@@ -29,12 +29,12 @@ loop-rows-preserved g c =
     let keys = key_order g.met.V.Key.Ord.total g.met.V.Version.exact_keys in
     let (bytes, versions, so_far, _, best) = c.loop-rows.invariant in
     let (row, read, answer) = rw c.in-Some.is at c.in_ok-version.ensures in
-    let put = c.in_ok-take.ensures.taken.put in (
+    let put = c.in_ok-take.ensures.taken in (
       bytes ++ row,
       versions ++ c.in-Some.version ∷ [],
       reads_more (g.V.Message.reads c.args.unknown) _ _ _ _ _ _ bytes row versions so_far read _ answer,
       put.order,
-      IsBestAt-more g.V.Version.seen g.V.Key.Ord.cmp keys versions c.loop-rows.held c.take.new.self c.in-Some.version put.joined best,
+      IsBestAt-more g.V.Version.seen g.V.Key.Ord.cmp keys versions c.loop-rows.builder c.take.new.self c.in-Some.version put.joined best,
     )
 
 pub returns-clause-best : goal.returns-clause-best
@@ -42,8 +42,8 @@ returns-clause-best g c =
     let keys = key_order g.met.V.Key.Ord.total g.met.V.Version.exact_keys in
     let (bytes, versions, so_far, map, best) = c.loop-rows.invariant in
     let (row, read, answer) = rw c.in_default.is at c.in_ok-version.ensures in
-    reads_end_with (g.V.Message.reads c.args.unknown) _ _ _ _ _ _ bytes row versions so_far read (λ (set : List g.row.V.Denot). HoldsBest g.V.Version.seen set c.loop-rows.held)
-    (holds_best g.V.Version.seen g.V.Key.Ord.cmp keys versions c.loop-rows.held map best) answer
+    reads_end_with (g.V.Message.reads c.args.unknown) _ _ _ _ _ _ bytes row versions so_far read (λ (set : List g.row.V.Denot). HoldsBest g.V.Version.seen set c.in_ok-held.held)
+    (subst (λ (held : List g.row.V.Denot). HoldsBest g.V.Version.seen versions held) (sym c.in_ok-held.ensures) (holds_best g.V.Version.seen g.V.Key.Ord.cmp keys versions c.loop-rows.builder map best)) answer
 
 pub returns-clause-size : goal.returns-clause-size
 returns-clause-size g c =

@@ -8,8 +8,8 @@ use Rattle.am_store.proofs.reading.join_batches.Goals as goal
 pub returns-in-Ok-Some : goal.returns-in-Ok-Some
 returns-in-Ok-Some g c =
     let is_next = rw c.in-Ok-Some.field-0-is at c.in-Ok-Some.ensures.batch in
-    let on_batch = subst (λ batch. ReadsOn g.V.Version.seen (g.V.Message.reads c.args.unknown) c.in_ok-builder-in-Ok-Some.builder batch c.read_on.new.builder) c.deref.ensures.value c.in_ok-read_on-in-Ok-Some.ensures in
-    let read = subst (λ before. ReadsOn g.V.Version.seen (g.V.Message.reads c.args.unknown) before c.in-Ok-Some.first.items c.read_on.new.builder) c.in_ok-builder-in-Ok-Some.ensures on_batch in
+    let on_batch = subst (λ batch. ReadsOn g.V.Version.seen (g.V.Message.reads c.args.unknown) c.of-builder.result batch c.read_on.new.builder) c.deref.ensures.value c.in_ok-read_on-in-Ok-Some.ensures.read in
+    let read = subst (λ before. ReadsOn g.V.Version.seen (g.V.Message.reads c.args.unknown) before c.in-Ok-Some.first.items c.read_on.new.builder) c.of-builder.ensures.same on_batch in
     joined_first g.V.Version.seen (g.V.Message.reads c.args.unknown) (g.R.Read.remaining c.args.reader.now) _ c.in-Ok-Some.first.items c.args.held.now c.read_on.new.builder _ is_next read c.in_ok-held-in-Ok-Some.ensures
 
 pub returns-in-Ok-None : goal.returns-in-Ok-None

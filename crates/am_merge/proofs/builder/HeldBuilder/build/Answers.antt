@@ -1,8 +1,5 @@
-use Rattle.am_merge.specs.Listings.{versions_in}
-use Rattle.am_merge.specs.Stores.{versions}
-use Rattle.am_merge.proofs.Values.{all_of_best}
+use Rattle.std.proofs.Common.{subst, sym, All}
 use Rattle.am_merge.proofs.builder.HeldBuilder.build.Goals as goal
 
 pub invariant_of-result : goal.invariant_of-result
-invariant_of-result g c =
-    (c.in_ok-store.ensures.store, all_of_best g.V.Version.seen g.V.Version.is_value (versions_in c.self.inside.listing) (versions c.in_ok-store.store) c.in_ok-store.ensures.best c.self.invariant.1)
+invariant_of-result g c = (c.in_ok-store.ensures.store, subst (All g.V.Version.is_value) (sym c.in_ok-store.ensures.same) c.self.invariant.1)
