@@ -13,11 +13,11 @@ use Rattle.am_merge.proofs.Exists.{has_join}
 use Rattle.am_merge.proofs.Keys.{IsKeyOrder}
 use Rattle.am_snapshot.proofs.Bests.{IsBestAt, IsBestAt-nil, IsBestAt-more, holds_best}
 use Rattle.am_store.specs.Blocks.{recovered}
-use Rattle.am_store.specs.Calls.{Call, Event, Remove, Make, Permit, Write, Sync, Rename, SyncDirectory}
-use Rattle.am_store.specs.Crashes.{Names, Disk, Remains, MayLeave, Keeps, Does, MayDo, Changes, MayLeaveDuring, bytes_at, with_names}
+use Rattle.am_store.specs.Calls.{Call, Event, Remove, Make, Permit, Write, Sync, Rename, SyncDirectory, Miss}
+use Rattle.am_store.specs.Crashes.{Names, Disk, Remains, MayLeave, Does, MayDo, Changes, MayLeaveDuring, bytes_at, with_names}
 use Rattle.am_store.specs.Logs.{AreInBatches}
 use Rattle.am_store.specs.Outlasting.{FileHas, HasAtLeast, IsKept, Outlasts, content_at}
-use Rattle.am_store.specs.Parting.{AnewStop, BeginningStop, IsAnew, IsParted, NoneBegun, NoneRemoved, OldKept, OldUnsettled, OwnKept, PartingStop, RemovalStop, StopsAnew, StopsParting, Unbegun, Unmade, Unpermitted, Unremoved, Unrenamed, Unsettled, Untried, Unwritten, anew_until, beginning, beginning_until, parting_until, removing, removing_until}
+use Rattle.am_store.specs.Parting.{AnewStop, BeginningStop, IsAnew, IsParted, NoneBegun, NoneRemoved, OldKept, OldUnsettled, OwnKept, PartingStop, RemovalStop, StopsAnew, StopsParting, Unbegun, Unmade, Unpermitted, Unremoved, Unrenamed, Unsettled, Unmissed, Unsynced, Untried, Untrusted, Unwritten, anew_until, beginning, beginning_until, parting_until, removing, removing_until, renewing}
 use Rattle.am_store.specs.Rewrites.{old_log, own_log}
 use Rattle.am_store.proofs.BlockLemmas.{recovered_none}
 use Rattle.am_store.proofs.Crashes.{logs_apart, old_apart, old_behind, own_apart}
@@ -40,6 +40,7 @@ module _ (Keep : List ℕ → Type 0) (F : Remains → Type 0) where
   Spares (Make path) = ¬ Keep path
   Spares (Permit path) = ⊤
   Spares (SyncDirectory path) = ⊤
+  Spares (Miss path) = ⊤
   Spares _ = ⊥
 
   abbrev pub AllSpare : List Event → Type 0
@@ -70,6 +71,7 @@ module _ (Keep : List ℕ → Type 0) (F : Remains → Type 0) where
     loose = fits.loose;
   })
   does (SyncDirectory path) spares disk next (inr elsewhere) fits = subst Fits (sym elsewhere.1) fits
+  does (Miss path) spares disk next d fits = subst Fits (sym d.1) fits
 
   may_do : (call : Call) → Spares call → (disk next : Disk) → MayDo call disk next → Fits disk → Fits next
   may_do (Remove path) spares disk next may fits = ⊎_elim (λ same. subst Fits (sym same) fits) (λ d. does (Remove path) spares disk next d fits) may
@@ -79,6 +81,7 @@ module _ (Keep : List ℕ → Type 0) (F : Remains → Type 0) where
   may_do (Sync bytes) spares disk next may fits = absurd spares
   may_do (Rename from to) spares disk next may fits = absurd spares
   may_do (SyncDirectory path) spares disk next same fits = subst Fits (sym same) fits
+  may_do (Miss path) spares disk next same fits = subst Fits (sym same) fits
 
   changed : (call : Call) (done : Bool) → Spares call → (disk next : Disk) → Changes (call, done) disk next → Fits disk → Fits next
   changed call true = does call
@@ -116,15 +119,21 @@ module _ (Keep : List ℕ → Type 0) (F : Remains → Type 0) where
       removing_part_spares OldUnsettled = (old, (tt, tt))
       removing_part_spares (OwnKept old_stood) = removing_spares old_stood false
 
-      pub anew_spares : (old_stood own_stood : Bool) → AllSpare (removing old_stood own_stood path directory ++ beginning path directory)
-      anew_spares old_stood own_stood =
-          both_spare (removing old_stood own_stood path directory) (beginning path directory) (removing_spares old_stood own_stood) beginning_spares
+      renewing_spares : (kept : Bool) → AllSpare (renewing kept path directory)
+      renewing_spares true = beginning_spares
+      renewing_spares false = (tt, tt)
+
+      pub anew_spares : (kept old_stood own_stood : Bool) → AllSpare (removing old_stood own_stood path directory ++ renewing kept path directory)
+      anew_spares kept old_stood own_stood =
+          both_spare (removing old_stood own_stood path directory) (renewing kept path directory) (removing_spares old_stood own_stood) (renewing_spares kept)
 
       pub anew_part_spares : (stop : AnewStop) → AllSpare (anew_until stop path directory)
       anew_part_spares NoneRemoved = tt
       anew_part_spares (Unremoved stop) = removing_part_spares stop
       anew_part_spares (NoneBegun old_stood own_stood stop) =
           both_spare (removing old_stood own_stood path directory) (beginning_until stop path directory) (removing_spares old_stood own_stood) (beginning_part_spares stop)
+      anew_part_spares (Unsynced old_stood own_stood) =
+          both_spare (removing old_stood own_stood path directory) ((SyncDirectory directory, false) ∷ []) (removing_spares old_stood own_stood) (tt, tt)
 
 -- ---- a set of versions has its best
 module _ {K X : Type 0} (seen : X → Version K) (cmp : K → K → Ordering) (keys : IsKeyOrder cmp) where
@@ -166,51 +175,66 @@ module _ {K X : Type 0} (seen : X → Version K) (cmp : K → K → Ordering) (k
 
     module _ (disk : Disk) where
       -- ---- a log is parted from the one before it
-      module _ (none : Keeps disk (old_log path) None) (safe : Outlasts seen reads path v disk) where
+      module _ (safe : Outlasts seen reads path v disk) where
         abbrev FileOrOld : List ℕ → Type 0
         FileOrOld other = (other ≡ path) ⊎ (other ≡ old_log path)
 
         abbrev Has : Remains → Type 0
         Has left = IsKept seen reads path v left
 
-        of_renamed : (left : Remains) → left.names path ≡ disk.names path → left.names (old_log path) ≡ disk.names (own_log path) → HasFiles FileOrOld Has disk left → Has left
-        of_renamed left file log files =
-            let earlier : Remains = record { names = disk.names; bytes = left.bytes } in
-            let might : MayLeave disk earlier = record { names = inl refl; files = files } in
-            let at : Option ℕ → Option (List ℕ) = λ o. option_map left.bytes o in
-            of_moved_log earlier left (ap at (sym file)) (ap at (sym log)) (none earlier might) (safe earlier might)
-
-        renamed : (next : Disk) → Does (Rename (own_log path) (old_log path)) disk next → Fits FileOrOld Has next
-        renamed next d =
-            let file : d.0 path ≡ disk.names path = d.2 path (λ same. own_apart path (sym same)) (old_behind path) in
-            subst (Fits FileOrOld Has) (sym d.3) (record {
-              safe = λ left may. ⊎_elim
-                  (λ now. of_renamed left (ap (λ (n : Names). n path) now ∙ file) (ap (λ (n : Names). n (old_log path)) now ∙ d.1) may.files)
-                  (λ earlier. safe left (record { names = earlier; files = may.files }))
-                  may.names;
-              loose = λ left agree files. of_renamed left (agree path (inl refl) ∙ file) (agree (old_log path) (inr refl) ∙ d.1) files;
-            })
-
-        may_be_renamed : (next : Disk) → MayDo (Rename (own_log path) (old_log path)) disk next → Outlasts seen reads path v next
-        may_be_renamed next (inl same) = subst (Outlasts seen reads path v) (sym same) safe
-        may_be_renamed next (inr d) = (renamed next d).safe
-
         own_spared : ¬ FileOrOld (own_log path)
         own_spared is = ⊎_elim (own_apart path) (logs_apart path) is
 
+        module _ (none : disk.names (old_log path) ≡ None) where
+          of_renamed : (left : Remains) → left.names path ≡ disk.names path → left.names (old_log path) ≡ disk.names (own_log path) → HasFiles FileOrOld Has disk left → Has left
+          of_renamed left file log files =
+              let earlier : Remains = record { names = disk.names; bytes = left.bytes } in
+              let might : MayLeave disk earlier = record { names = inl refl; files = files } in
+              let at : Option ℕ → Option (List ℕ) = λ o. option_map left.bytes o in
+              of_moved_log earlier left (ap at (sym file)) (ap at (sym log)) (ap at none) (safe earlier might)
+
+          renamed : (next : Disk) → Does (Rename (own_log path) (old_log path)) disk next → Fits FileOrOld Has next
+          renamed next d =
+              let file : d.0 path ≡ disk.names path = d.2 path (λ same. own_apart path (sym same)) (old_behind path) in
+              subst (Fits FileOrOld Has) (sym d.3) (record {
+                safe = λ left may. ⊎_elim
+                    (λ now. of_renamed left (ap (λ (n : Names). n path) now ∙ file) (ap (λ (n : Names). n (old_log path)) now ∙ d.1) may.files)
+                    (λ earlier. safe left (record { names = earlier; files = may.files }))
+                    may.names;
+                loose = λ left agree files. of_renamed left (agree path (inl refl) ∙ file) (agree (old_log path) (inr refl) ∙ d.1) files;
+              })
+
+          may_be_renamed : (next : Disk) → MayDo (Rename (own_log path) (old_log path)) disk next → Outlasts seen reads path v next
+          may_be_renamed next (inl same) = subst (Outlasts seen reads path v) (sym same) safe
+          may_be_renamed next (inr d) = (renamed next d).safe
+
+          unrenamed : (left : Remains) → MayLeaveDuring ((Rename (own_log path) (old_log path), false) ∷ []) disk left → Has left
+          unrenamed left may = ⊎_elim (λ it. may_be_renamed it.0 it.1 left it.2) (λ it. may_be_renamed it.0 it.1 left it.2) may
+
+          goes_on : (left : Remains) (events : List Event) → AllSpare FileOrOld Has events → MayLeaveDuring ((Rename (own_log path) (old_log path), true) ∷ events) disk left → Has left
+          goes_on left events all may = ⊎_elim (λ it. may_be_renamed it.0 it.1 left it.2) (λ it. during FileOrOld Has events all it.0 (renamed it.0 it.1) left it.2) may
+
         module _ (left : Remains) where
-          goes_on : (events : List Event) → AllSpare FileOrOld Has events → MayLeaveDuring ((Rename (own_log path) (old_log path), true) ∷ events) disk left → Has left
-          goes_on events all may = ⊎_elim (λ it. may_be_renamed it.0 it.1 left it.2) (λ it. during FileOrOld Has events all it.0 (renamed it.0 it.1) left it.2) may
+          as_before : (next : Disk) → next ≡ disk → MayLeave next left → Has left
+          as_before next same may = safe left (subst (λ (d : Disk). MayLeave d left) same may)
+
+          -- the system says that no old log stands
+          missed : (events : List Event) → (disk.names (old_log path) ≡ None → MayLeaveDuring events disk left → Has left) → MayLeaveDuring ((Miss (old_log path), true) ∷ events) disk left → Has left
+          missed events later may = ⊎_elim (λ it. as_before it.0 it.1 it.2) (λ it. later it.1.0 (subst (λ (d : Disk). MayLeaveDuring events d left) it.1.1 it.2)) may
 
           part_left : (directory : List ℕ) (stop : PartingStop) → MayLeaveDuring (parting_until stop path directory) disk left → Has left
           part_left directory Untried may = safe left may
-          part_left directory Unrenamed may = ⊎_elim (λ it. may_be_renamed it.0 it.1 left it.2) (λ it. may_be_renamed it.0 it.1 left it.2) may
-          part_left directory (Unbegun stop) may = goes_on (beginning_until stop path directory) (beginning_part_spares FileOrOld Has path directory own_spared stop) may
+          part_left directory Unmissed may = ⊎_elim (λ it. as_before it.0 it.1 it.2) (λ it. as_before it.0 it.1 it.2) may
+          part_left directory Untrusted may = missed [] (λ none still. safe left still) may
+          part_left directory Unrenamed may = missed ((Rename (own_log path) (old_log path), false) ∷ []) (λ none still. unrenamed none left still) may
+          part_left directory (Unbegun stop) may = missed ((Rename (own_log path) (old_log path), true) ∷ beginning_until stop path directory)
+              (λ none still. goes_on none left (beginning_until stop path directory) (beginning_part_spares FileOrOld Has path directory own_spared stop) still) may
 
           pub outlasts_parting : (before calls : List Event) → IsParted path before (before ++ calls) ⊎ StopsParting path before (before ++ calls)
               → MayLeaveDuring calls disk left → Has left
           outlasts_parting before calls (inl parted) may =
-              goes_on (beginning path parted.directory) (beginning_spares FileOrOld Has path parted.directory own_spared)
+              missed ((Rename (own_log path) (old_log path), true) ∷ beginning path parted.directory)
+              (λ none still. goes_on none left (beginning path parted.directory) (beginning_spares FileOrOld Has path parted.directory own_spared) still)
               (subst (λ (events : List Event). MayLeaveDuring events disk left) (append_cancel_left before _ _ parted.calls) may)
           outlasts_parting before calls (inr stops) may =
               part_left stops.directory stops.stop (subst (λ (events : List Event). MayLeaveDuring events disk left) (append_cancel_left before _ _ stops.calls) may)
@@ -232,15 +256,15 @@ module _ {K X : Type 0} (seen : X → Version K) (reads : ℕ → List ℕ → R
   }
 
   module _ (left : Remains) where
-    in_file : (before calls : List Event) → IsAnew path before (before ++ calls) ⊎ StopsAnew path before (before ++ calls) → MayLeaveDuring calls disk left → InFile left
-    in_file before calls (inl anew) may =
-        during IsFile InFile (removing anew.old_stood anew.own_stood path anew.directory ++ beginning path anew.directory)
-        (anew_spares IsFile InFile path anew.directory (own_apart path) (old_apart path) anew.old_stood anew.own_stood) disk fits left
-        (subst (λ (events : List Event). MayLeaveDuring events disk left) (append_cancel_left before _ _ (anew.calls ∙ append_assoc before (removing anew.old_stood anew.own_stood path anew.directory) (beginning path anew.directory))) may)
-    in_file before calls (inr stops) may =
+    in_file : (kept : Bool) (before calls : List Event) → IsAnew kept path before (before ++ calls) ⊎ StopsAnew path before (before ++ calls) → MayLeaveDuring calls disk left → InFile left
+    in_file kept before calls (inl anew) may =
+        during IsFile InFile (removing anew.old_stood anew.own_stood path anew.directory ++ renewing kept path anew.directory)
+        (anew_spares IsFile InFile path anew.directory (own_apart path) (old_apart path) kept anew.old_stood anew.own_stood) disk fits left
+        (subst (λ (events : List Event). MayLeaveDuring events disk left) (append_cancel_left before _ _ (anew.calls ∙ append_assoc before (removing anew.old_stood anew.own_stood path anew.directory) (renewing kept path anew.directory))) may)
+    in_file kept before calls (inr stops) may =
         during IsFile InFile (anew_until stops.stop path stops.directory) (anew_part_spares IsFile InFile path stops.directory (own_apart path) (old_apart path) stops.stop) disk fits left
         (subst (λ (events : List Event). MayLeaveDuring events disk left) (append_cancel_left before _ _ stops.calls) may)
 
-    pub outlasts_anew : (before calls : List Event) → IsAnew path before (before ++ calls) ⊎ StopsAnew path before (before ++ calls) → MayLeaveDuring calls disk left
+    pub outlasts_anew : (kept : Bool) (before calls : List Event) → IsAnew kept path before (before ++ calls) ⊎ StopsAnew path before (before ++ calls) → MayLeaveDuring calls disk left
         → IsKept seen reads path v left
-    outlasts_anew before calls anew may map starts = of_row seen reads path v left map starts (in_file before calls anew may starts.in_row starts.all_of_row)
+    outlasts_anew kept before calls anew may map starts = of_row seen reads path v left map starts (in_file kept before calls anew may starts.in_row starts.all_of_row)

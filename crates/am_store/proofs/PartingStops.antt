@@ -1,9 +1,8 @@
 -- The calls of a parting, or of a beginning anew, that stopped.
 use Rattle.std.proofs.Common.{◌≡◌, ◌≢◌, ◌⊎◌, inl, inr, ⊎_elim, ℕ, zero, suc, ◌==◌, if◌then◌else◌, List, [], ◌∷◌, ◌++◌, length, codes, Option, Some, None, Result, Ok, Err, OnErr, refl, sym, ◌∙◌, ap, arith, append-nil, append_assoc}
 use Rattle.std.proofs.lemmas.Bool.{cases_eq}
-use Rattle.am_store.specs.Appending.{IfKept}
 use Rattle.am_store.specs.Calls.{Event}
-use Rattle.am_store.specs.Parting.{FailsToBegin, FailsToPart, NoneRemoved, Untried, calls_in}
+use Rattle.am_store.specs.Parting.{FailsToPart, IfLogKept, Untried}
 use Rattle.am_store.specs.Saves.{HasNoSlash, IsCut, IsDirectoryOf}
 use Rattle.am_store.specs.declared.log.StateLog.{StateLog}
 
@@ -45,14 +44,8 @@ has_directory path = ⊎_elim
     (cut_or_not path)
 
 -- ---- nothing is called
-pub unparted : (path : List ℕ) (log : Option StateLog) → IfKept (FailsToPart path) log log
-unparted path None = refl
-unparted path (Some log) =
+pub unparted : (path : List ℕ) (events : List Event) (log : Option StateLog) → IfLogKept (FailsToPart path) events events log log
+unparted path events None = (refl, refl)
+unparted path events (Some log) =
     let its = has_directory path in
-    record { stops = record { stop = Untried; directory = its.0; standing = its.1; calls = sym (append-nil (calls_in log)) }; trust = refl }
-
-pub unbegun : (path : List ℕ) (log : Option StateLog) → IfKept (FailsToBegin path) log log
-unbegun path None = refl
-unbegun path (Some log) =
-    let its = has_directory path in
-    record { stop = NoneRemoved; directory = its.0; standing = its.1; calls = sym (append-nil (calls_in log)) }
+    record { stops = record { stop = Untried; directory = its.0; standing = its.1; calls = sym (append-nil events) }; trust = refl }

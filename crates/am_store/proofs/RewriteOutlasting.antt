@@ -21,7 +21,7 @@ use Rattle.am_store.specs.Saves.{IsDirectoryOf, IsTried, Name, Row, Unnamed, Unr
 use Rattle.am_store.specs.declared.file_fault.FileFault.{FileFault}
 use Rattle.am_store.specs.declared.stages.CompactionStage.{CompactionStage}
 use Rattle.am_store.specs.declared.stages.CompactionStage.TheVariants as stages
-use Rattle.am_store.specs.Rewrites.{AreOfRewriting, First, End, Has, HasWhole, IsCause, IsWritten, Place, RewritingStop, LogUnnamed, LogKept, LogUnsettled, Unsaved, calls_before, making, new_bytes, old_log, own_log, place_from, place_of, rewriting, rewriting_until, stage_of}
+use Rattle.am_store.specs.Rewrites.{AreOfRewriting, First, End, Has, HasWhole, IsCause, IsWritten, Place, RewritingStop, LogUnnamed, LogKept, LogUnsettled, Unsaved, calls_before, making, new_bytes, old_log, own_log, place_from, place_of, rewriting, rewriting_until}
 use Rattle.am_store.specs.Logs.{AreInBatches}
 use Rattle.am_store.specs.Outlasting.{FileHas, HasAtLeast, IsKept, IsKnown, IsState, Outlasts, StartsWith, content_at}
 use Rattle.am_store.proofs.Crashes.{Fine, is_saved, is_stopped}
@@ -105,19 +105,19 @@ module _ {K X : Type 0} (seen : X → Version K) (cmp : K → K → Ordering) (p
     pub fits : length row ≤ most
     pub is : IsLeft path disk row (place ≡ End) left
 
-  during : (calls made : List Event) → calls ≡ made → MayLeaveDuring calls disk left → MayLeaveDuring made disk left
-  during calls made same may = subst (λ (events : List Event). MayLeaveDuring events disk left) same may
+  during : (before calls made : List Event) → before ++ calls ≡ before ++ made → MayLeaveDuring calls disk left → MayLeaveDuring made disk left
+  during before calls made same may = subst (λ (events : List Event). MayLeaveDuring events disk left) (append_cancel_left before calls made same) may
 
-  pub of_rewriting : (calls : List Event) → AreOfRewriting seen cmp path most states calls → MayLeaveDuring calls disk left → Leaves
-  of_rewriting calls (inl anew) may = record {
+  pub of_rewriting : (before calls : List Event) → AreOfRewriting seen cmp path most states before (before ++ calls) → MayLeaveDuring calls disk left → Leaves
+  of_rewriting before calls (inl anew) may = record {
     row = anew.row;
     place = End;
     written = anew.written;
     fits = anew.fits;
     is = ⊎_elim (λ old. inl old) (λ new. inr (refl, new.1, new.2))
-        (whole_left path disk its left anew.row anew.stood anew.ended anew.directory anew.standing (during calls (rewriting anew.stood anew.ended path anew.directory anew.row) anew.calls may));
+        (whole_left path disk its left anew.row anew.stood anew.ended anew.directory anew.standing (during before calls (rewriting anew.stood anew.ended path anew.directory anew.row) anew.calls may));
   }
-  of_rewriting calls (inr (inl (state, fault, stops))) may =
+  of_rewriting before calls (inr (inl (state, fault, stops))) may =
       record {
         row = stops.row;
         place = stops.place;
@@ -126,15 +126,15 @@ module _ {K X : Type 0} (seen : X → Version K) (cmp : K → K → Ordering) (p
         is = part_left path disk its left stops.row stops.place stops.stood stops.removed stops.ended stops.directory stops.stop stops.whole
             (λ e. (subst (λ (s : RewritingStop). IsCause seen cmp path most s state states stops.directory fault) e stops.cause).0)
             (λ e. (subst (λ (s : RewritingStop). IsCause seen cmp path most s state states stops.directory fault) e stops.cause).0)
-            (during calls (rewriting_until stops.stop stops.stood stops.removed stops.ended path stops.directory stops.row) stops.calls may);
+            (during before calls (rewriting_until stops.stop stops.stood stops.removed stops.ended path stops.directory stops.row) stops.calls may);
       }
-  of_rewriting calls (inr (inr (compaction, come, same))) may = record {
+  of_rewriting before calls (inr (inr (stage, come))) may = record {
     row = come.row;
-    place = place_of (stage_of compaction);
+    place = place_of stage;
     written = come.written;
     fits = come.fits;
-    is = come_left path disk its left new_bytes (stage_of compaction) come.row come.stood come.ended come.directory come.has
-        (during calls (calls_before (stage_of compaction) come.stood come.ended path come.directory come.row) (sym same ∙ come.calls) may);
+    is = come_left path disk its left new_bytes stage come.row come.stood come.ended come.directory come.has
+        (during before calls (calls_before stage come.stood come.ended path come.directory come.row) come.calls may);
   }
 
 -- ---- a new file is read as the versions that it was made of
@@ -179,14 +179,14 @@ module _ {K X : Type 0} (seen : X → Version K) (cmp : K → K → Ordering) (i
 -- ---- what a start has
 module _ {K X : Type 0} (seen : X → Version K) (cmp : K → K → Ordering) (keys : IsKeyOrder cmp) (is_value : X → Type 0) (plain : X → X) (unknown : Unknown)
     (reads : ℕ → List ℕ → Result X WireError) (back : (v : X) → is_value v × StaysWhole plain unknown v → IsReadBack seen reads v)
-    (path : List ℕ) (most : ℕ) (states : List (List X)) (calls : List Event) (disk : Disk) (small : most < 2 ^ 32) (its : IsDirectoryOf path disk.directory)
-    (are : All (IsState seen cmp is_value plain unknown) states) (made : AreOfRewriting seen cmp path most states calls) where
+    (path : List ℕ) (most : ℕ) (states : List (List X)) (earlier calls : List Event) (disk : Disk) (small : most < 2 ^ 32) (its : IsDirectoryOf path disk.directory)
+    (are : All (IsState seen cmp is_value plain unknown) states) (made : AreOfRewriting seen cmp path most states earlier (earlier ++ calls)) where
   orders : All (IsMap seen cmp) states
   orders k d lt = (are k d lt).order
 
   module _ (left : Remains) (may : MayLeaveDuring calls disk left) (map : List X) (starts : StartsWith seen reads path left map) where
     leaves : Leaves seen cmp path most states disk its left
-    leaves = of_rewriting seen cmp path most states disk its left calls made may
+    leaves = of_rewriting seen cmp path most states disk its left earlier calls made may
 
     pieces : IsOf seen cmp keys states leaves.row leaves.place
     pieces = pieces_of seen cmp keys states leaves.row leaves.place orders leaves.written

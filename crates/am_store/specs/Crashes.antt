@@ -1,6 +1,6 @@
 -- A directory and its files, the calls that change them, and what a crash leaves of them. Nothing else changes them meanwhile.
 use Rattle.std.specs.Prelude.{◌≡◌, ◌≢◌, ◌⊎◌, ℕ, ◌==◌, true, false, if◌then◌else◌, List, [], ◌∷◌, Option, Some, None, option_map, IfSome}
-use Rattle.am_store.specs.Calls.{Call, Event, Remove, Make, Permit, Write, Sync, Rename, SyncDirectory}
+use Rattle.am_store.specs.Calls.{Call, Event, Remove, Make, Permit, Write, Sync, Rename, SyncDirectory, Miss}
 
 -- the names in a directory: which file is at a path, if any
 abbrev pub Names : Type 0
@@ -87,11 +87,14 @@ Does (Rename from to) old new =
     × (new ≡ with_names old names)
 -- fsync of the directory: a crash leaves its names; other directories make no difference
 Does (SyncDirectory path) old new = ((path ≡ old.directory) × (new ≡ record old { earlier = [] })) ⊎ ((path ≢ old.directory) × (new ≡ old))
+-- stat: nothing is at the path
+Does (Miss path) old new = (old.names path ≡ None) × (new ≡ old)
 
--- a call that fails, or that a crash interrupts, does its work or nothing; of a sync nothing can be relied on
+-- a call that fails, or that a crash interrupts, does its work or nothing; of a sync, or of a question, nothing can be relied on
 abbrev pub MayDo : Call → Disk → Disk → Type 0
 MayDo (Sync bytes) old new = new ≡ old
 MayDo (SyncDirectory path) old new = new ≡ old
+MayDo (Miss path) old new = new ≡ old
 MayDo call old new = (new ≡ old) ⊎ Does call old new
 
 -- the change by a call and its answer

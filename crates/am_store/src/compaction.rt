@@ -23,7 +23,9 @@
 
 ghost use Rattle.std.specs.Prelude.{◌≡◌, ℕ, List, [], false, Ok, IfOk, IfErr, OnOk};
 ghost use Rattle.am_store.specs.declared.stages.CompactionStage.TheVariants as stages;
-ghost use Rattle.am_store.specs.Rewrites.{Advances, Follows, IsRewritten, IsUnderWay, StopsRewriting, calls_of, is_left_at, path_of, stage_of, with_piece};
+ghost use Rattle.am_store.specs.Calls.{Event};
+ghost use Rattle.am_store.specs.Rewrites.{Advances, Follows, IsRewritten, IsUnderWay, StopsRewriting, is_left_at, path_of, stage_of, with_piece};
+ghost use Rattle.am_store.specs.Saves.{calls_of};
 
 use crate::beside::{OLD_LOG, beside};
 use crate::disk::Disk;
@@ -46,19 +48,15 @@ use std::rt::Files;
 #[derive(Drop)]
 pub struct Compaction<K> {
     stage: CompactionStage<K, SystemFile<File>>,
-    /// The calls so far.
-    calls: DiskCalls,
 }
 
 impl<K: Drop> Compaction<K> {
     /// Begins a compaction with nothing written yet. [`StateFile::part_logs`] has to have begun a new log before.
     pub fn new() -> Compaction<K>
-        ensures calls { calls_of result ≡ [] }
-        ensures stage { stage_of result ≡ stages.GiveBack }
+        ensures { stage_of result ≡ stages.GiveBack }
     {
         Compaction {
             stage: CompactionStage::GiveBack,
-            calls: DiskCalls::new(),
         }
     }
 }
@@ -84,19 +82,22 @@ where
     // PROMISE: Each step of writing a file anew is the one that follows.
     ensures next { OnOk result (Follows (stage_of compaction.old) (stage_of compaction.new)) }
     // PROMISE: It makes just the calls of its stage, and one that writes adds one piece of the state as it is then.
-    ensures come { (maps : List (List V)) → IsUnderWay V.seen V.Key.cmp (path_of file.old) most maps compaction.old →
-        OnOk result (IsUnderWay V.seen V.Key.cmp (path_of file.old) most (with_piece (stage_of compaction.old) held.now maps) compaction.new) }
+    ensures come { (maps : List (List V)) (before : List Event) →
+        IsUnderWay V.seen V.Key.cmp (path_of file.old) most maps (stage_of compaction.old) before (calls_of file.old) →
+        OnOk result (IsUnderWay V.seen V.Key.cmp (path_of file.old) most (with_piece (stage_of compaction.old) held.now maps) (stage_of compaction.new) before (calls_of file.new)) }
     // PROMISE: A file that is written anew in stretches has a piece of each state that it was written from, in order, and its calls are those of a save and then of the end of the old log.
-    ensures done { (maps : List (List V)) → IsUnderWay V.seen V.Key.cmp (path_of file.old) most maps compaction.old → result ≡ Ok false →
-        IsRewritten V.seen V.Key.cmp (path_of file.old) most (with_piece (stage_of compaction.old) held.now maps) (calls_of compaction.new) }
+    ensures done { (maps : List (List V)) (before : List Event) →
+        IsUnderWay V.seen V.Key.cmp (path_of file.old) most maps (stage_of compaction.old) before (calls_of file.old) → result ≡ Ok false →
+        IsRewritten V.seen V.Key.cmp (path_of file.old) most (with_piece (stage_of compaction.old) held.now maps) before (calls_of file.new) }
     // PROMISE: If that fails, its own new file is removed and nothing else, unless the new file has taken its place.
-    ensures stopped { (maps : List (List V)) → IsUnderWay V.seen V.Key.cmp (path_of file.old) most maps compaction.old →
-        IfErr result (StopsRewriting V.seen V.Key.cmp (path_of file.old) most held.now maps (calls_of compaction.new)) }
+    ensures stopped { (maps : List (List V)) (before : List Event) →
+        IsUnderWay V.seen V.Key.cmp (path_of file.old) most maps (stage_of compaction.old) before (calls_of file.old) →
+        IfErr result (StopsRewriting V.seen V.Key.cmp (path_of file.old) most held.now maps before (calls_of file.new)) }
 {
-    let mut disk = SystemDisk::after(rt, mem::replace(&mut compaction.calls, DiskCalls::new()));
+    let mut disk = SystemDisk::after(rt, mem::replace(&mut file.calls, DiskCalls::new()));
     let stage = mem::replace(&mut compaction.stage, CompactionStage::Done);
     let done = resume(rt, &mut disk, file, stage, held, most);
-    compaction.calls = disk.into_calls();
+    file.calls = disk.into_calls();
     match done {
         Ok(stage) => {
             let is_left = !matches!(stage, CompactionStage::Done);

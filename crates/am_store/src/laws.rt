@@ -1,6 +1,6 @@
 //! Laws about what a crash leaves of a save, and of a file that is written anew in stretches.
 
-ghost use Rattle.std.specs.Prelude.{◌≡◌, ◌⊎◌, ◌<◌, ◌^◌, ℕ, false, List, [], ◌++◌, All, Contains, length, Option, Some, None, codes};
+ghost use Rattle.std.specs.Prelude.{◌≡◌, ◌⊎◌, ◌<◌, ◌^◌, ℕ, Bool, false, List, [], ◌++◌, All, Contains, length, Option, Some, None, codes};
 ghost use Rattle.am_version_order.specs.Versions.{IsLive};
 ghost use Rattle.am_merge.specs.Maps.{IsJoin, IsMap, swept};
 ghost use Rattle.am_snapshot.specs.Encodings.{row_encoding};
@@ -73,26 +73,26 @@ pub fn each_sync_is_needed()
 /// the new one, whole; and after the end, the new one. The calls are those of the rewriting alone.
 pub fn a_crash_leaves_the_old_file_or_the_one_written_anew<V: Version>()
     // PROMISE: A crash at any moment while a file is written anew leaves the old file or the new one, whole.
-    ensures rewritten { (path : List ℕ) (most : ℕ) (maps : List (List V)) (old : Option (List ℕ)) (calls : List Event) (disk : Disk) (left : Remains) →
-        Keeps disk path old → (anew : IsRewritten V.seen V.Key.cmp path most maps calls) →
+    ensures rewritten { (path : List ℕ) (most : ℕ) (maps : List (List V)) (old : Option (List ℕ)) (before calls : List Event) (disk : Disk) (left : Remains) →
+        Keeps disk path old → (anew : IsRewritten V.seen V.Key.cmp path most maps before (before ++ calls)) →
         MayLeaveDuring calls disk left → (bytes_at left path ≡ old) ⊎ (bytes_at left path ≡ Some anew.row) }
-    ensures stopped { (path : List ℕ) (most : ℕ) (map : List V) (maps : List (List V)) (old : Option (List ℕ)) (calls : List Event) (fault : FileFault)
+    ensures stopped { (path : List ℕ) (most : ℕ) (map : List V) (maps : List (List V)) (old : Option (List ℕ)) (before calls : List Event) (fault : FileFault)
         (disk : Disk) (left : Remains) →
-        Keeps disk path old → (stops : StopsRewriting V.seen V.Key.cmp path most map maps calls fault) →
+        Keeps disk path old → (stops : StopsRewriting V.seen V.Key.cmp path most map maps before (before ++ calls) fault) →
         MayLeaveDuring calls disk left → (bytes_at left path ≡ old) ⊎ ((stops.place ≡ End) × (bytes_at left path ≡ Some stops.row)) }
     // PROMISE: After a file was written anew, a crash leaves the new file.
-    ensures done { (path : List ℕ) (most : ℕ) (maps : List (List V)) (calls : List Event) (disk new : Disk) → IsDirectoryOf path disk.directory →
-        (anew : IsRewritten V.seen V.Key.cmp path most maps calls) → Runs calls disk new → Keeps new path (Some anew.row) }
+    ensures done { (path : List ℕ) (most : ℕ) (maps : List (List V)) (before calls : List Event) (disk new : Disk) → IsDirectoryOf path disk.directory →
+        (anew : IsRewritten V.seen V.Key.cmp path most maps before (before ++ calls)) → Runs calls disk new → Keeps new path (Some anew.row) }
 {}
 
 /// States that a crash while a file is written anew leaves the old log or the new file: what the old file lacks isn't lost.
 pub fn no_crash_leaves_the_old_file_without_the_old_log<V: Version>()
     // PROMISE: No crash while a file is written anew leaves the old file without the old log.
-    ensures rewritten { (path : List ℕ) (most : ℕ) (maps : List (List V)) (calls : List Event) (disk : Disk) (left : Remains) →
-        IsDirectoryOf path disk.directory → Stays disk (old_log path) → (anew : IsRewritten V.seen V.Key.cmp path most maps calls) →
+    ensures rewritten { (path : List ℕ) (most : ℕ) (maps : List (List V)) (before calls : List Event) (disk : Disk) (left : Remains) →
+        IsDirectoryOf path disk.directory → Stays disk (old_log path) → (anew : IsRewritten V.seen V.Key.cmp path most maps before (before ++ calls)) →
         MayLeaveDuring calls disk left → bytes_at left (old_log path) ≡ None → bytes_at left path ≡ Some anew.row }
-    ensures stopped { (path : List ℕ) (most : ℕ) (map : List V) (maps : List (List V)) (calls : List Event) (fault : FileFault) (disk : Disk) (left : Remains) →
-        IsDirectoryOf path disk.directory → Stays disk (old_log path) → (stops : StopsRewriting V.seen V.Key.cmp path most map maps calls fault) →
+    ensures stopped { (path : List ℕ) (most : ℕ) (map : List V) (maps : List (List V)) (before calls : List Event) (fault : FileFault) (disk : Disk) (left : Remains) →
+        IsDirectoryOf path disk.directory → Stays disk (old_log path) → (stops : StopsRewriting V.seen V.Key.cmp path most map maps before (before ++ calls) fault) →
         MayLeaveDuring calls disk left → bytes_at left (old_log path) ≡ None → (stops.place ≡ End) × (bytes_at left path ≡ Some stops.row) }
 {}
 
@@ -116,16 +116,16 @@ pub fn no_crash_loses_a_version<V: Record>()
         InBatches V.seen (V.reads unknown) batches v → IsBeforeOrAfter batches batch (content_at left (own_log path)) →
         IsKept V.seen (V.reads unknown) path v left }
     // PROMISE: A crash while a file is written anew loses no version that no crash before would have lost, and that each state has from which the file is written: a start that succeeds has it, or a greater one of its key.
-    ensures outlasts { (unknown : Unknown) (path : List ℕ) (most : ℕ) (states : List (List V)) (calls : List Event) (disk : Disk) (v : V) →
+    ensures outlasts { (unknown : Unknown) (path : List ℕ) (most : ℕ) (states : List (List V)) (before calls : List Event) (disk : Disk) (v : V) →
         most < 2 ^ 32 → IsDirectoryOf path disk.directory → All (IsState V.seen V.Key.cmp V.Version.is_value V.plain unknown) states →
-        AreOfRewriting V.seen V.Key.cmp path most states calls →
+        AreOfRewriting V.seen V.Key.cmp path most states before (before ++ calls) →
         Outlasts V.seen (V.reads unknown) path v disk → All (HasAtLeast V.seen v) states →
         OutlastsDuring V.seen (V.reads unknown) path v calls disk }
     // PROMISE: After such a crash a start has no version that never was: each is in the log, or was in the file or its old log, or in a state from which the file is written.
-    ensures nothing_new { (unknown : Unknown) (path : List ℕ) (most : ℕ) (states : List (List V)) (calls : List Event) (disk : Disk) (left : Remains)
+    ensures nothing_new { (unknown : Unknown) (path : List ℕ) (most : ℕ) (states : List (List V)) (before calls : List Event) (disk : Disk) (left : Remains)
         (map : List V) (v : V) →
         most < 2 ^ 32 → IsDirectoryOf path disk.directory → All (IsState V.seen V.Key.cmp V.Version.is_value V.plain unknown) states →
-        AreOfRewriting V.seen V.Key.cmp path most states calls → MayLeaveDuring calls disk left →
+        AreOfRewriting V.seen V.Key.cmp path most states before (before ++ calls) → MayLeaveDuring calls disk left →
         StartsWith V.seen (V.reads unknown) path left map → Contains map v →
         IsKnown V.seen (V.reads unknown) path states disk left v }
     // PROMISE: Nor does a crash at any moment of a save lose a version, if the state that is saved has it, or a greater one of its key.
@@ -134,16 +134,16 @@ pub fn no_crash_loses_a_version<V: Record>()
         IsTried (FitsRow V.seen most state) path (row_encoding V.seen state) before (before ++ calls) fault →
         Outlasts V.seen (V.reads unknown) path v disk → HasAtLeast V.seen v state →
         OutlastsDuring V.seen (V.reads unknown) path v calls disk }
-    // PROMISE: Nor does a crash while the log becomes the old one, if none stands, and a new one is made: what outlasts a crash before outlasts one then.
+    // PROMISE: Nor does a crash while the log becomes the old one, once the system says that none stands, and a new one is made: what outlasts a crash before outlasts one then.
     ensures parted { (unknown : Unknown) (path : List ℕ) (before calls : List Event) (disk : Disk) (v : V) →
-        Keeps disk (old_log path) None → IsParted path before (before ++ calls) ⊎ StopsParting path before (before ++ calls) →
+        IsParted path before (before ++ calls) ⊎ StopsParting path before (before ++ calls) →
         Outlasts V.seen (V.reads unknown) path v disk → OutlastsDuring V.seen (V.reads unknown) path v calls disk }
     ensures written { (unknown : Unknown) (path : List ℕ) (state : List V) (disk : Disk) (v : V) →
         length (row_encoding V.seen state) < 2 ^ 64 → IsState V.seen V.Key.cmp V.Version.is_value V.plain unknown state →
         Keeps disk path (Some (row_encoding V.seen state)) → HasAtLeast V.seen v state → FileHas V.seen (V.reads unknown) path v disk }
-    // PROMISE: Nor does a crash while the logs are removed after a save, and a new one is made: what the file has, or a greater one of its key, is there.
-    ensures begun_anew { (unknown : Unknown) (path : List ℕ) (before calls : List Event) (disk : Disk) (v : V) →
-        IsAnew path before (before ++ calls) ⊎ StopsAnew path before (before ++ calls) →
+    // PROMISE: Nor does a crash while the logs are removed after a save, and a new one is made, if one is kept: what the file has, or a greater one of its key, is there.
+    ensures begun_anew { (unknown : Unknown) (path : List ℕ) (kept : Bool) (before calls : List Event) (disk : Disk) (v : V) →
+        IsAnew kept path before (before ++ calls) ⊎ StopsAnew path before (before ++ calls) →
         FileHas V.seen (V.reads unknown) path v disk → OutlastsDuring V.seen (V.reads unknown) path v calls disk }
     ensures after { (unknown : Unknown) (path : List ℕ) (calls : List Event) (disk new : Disk) (v : V) →
         Runs calls disk new → OutlastsDuring V.seen (V.reads unknown) path v calls disk → Outlasts V.seen (V.reads unknown) path v new }
