@@ -169,9 +169,9 @@ module _ (path row : List ℕ) (Q : Option (List ℕ) → Option (List ℕ) → 
     | inr earlier ↦ safe left (record { names = earlier; files = may.files })
   ]
 
-  removed : (disk next : Disk) → MayDo (Remove (beside path)) disk next → Safe disk → Safe next
-  removed disk next (inl same) safe = subst Safe (sym same) safe
-  removed disk next (inr does) safe =
+  pub new_removed : (disk next : Disk) → MayDo (Remove (beside path)) disk next → Safe disk → Safe next
+  new_removed disk next (inl same) safe = subst Safe (sym same) safe
+  new_removed disk next (inr does) safe =
       subst Safe (sym does.3) (more disk does.0 disk.created (does.2 path (apart path)) (does.2 (old_log path) (old_aside path)) (does.2 (own_log path) (own_aside path)) safe)
 
   made : (disk next : Disk) → MayDo (Make (beside path)) disk next → Safe disk → Safe next
@@ -240,8 +240,8 @@ module _ (path row : List ℕ) (Q : Option (List ℕ) → Option (List ℕ) → 
 
       removes : (done : Bool) (events : List Event) (disk : Disk) → Safe disk → ((next : Disk) → Safe next → MayLeaveDuring events next left → Fine left)
           → MayLeaveDuring ((Remove (beside path), done) ∷ events) disk left → Fine left
-      removes done events disk safe goes_on = either (Remove (beside path)) done events disk (λ next may. removed disk next may safe)
-          (λ next changes. goes_on next (removed disk next (removing (beside path) done disk next changes) safe))
+      removes done events disk safe goes_on = either (Remove (beside path)) done events disk (λ next may. new_removed disk next may safe)
+          (λ next changes. goes_on next (new_removed disk next (removing (beside path) done disk next changes) safe))
 
       ends : (disk : Disk) → Safe disk → (done : Bool) → MayLeaveDuring ((Remove (beside path), done) ∷ []) disk left → Fine left
       ends disk safe done = removes done [] disk safe (λ next still. still left)

@@ -16,8 +16,8 @@ use Rattle.am_store.specs.Blocks.{recovered}
 use Rattle.am_store.specs.Calls.{Call, Event, Remove, Make, Permit, Write, Sync, Rename, SyncDirectory, Miss}
 use Rattle.am_store.specs.Crashes.{Names, Disk, Remains, MayLeave, Does, MayDo, Changes, MayLeaveDuring, bytes_at, with_names}
 use Rattle.am_store.specs.Logs.{AreInBatches}
-use Rattle.am_store.specs.Outlasting.{FileHas, HasAtLeast, IsKept, Outlasts, content_at}
-use Rattle.am_store.specs.Parting.{AnewStop, BeginningStop, IsAnew, IsParted, NoneBegun, NoneRemoved, OldKept, OldUnsettled, OwnKept, PartingStop, RemovalStop, StopsAnew, StopsParting, Unbegun, Unmade, Unpermitted, Unremoved, Unrenamed, Unsettled, Unmissed, Unsynced, Untried, Untrusted, Unwritten, anew_until, beginning, beginning_until, parting_until, removing, removing_until, renewing}
+use Rattle.am_store.specs.Outlasting.{HasAtLeast, IsKept, Outlasts, content_at}
+use Rattle.am_store.specs.Parting.{AnewStop, AreOfParting, BeginningStop, IsAnew, NoneBegun, NoneRemoved, OldKept, OldUnsettled, OwnKept, PartingStop, RemovalStop, StopsAnew, Unbegun, Unmade, Unpermitted, Unremoved, Unrenamed, Unsettled, Unmissed, Unsynced, Untried, Untrusted, Unwritten, anew_until, beginning, beginning_until, parting_until, removing, removing_until, renewing}
 use Rattle.am_store.specs.Rewrites.{old_log, own_log}
 use Rattle.am_store.proofs.BlockLemmas.{recovered_none}
 use Rattle.am_store.proofs.Crashes.{logs_apart, old_apart, old_behind, own_apart}
@@ -230,14 +230,20 @@ module _ {K X : Type 0} (seen : X → Version K) (cmp : K → K → Ordering) (k
           part_left directory (Unbegun stop) may = missed ((Rename (own_log path) (old_log path), true) ∷ beginning_until stop path directory)
               (λ none still. goes_on none left (beginning_until stop path directory) (beginning_part_spares FileOrOld Has path directory own_spared stop) still) may
 
-          pub outlasts_parting : (before calls : List Event) → IsParted path before (before ++ calls) ⊎ StopsParting path before (before ++ calls)
-              → MayLeaveDuring calls disk left → Has left
+          pub outlasts_parting : (before calls : List Event) → AreOfParting path before (before ++ calls) → MayLeaveDuring calls disk left → Has left
           outlasts_parting before calls (inl parted) may =
               missed ((Rename (own_log path) (old_log path), true) ∷ beginning path parted.directory)
               (λ none still. goes_on none left (beginning path parted.directory) (beginning_spares FileOrOld Has path parted.directory own_spared) still)
               (subst (λ (events : List Event). MayLeaveDuring events disk left) (append_cancel_left before _ _ parted.calls) may)
-          outlasts_parting before calls (inr stops) may =
+          outlasts_parting before calls (inr (inl stops)) may =
               part_left stops.directory stops.stop (subst (λ (events : List Event). MayLeaveDuring events disk left) (append_cancel_left before _ _ stops.calls) may)
+          outlasts_parting before calls (inr (inr found)) may =
+              part_left [] Unmissed (subst (λ (events : List Event). MayLeaveDuring events disk left) (append_cancel_left before calls ((Miss (old_log path), false) ∷ []) found) may)
+
+-- whatever a crash leaves of the disk, a start reads the version, or a greater one of its key, in the file
+abbrev pub FileHas : {K X : Type 0} → (X → Version K) → (ℕ → List ℕ → Result X WireError) → List ℕ → X → Disk → Type 0
+FileHas {K} {X} seen reads path v disk =
+    (left : Remains) → MayLeave disk left → (versions : List X) → AreMessages reads (content_at left path) versions → HasAtLeast seen v versions
 
 -- ---- a log is begun anew
 module _ {K X : Type 0} (seen : X → Version K) (reads : ℕ → List ℕ → Result X WireError) (path : List ℕ) (v : X) (disk : Disk) (has : FileHas seen reads path v disk) where

@@ -1,8 +1,8 @@
 -- The calls of a parting, or of a beginning anew, that stopped.
-use Rattle.std.proofs.Common.{◌≡◌, ◌≢◌, ◌⊎◌, inl, inr, ⊎_elim, ℕ, zero, suc, ◌==◌, if◌then◌else◌, List, [], ◌∷◌, ◌++◌, length, codes, Option, Some, None, Result, Ok, Err, OnErr, refl, sym, ◌∙◌, ap, arith, append-nil, append_assoc}
+use Rattle.std.proofs.Common.{◌≡◌, ◌≢◌, ◌⊎◌, inl, inr, ⊎_elim, ℕ, zero, suc, ◌==◌, if◌then◌else◌, List, [], ◌∷◌, ◌++◌, length, codes, Option, Some, None, Result, Ok, Err, OnErr, OnOk, refl, sym, ◌∙◌, ap, arith, append-nil, append_assoc}
 use Rattle.std.proofs.lemmas.Bool.{cases_eq}
 use Rattle.am_store.specs.Calls.{Event}
-use Rattle.am_store.specs.Parting.{FailsToPart, IfLogKept, Untried}
+use Rattle.am_store.specs.Parting.{AreOfParting, FailsToPart, IfLogKept, MayPart, Untried}
 use Rattle.am_store.specs.Saves.{HasNoSlash, IsCut, IsDirectoryOf}
 use Rattle.am_store.specs.declared.log.StateLog.{StateLog}
 
@@ -42,6 +42,18 @@ has_directory path = ⊎_elim
     (λ none. (codes ".", inl (none, refl)))
     (λ it. (if length it.0 == 0 then codes "/" else it.0, inr (it.0, it.1, it.2, refl)))
     (cut_or_not path)
+
+-- ---- a parting, whatever comes of it
+pub of_part : {A E : Type 0} (r : Result A E) (path : List ℕ) (before after : List Event) (old new : StateLog)
+    → OnOk r (MayPart path before after old new) → OnErr r (FailsToPart path before after old new) → AreOfParting path before after
+of_part (Ok x) path before after old new (inl parts) stops = inl parts.parted
+of_part (Ok x) path before after old new (inr found) stops = inr (inr found)
+of_part (Err e) path before after old new parts fails = inr (inl fails.stops)
+
+pub none_parted : (path : List ℕ) (events : List Event) → AreOfParting path events events
+none_parted path events =
+    let its = has_directory path in
+    inr (inl (record { stop = Untried; directory = its.0; standing = its.1; calls = sym (append-nil events) }))
 
 -- ---- nothing is called
 pub unparted : (path : List ℕ) (events : List Event) (log : Option StateLog) → IfLogKept (FailsToPart path) events events log log

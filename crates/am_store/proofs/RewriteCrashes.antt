@@ -8,7 +8,7 @@ use Rattle.am_store.specs.Rewrites.{HasWhole, Place, End, RewritingStop, Unsaved
 use Rattle.am_store.proofs.Crashes.{Fine, Safe, is_done, is_saved, is_stopped, log_ends, log_may_end, log_removed, removing, right_after, settled}
 
 -- a crash during calls comes during the first ones, or once these are made
-during : (first second : List Event) (disk : Disk) (left : Remains) → MayLeaveDuring (first ++ second) disk left
+pub during : (first second : List Event) (disk : Disk) (left : Remains) → MayLeaveDuring (first ++ second) disk left
     → MayLeaveDuring first disk left ⊎ ((mid : Disk) × Runs first disk mid × MayLeaveDuring second mid left)
 during [] second disk left may = inr (disk, refl, may)
 during ((call, done) ∷ events) second disk left (inl now) = inl (inl now)

@@ -17,16 +17,16 @@ use Rattle.am_snapshot.proofs.ReadAgain.{IsReadBack}
 use Rattle.am_store.specs.Blocks.{recovered}
 use Rattle.am_store.specs.Calls.{Event, Remove, Make, Sync, Rename, SyncDirectory}
 use Rattle.am_store.specs.Crashes.{Disk, Remains, Keeps, MayLeave, MayLeaveDuring, bytes_at}
-use Rattle.am_store.specs.Saves.{IsDirectoryOf, IsTried, Name, Row, Unnamed, Unreplaced, Unsettled, beside, replacing, saving}
-use Rattle.am_store.specs.declared.file_fault.FileFault.{FileFault}
+use Rattle.am_store.specs.Saves.{IsDirectoryOf, Name, Row, Stop, Unnamed, Unreplaced, Unsettled, beside, replacing, saving, saving_until}
 use Rattle.am_store.specs.declared.stages.CompactionStage.{CompactionStage}
 use Rattle.am_store.specs.declared.stages.CompactionStage.TheVariants as stages
 use Rattle.am_store.specs.Rewrites.{AreOfRewriting, First, End, Has, HasWhole, IsCause, IsWritten, Place, RewritingStop, LogUnnamed, LogKept, LogUnsettled, Unsaved, calls_before, making, new_bytes, old_log, own_log, place_from, place_of, rewriting, rewriting_until}
 use Rattle.am_store.specs.Logs.{AreInBatches}
-use Rattle.am_store.specs.Outlasting.{FileHas, HasAtLeast, IsKept, IsKnown, IsState, Outlasts, StartsWith, content_at}
-use Rattle.am_store.proofs.Crashes.{Fine, is_saved, is_stopped}
+use Rattle.am_store.specs.Outlasting.{HasAtLeast, IsKept, IsKnown, IsState, Outlasts, StartsWith, content_at}
+use Rattle.am_store.proofs.Crashes.{Fine, is_saved, is_stopped, new_removed, removing}
 use Rattle.am_store.proofs.BlockLemmas.{recovered_none}
 use Rattle.am_store.proofs.Outlasting.{IsOf, Reaches, none_held, of_row, pieces_of, same_start}
+use Rattle.am_store.proofs.Parting.{FileHas}
 use Rattle.am_store.proofs.ReadRows.{read_same}
 use Rattle.am_store.proofs.RewriteCrashes.{leaves_new, log_covers, sooner}
 
@@ -156,25 +156,43 @@ file_has seen cmp is_value plain unknown reads back path state disk v small is k
 -- ---- what a start has after a save
 module _ {K X : Type 0} (seen : X → Version K) (cmp : K → K → Ordering) (is_value : X → Type 0) (plain : X → X) (unknown : Unknown)
     (reads : ℕ → List ℕ → Result X WireError) (back : (v : X) → is_value v × StaysWhole plain unknown v → IsReadBack seen reads v)
-    (path : List ℕ) (fits : Type 0) (state : List X) (earlier calls : List Event) (fault : FileFault) (disk : Disk) (left : Remains)
+    (path : List ℕ) (state : List X) (disk : Disk) (left : Remains)
     (small : length (row_encoding seen state) < 2 ^ 64) (is : IsState seen cmp is_value plain unknown state) where
+  abbrev row : List ℕ
+  row = row_encoding seen state
+
   abbrev BeforeOrNew : Option (List ℕ) → Option (List ℕ) → Option (List ℕ) → Type 0
-  BeforeOrNew found there log = AsBefore path disk found there log ⊎ (found ≡ Some (row_encoding seen state))
+  BeforeOrNew found there log = AsBefore path disk found there log ⊎ (found ≡ Some row)
 
-  save_leaves : IsTried fits path (row_encoding seen state) earlier (earlier ++ calls) fault → MayLeaveDuring calls disk left → Fine path (row_encoding seen state) BeforeOrNew left
-  save_leaves (inl stopped) may =
-      is_stopped path (row_encoding seen state) BeforeOrNew (λ found there log new. inr refl) left stopped.stop stopped.stood stopped.removed disk (λ l m. inl (before path disk l m))
-      (subst (λ (events : List Event). MayLeaveDuring events disk left) (append_cancel_left earlier _ _ stopped.calls) may)
-  save_leaves (inr saved) may =
-      is_saved path (row_encoding seen state) BeforeOrNew (λ found there log new. inr refl) left saved.stood saved.directory disk (λ l m. inl (before path disk l m))
-      (subst (λ (events : List Event). MayLeaveDuring events disk left) (append_cancel_left earlier _ _ saved.calls) may)
-
-  pub outlasts_save : IsTried fits path (row_encoding seen state) earlier (earlier ++ calls) fault → MayLeaveDuring calls disk left → (v : X) → Outlasts seen reads path v disk → HasAtLeast seen v state → IsKept seen reads path v left
-  outlasts_save tried may v safe has map starts = ⊎_elim
+  keeps : Fine path row BeforeOrNew left → (v : X) → Outlasts seen reads path v disk → HasAtLeast seen v state → IsKept seen reads path v left
+  keeps fine v safe has map starts = ⊎_elim
       (λ old. safe old.earlier old.might map (same_start seen reads path old.earlier left map old.file old.first old.second starts))
-      (λ new. of_row seen reads path v left map starts (subst (HasAtLeast seen v) (sym (row_read_again seen reads path left map starts (row_encoding seen state) state new refl small
+      (λ new. of_row seen reads path v left map starts (subst (HasAtLeast seen v) (sym (row_read_again seen reads path left map starts row state new refl small
       (λ k d lt. back (get_or state k d) (is.values k d lt, is.whole k d lt)))) has))
-      (save_leaves tried may)
+      fine
+
+  pub outlasts_saved : (stood : Bool) (directory : List ℕ) → MayLeaveDuring (saving stood path directory row) disk left → (v : X) → Outlasts seen reads path v disk → HasAtLeast seen v state
+      → IsKept seen reads path v left
+  outlasts_saved stood directory may =
+      keeps (is_saved path row BeforeOrNew (λ found there log new. inr refl) left stood directory disk (λ l m. inl (before path disk l m)) may)
+
+  pub outlasts_stopped : (stop : Stop) (stood removed : Bool) → MayLeaveDuring (saving_until stop stood removed path row) disk left → (v : X) → Outlasts seen reads path v disk → HasAtLeast seen v state
+      → IsKept seen reads path v left
+  outlasts_stopped stop stood removed may =
+      keeps (is_stopped path row BeforeOrNew (λ found there log new. inr refl) left stop stood removed disk (λ l m. inl (before path disk l m)) may)
+
+-- ---- what a start has after the new file is removed
+module _ {K X : Type 0} (seen : X → Version K) (reads : ℕ → List ℕ → Result X WireError) (path : List ℕ) (v : X) (disk : Disk) (left : Remains) where
+  removed_leaves : (done : Bool) → MayLeaveDuring ((Remove (beside path), done) ∷ []) disk left → Fine path [] (AsBefore path disk) left
+  removed_leaves done may = ⊎_elim
+      (λ it. new_removed path [] (AsBefore path disk) disk it.0 it.1 (before path disk) left it.2)
+      (λ it. new_removed path [] (AsBefore path disk) disk it.0 (removing (beside path) done disk it.0 it.1) (before path disk) left it.2)
+      may
+
+  pub outlasts_drop : (done : Bool) → MayLeaveDuring ((Remove (beside path), done) ∷ []) disk left → Outlasts seen reads path v disk → IsKept seen reads path v left
+  outlasts_drop done may safe map starts =
+      let old = removed_leaves done may in
+      safe old.earlier old.might map (same_start seen reads path old.earlier left map old.file old.first old.second starts)
 
 -- ---- what a start has
 module _ {K X : Type 0} (seen : X → Version K) (cmp : K → K → Ordering) (keys : IsKeyOrder cmp) (is_value : X → Type 0) (plain : X → X) (unknown : Unknown)

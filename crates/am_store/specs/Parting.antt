@@ -76,6 +76,10 @@ pub record StopsParting (path : List ℕ) (before after : List Event) : Type 0 w
   pub standing : IsDirectoryOf path directory
   pub calls : after ≡ before ++ parting_until stop path directory
 
+-- these are the calls of a parting, whether it was done or not, or of finding that the old log stands, after those before
+abbrev pub AreOfParting : List ℕ → List Event → List Event → Type 0
+AreOfParting path before after = IsParted path before after ⊎ StopsParting path before after ⊎ (after ≡ before ++ (Miss (old_log path), false) ∷ [])
+
 -- ---- a beginning anew: both logs are removed, and there is a new FILE.log, if one is kept
 -- the calls by which both are removed, the older one for good; whether they stood makes no difference
 abbrev pub removing : Bool → Bool → List ℕ → List ℕ → List Event

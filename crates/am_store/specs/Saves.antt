@@ -121,7 +121,3 @@ pub record IsStopped (fits : Type 0) (path row : List ℕ) (before after : List 
 -- the new file is removed, unless there is no memory for its name: these are the calls, after those before
 abbrev pub DropsNew : List ℕ → List Event → List Event → Type 0
 DropsNew path before after = (after ≡ before) ⊎ ((removed : Bool) × (after ≡ before ++ (Remove (beside path), removed) ∷ []))
-
--- a save stops, or it is done, and something that comes after it fails
-abbrev pub IsTried : Type 0 → List ℕ → List ℕ → List Event → List Event → FileFault → Type 0
-IsTried fits path row before after fault = IsStopped fits path row before after fault ⊎ IsSaved path row before after

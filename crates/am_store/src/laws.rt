@@ -1,19 +1,23 @@
 //! Laws about what a crash leaves of a save, and of a file that is written anew in stretches.
 
-ghost use Rattle.std.specs.Prelude.{◌≡◌, ◌⊎◌, ◌<◌, ◌^◌, ℕ, Bool, false, List, [], ◌++◌, All, Contains, length, Option, Some, None, codes};
+ghost use Rattle.std.specs.Prelude.{◌≡◌, ◌⊎◌, ◌<◌, ◌^◌, ℕ, false, List, [], ◌++◌, All, Contains, length, Option, Some, None, codes};
 ghost use Rattle.am_version_order.specs.Versions.{IsLive};
 ghost use Rattle.am_merge.specs.Maps.{IsJoin, IsMap, swept};
 ghost use Rattle.am_snapshot.specs.Encodings.{row_encoding};
 ghost use Rattle.am_snapshot.specs.Saving.{FitsRow};
+ghost use Rattle.std.specs.declared.fs.File.{File};
 ghost use Rattle.am_store.specs.declared.file_fault.FileFault.{FileFault};
+ghost use Rattle.am_store.specs.declared.stages.CompactionStage.{CompactionStage};
+ghost use Rattle.am_store.specs.declared.stages.CompactionStage.TheVariants as stages;
+ghost use Rattle.am_store.specs.declared.system.SystemFile.{SystemFile};
 ghost use Rattle.am_wire.specs.declared.unknown.Unknown.{Unknown};
 ghost use Rattle.am_store.specs.Blocks.{IsBeforeOrAfter};
 ghost use Rattle.am_store.specs.Calls.{Event};
-ghost use Rattle.am_store.specs.Saves.{IsDirectoryOf, IsSaved, IsStopped, IsTried, saving};
+ghost use Rattle.am_store.specs.Saves.{IsDirectoryOf, IsSaved, IsStopped, saving};
 ghost use Rattle.am_store.specs.Crashes.{Disk, Remains, Keeps, MayLeave, MayLeaveDuring, Runs, Stays, bytes_at};
-ghost use Rattle.am_store.specs.Outlasting.{FileHas, HasAtLeast, InBatches, IsKept, IsKnown, IsState, Outlasts, OutlastsDuring, Stands, StartsWith, content_at};
-ghost use Rattle.am_store.specs.Parting.{IsAnew, IsParted, StopsAnew, StopsParting};
-ghost use Rattle.am_store.specs.Rewrites.{AreOfRewriting, End, IsRewritten, IsWritten, StopsRewriting, old_log, own_log};
+ghost use Rattle.am_store.specs.Outlasting.{HasAtLeast, InBatches, IsKept, IsKnown, IsState, Outlasts, OutlastsDuring, Stands, StartsWith, content_at};
+ghost use Rattle.am_store.specs.Histories.{Act, AreOf, AreOfAll, OfStates, Rewrite};
+ghost use Rattle.am_store.specs.Rewrites.{AreOfRewriting, End, IsRewritten, IsWritten, IsUnderWay, StopsRewriting, old_log, own_log};
 ghost use Rattle.am_store.specs.UnsyncedSaves.{one_file, without_the_file, without_the_directory};
 
 use am_version_order::Version;
@@ -103,11 +107,11 @@ pub fn pieces_of_one_map_are_its_row<V: Version>()
         IsWritten V.seen V.Key.cmp maps row End → row ≡ row_encoding V.seen map }
 {}
 
-/// States that no crash loses a version while a log is parted or begun anew, or a file is written anew or saved, whenever it
-/// comes. To have a version is to have it, or a greater one of its key. What stands in the file or a log after any crash outlasts
-/// a crash; and what outlasts one before a log is parted, or a file is written anew, outlasts one while it is, and after it, if
-/// each state has it from which the file is written. What the file has outlasts a crash while its logs are removed. A log that
-/// is written meanwhile isn't synced, as far as these disks know, and may hold anything: what it acknowledged is in it.
+/// States that no crash loses a version over a history of acts: files are saved and their logs begun anew, logs are parted, and
+/// files written anew, one behind the other, and each may stop. To have a version is to have it, or a greater one of its key. What
+/// stands in the file or a log after any crash outlasts a crash; and what outlasts one before a history outlasts one while it is
+/// made, and after it, if each state has it that is saved, or from which the file is written. A log that is written meanwhile
+/// isn't synced, as far as these disks know, and may hold anything: what it acknowledged is in it.
 pub fn no_crash_loses_a_version<V: Record>()
     ensures stands { (unknown : Unknown) (path : List ℕ) (v : V) (left : Remains) →
         Stands V.seen (V.reads unknown) path v left → IsKept V.seen (V.reads unknown) path v left }
@@ -115,38 +119,32 @@ pub fn no_crash_loses_a_version<V: Record>()
     ensures acknowledged { (unknown : Unknown) (path : List ℕ) (batches : List (List ℕ)) (batch : List ℕ) (v : V) (left : Remains) →
         InBatches V.seen (V.reads unknown) batches v → IsBeforeOrAfter batches batch (content_at left (own_log path)) →
         IsKept V.seen (V.reads unknown) path v left }
-    // PROMISE: A crash while a file is written anew loses no version that no crash before would have lost, and that each state has from which the file is written: a start that succeeds has it, or a greater one of its key.
-    ensures outlasts { (unknown : Unknown) (path : List ℕ) (most : ℕ) (states : List (List V)) (before calls : List Event) (disk : Disk) (v : V) →
-        most < 2 ^ 32 → IsDirectoryOf path disk.directory → All (IsState V.seen V.Key.cmp V.Version.is_value V.plain unknown) states →
-        AreOfRewriting V.seen V.Key.cmp path most states before (before ++ calls) →
-        Outlasts V.seen (V.reads unknown) path v disk → All (HasAtLeast V.seen v) states →
+    // PROMISE: Over a whole history of saves, partings and rewritings, each done or stopped, one behind the other, a crash at any moment loses no version that no crash before would have lost, and that each state has that is saved or rewritten meanwhile: a start that succeeds has it, or a greater one of its key.
+    ensures outlasts { (unknown : Unknown) (path : List ℕ) (most : ℕ) (acts : List (Act V)) (before calls : List Event) (disk : Disk) (v : V) →
+        most < 2 ^ 32 → IsDirectoryOf path disk.directory → OfStates (λ (state : List V). length (row_encoding V.seen state) < 2 ^ 64) acts →
+        OfStates (IsState V.seen V.Key.cmp V.Version.is_value V.plain unknown) acts →
+        AreOfAll V.seen V.Key.cmp path most acts before (before ++ calls) →
+        Outlasts V.seen (V.reads unknown) path v disk → OfStates (HasAtLeast V.seen v) acts →
         OutlastsDuring V.seen (V.reads unknown) path v calls disk }
-    // PROMISE: After such a crash a start has no version that never was: each is in the log, or was in the file or its old log, or in a state from which the file is written.
+    // PROMISE: After a crash while a file is written anew a start has no version that never was: each is in the log, or was in the file or its old log, or in a state from which the file is written.
     ensures nothing_new { (unknown : Unknown) (path : List ℕ) (most : ℕ) (states : List (List V)) (before calls : List Event) (disk : Disk) (left : Remains)
         (map : List V) (v : V) →
         most < 2 ^ 32 → IsDirectoryOf path disk.directory → All (IsState V.seen V.Key.cmp V.Version.is_value V.plain unknown) states →
         AreOfRewriting V.seen V.Key.cmp path most states before (before ++ calls) → MayLeaveDuring calls disk left →
         StartsWith V.seen (V.reads unknown) path left map → Contains map v →
         IsKnown V.seen (V.reads unknown) path states disk left v }
-    // PROMISE: Nor does a crash at any moment of a save lose a version, if the state that is saved has it, or a greater one of its key.
-    ensures saved { (unknown : Unknown) (path : List ℕ) (most : ℕ) (state : List V) (before calls : List Event) (fault : FileFault) (disk : Disk) (v : V) →
-        length (row_encoding V.seen state) < 2 ^ 64 → IsState V.seen V.Key.cmp V.Version.is_value V.plain unknown state →
-        IsTried (FitsRow V.seen most state) path (row_encoding V.seen state) before (before ++ calls) fault →
-        Outlasts V.seen (V.reads unknown) path v disk → HasAtLeast V.seen v state →
-        OutlastsDuring V.seen (V.reads unknown) path v calls disk }
-    // PROMISE: Nor does a crash while the log becomes the old one, once the system says that none stands, and a new one is made: what outlasts a crash before outlasts one then.
-    ensures parted { (unknown : Unknown) (path : List ℕ) (before calls : List Event) (disk : Disk) (v : V) →
-        IsParted path before (before ++ calls) ⊎ StopsParting path before (before ++ calls) →
-        Outlasts V.seen (V.reads unknown) path v disk → OutlastsDuring V.seen (V.reads unknown) path v calls disk }
-    ensures written { (unknown : Unknown) (path : List ℕ) (state : List V) (disk : Disk) (v : V) →
-        length (row_encoding V.seen state) < 2 ^ 64 → IsState V.seen V.Key.cmp V.Version.is_value V.plain unknown state →
-        Keeps disk path (Some (row_encoding V.seen state)) → HasAtLeast V.seen v state → FileHas V.seen (V.reads unknown) path v disk }
-    // PROMISE: Nor does a crash while the logs are removed after a save, and a new one is made, if one is kept: what the file has, or a greater one of its key, is there.
-    ensures begun_anew { (unknown : Unknown) (path : List ℕ) (kept : Bool) (before calls : List Event) (disk : Disk) (v : V) →
-        IsAnew kept path before (before ++ calls) ⊎ StopsAnew path before (before ++ calls) →
-        FileHas V.seen (V.reads unknown) path v disk → OutlastsDuring V.seen (V.reads unknown) path v calls disk }
     ensures after { (unknown : Unknown) (path : List ℕ) (calls : List Event) (disk new : Disk) (v : V) →
         Runs calls disk new → OutlastsDuring V.seen (V.reads unknown) path v calls disk → Outlasts V.seen (V.reads unknown) path v new }
+{}
+
+/// States that a rewriting begins with nothing written and nothing called, so that each of its stretches is an act of a history,
+/// behind what was done before.
+pub fn a_rewriting_is_an_act<V: Version>()
+    ensures begins { (path : List ℕ) (most : ℕ) (before : List Event) → IsUnderWay V.seen V.Key.cmp path most [] stages.GiveBack before before }
+    ensures under_way { (path : List ℕ) (most : ℕ) (maps : List (List V)) (stage : CompactionStage V.Key (SystemFile File)) (before after : List Event) →
+        IsUnderWay V.seen V.Key.cmp path most maps stage before after → AreOf V.seen V.Key.cmp path most (Rewrite maps) before after }
+    ensures stopped { (path : List ℕ) (most : ℕ) (map : List V) (maps : List (List V)) (before after : List Event) (fault : FileFault) →
+        StopsRewriting V.seen V.Key.cmp path most map maps before after fault → AreOf V.seen V.Key.cmp path most (Rewrite maps) before after }
 {}
 
 /// States that a state keeps a version, or a greater one of its key, as it takes others and is swept, unless the one that it

@@ -4,7 +4,8 @@ ghost use Rattle.std.specs.Prelude.{◌≡◌, false, is_some, IfErr, IfOk, IfSo
 ghost use Rattle.am_snapshot.specs.Encodings.{row_encoding};
 ghost use Rattle.am_snapshot.specs.Saving.{FitsRow};
 ghost use Rattle.am_store.specs.Appending.{Appends, Commits, IfKept, IsBegunAnew, IsNotTrusted, log_of, rows_if_kept, trusted};
-ghost use Rattle.am_store.specs.Parting.{EndsLogs, FailsToPart, FailsToSave, IfLogKept, IsAnew, IsSavedAnew, MayPart, OfLog, Opens, StopsAnew, keeps_log};
+ghost use Rattle.am_store.specs.Histories.{AreOf, Part, Save};
+ghost use Rattle.am_store.specs.Parting.{AreOfParting, EndsLogs, FailsToPart, FailsToSave, IfLogKept, IsAnew, IsSavedAnew, MayPart, OfLog, Opens, StopsAnew, keeps_log};
 ghost use Rattle.am_store.specs.Rewrites.{path_of};
 ghost use Rattle.am_store.specs.Saves.{DropsNew, IsSaved, IsStopped, calls_of};
 
@@ -165,6 +166,7 @@ fn part_log_beside<R: Files<File = File>>(
     ensures waiting { IfKept (λ old new. new.waiting ≡ old.waiting) (rows_if_kept log.old) (rows_if_kept log.new) }
     ensures parted { OnOk result (IfLogKept (MayPart path.now) disk.old.log.events disk.new.log.events log.old log.new) }
     ensures stopped { OnErr result (IfLogKept (FailsToPart path.now) disk.old.log.events disk.new.log.events log.old log.new) }
+    ensures act { AreOfParting path.now disk.old.log.events disk.new.log.events }
 {
     match log {
         Some(log) => log.part(disk, alloc, path),
@@ -209,6 +211,8 @@ impl StateFile {
         ensures saved { OnOk result (IsSavedAnew (keeps_log self.new) (path_of self.old) (row_encoding V.seen held.now) (calls_of self.old) (calls_of self.new)) }
         // PROMISE: If a save stops, its logs are as they were; and if a log can't be begun anew after it, it is no longer trusted.
         ensures failed { IfErr result (FailsToSave (FitsRow V.seen most held.now) (row_encoding V.seen held.now) self.old self.new) }
+        // PROMISE: So each save is an act of a history, behind what was done before, whether it is done or stops.
+        ensures act { AreOf V.seen V.Key.cmp (path_of self.old) most (Save held.now) (calls_of self.old) (calls_of self.new) }
     {
         // (want of room may be the reason for this save)
         self.spent.close();
@@ -270,6 +274,7 @@ impl StateFile {
         // PROMISE: Before a file is written anew, its log becomes the old one, if the system says that none stands, and a new one is made and is on the disk.
         ensures parted { OnOk result (OfLog (MayPart (path_of self.old)) self.old self.new) }
         ensures stopped { OnErr result (OfLog (FailsToPart (path_of self.old)) self.old self.new) }
+        ensures act { AreOf V.seen V.Key.cmp (path_of self.old) most Part (calls_of self.old) (calls_of self.new) }
     {
         let Some(bytes) = row_length_within(held, most) else {
             return Err(FileFault::Snapshot(SnapshotError::TooLarge));
