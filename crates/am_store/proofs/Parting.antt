@@ -14,7 +14,7 @@ use Rattle.am_merge.proofs.Keys.{IsKeyOrder}
 use Rattle.am_snapshot.proofs.Bests.{IsBestAt, IsBestAt-nil, IsBestAt-more, holds_best}
 use Rattle.am_store.specs.Blocks.{recovered}
 use Rattle.am_store.specs.Calls.{Call, Event, Remove, Make, Permit, Write, Sync, Rename, SyncDirectory, Miss}
-use Rattle.am_store.specs.Crashes.{Names, Disk, Remains, MayLeave, Does, MayDo, Changes, MayLeaveDuring, bytes_at, with_names}
+use Rattle.am_store.specs.Crashes.{Agrees, Names, Disk, Remains, MayLeave, Does, MayDo, Changes, MayLeaveDuring, bytes_at, with_names}
 use Rattle.am_store.specs.Logs.{AreInBatches}
 use Rattle.am_store.specs.Outlasting.{HasAtLeast, IsKept, Outlasts, content_at}
 use Rattle.am_store.specs.Parting.{AnewStop, AreOfParting, BeginningStop, IsAnew, NoneBegun, NoneRemoved, OldKept, OldUnsettled, OwnKept, PartingStop, RemovalStop, StopsAnew, Unbegun, Unmade, Unpermitted, Unremoved, Unrenamed, Unsettled, Unmissed, Unsynced, Untried, Untrusted, Unwritten, anew_until, beginning, beginning_until, parting_until, removing, removing_until, renewing}
@@ -25,9 +25,9 @@ use Rattle.am_store.proofs.Outlasting.{of_best, of_row}
 
 -- ---- calls that leave what is at some paths
 module _ (Keep : List ℕ → Type 0) (F : Remains → Type 0) where
-  -- each file that is synced has its bytes
+  -- each file agrees with what is known of it
   abbrev pub HasFiles : Disk → Remains → Type 0
-  HasFiles disk left = (file : ℕ) → IfSome (disk.synced file) (λ bytes. left.bytes file ≡ bytes)
+  HasFiles disk left = (file : ℕ) → IfSome (disk.known file) (λ known. Agrees known (left.bytes file))
 
   -- F holds whatever a crash leaves, and wherever the same files are at these paths
   pub record Fits (disk : Disk) : Type 0 where

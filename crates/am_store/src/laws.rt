@@ -14,7 +14,7 @@ ghost use Rattle.am_wire.specs.declared.unknown.Unknown.{Unknown};
 ghost use Rattle.am_store.specs.Blocks.{IsBeforeOrAfter};
 ghost use Rattle.am_store.specs.Calls.{Event};
 ghost use Rattle.am_store.specs.Saves.{IsDirectoryOf, IsSaved, IsStopped, saving};
-ghost use Rattle.am_store.specs.Crashes.{Disk, Remains, Keeps, MayLeave, MayLeaveDuring, Runs, Stays, bytes_at};
+ghost use Rattle.am_store.specs.Crashes.{AtLeast, Disk, Exactly, IsAmong, Names, Remains, Keeps, MayLeave, MayLeaveDuring, Runs, Stays, bytes_at, moments};
 ghost use Rattle.am_store.specs.Outlasting.{HasAtLeast, InBatches, IsKept, IsKnown, IsState, Outlasts, OutlastsDuring, Stands, StartsWith, content_at};
 ghost use Rattle.am_store.specs.Histories.{Act, AreOf, AreOfAll, OfStates, Rewrite};
 ghost use Rattle.am_store.specs.Rewrites.{AreOfRewriting, End, IsRewritten, IsWritten, IsUnderWay, StopsRewriting, old_log, own_log};
@@ -58,7 +58,7 @@ pub fn a_save_adds_its_own_file_alone<V: Version>()
 /// States that a crash leaves a file that is synced, if its directory is synced, too, and no file where none was then.
 pub fn what_is_synced_is_kept()
     ensures there { (path bytes : List ℕ) (file : ℕ) (disk : Disk) → disk.earlier ≡ [] → disk.names path ≡ Some file →
-        disk.synced file ≡ Some bytes → Keeps disk path (Some bytes) }
+        disk.known file ≡ Some (Exactly bytes) → Keeps disk path (Some bytes) }
     ensures absent { (path : List ℕ) (disk : Disk) → disk.earlier ≡ [] → disk.names path ≡ None → Keeps disk path None }
 {}
 
@@ -110,8 +110,8 @@ pub fn pieces_of_one_map_are_its_row<V: Version>()
 /// States that no crash loses a version over a history of acts: files are saved and their logs begun anew, logs are parted, and
 /// files written anew, one behind the other, and each may stop. To have a version is to have it, or a greater one of its key. What
 /// stands in the file or a log after any crash outlasts a crash; and what outlasts one before a history outlasts one while it is
-/// made, and after it, if each state has it that is saved, or from which the file is written. A log that is written meanwhile
-/// isn't synced, as far as these disks know, and may hold anything: what it acknowledged is in it.
+/// made, and after it, if each state has it that is saved, or from which the file is written. Of a log that is written meanwhile
+/// these disks know at most that it has the batches that it had acknowledged before.
 pub fn no_crash_loses_a_version<V: Record>()
     ensures stands { (unknown : Unknown) (path : List ℕ) (v : V) (left : Remains) →
         Stands V.seen (V.reads unknown) path v left → IsKept V.seen (V.reads unknown) path v left }
@@ -119,6 +119,10 @@ pub fn no_crash_loses_a_version<V: Record>()
     ensures acknowledged { (unknown : Unknown) (path : List ℕ) (batches : List (List ℕ)) (batch : List ℕ) (v : V) (left : Remains) →
         InBatches V.seen (V.reads unknown) batches v → IsBeforeOrAfter batches batch (content_at left (own_log path)) →
         IsKept V.seen (V.reads unknown) path v left }
+    // PROMISE: What a log acknowledged outlasts a crash, as long as its file has the log's name, whatever is appended to it.
+    ensures logged { (unknown : Unknown) (path : List ℕ) (batches : List (List ℕ)) (file : ℕ) (disk : Disk) (v : V) →
+        InBatches V.seen (V.reads unknown) batches v → disk.known file ≡ Some (AtLeast batches) →
+        ((names : Names) → IsAmong names (moments disk) → names (own_log path) ≡ Some file) → Outlasts V.seen (V.reads unknown) path v disk }
     // PROMISE: Over a whole history of saves, partings and rewritings, each done or stopped, one behind the other, a crash at any moment loses no version that no crash before would have lost, and that each state has that is saved or rewritten meanwhile: a start that succeeds has it, or a greater one of its key.
     ensures outlasts { (unknown : Unknown) (path : List ℕ) (most : ℕ) (acts : List (Act V)) (before calls : List Event) (disk : Disk) (v : V) →
         most < 2 ^ 32 → IsDirectoryOf path disk.directory → OfStates (λ (state : List V). length (row_encoding V.seen state) < 2 ^ 64) acts →
