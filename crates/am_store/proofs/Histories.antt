@@ -1,8 +1,9 @@
 -- A start after a crash during a history of acts.
-use Rattle.std.proofs.Common.{◌≡◌, ◌⊎◌, inl, inr, ⊎_elim, ℕ, ◌<◌, ◌^◌, Bool, true, false, List, [], ◌∷◌, ◌++◌, length, Result, sym, ◌∙◌, ap, subst, append-nil, append_assoc}
+use Rattle.std.specs.Prelude.{Contains}
+use Rattle.std.proofs.Common.{◌≡◌, ◌⊎◌, inl, inr, ⊎_elim, ℕ, ◌<◌, ◌^◌, Bool, true, false, List, [], ◌∷◌, ◌++◌, length, Option, unwrap_or, Result, sym, ◌∙◌, ap, subst, append-nil, append_assoc}
 use Rattle.std.specs.List.{All}
 use Rattle.std.proofs.lemmas.List.{append_cancel_left}
-use Rattle.std.proofs.lemmas.List.Elements.{All-head, All-tail}
+use Rattle.std.proofs.lemmas.List.Elements.{All-head, All-tail, Contains-append_cases}
 use Rattle.std.specs.declared.cmp.Ordering.{Ordering}
 use Rattle.am_version_order.specs.Versions.{Version}
 use Rattle.am_wire.specs.declared.error.WireError.{WireError}
@@ -12,16 +13,17 @@ use Rattle.am_merge.proofs.Keys.{IsKeyOrder}
 use Rattle.am_snapshot.specs.Encodings.{row_encoding}
 use Rattle.am_snapshot.proofs.ReadAgain.{IsReadBack}
 use Rattle.am_store.specs.Calls.{Call, Event, Remove, Make, Permit, Write, Sync, Rename, SyncDirectory, Miss}
-use Rattle.am_store.specs.Crashes.{Disk, Remains, Does, MayDo, Changes, Runs, MayLeaveDuring}
-use Rattle.am_store.specs.Histories.{Act, AreOf, AreOfAll, AreOfSave, Drop, OfStates, Part, Rewrite, Save, states_of}
-use Rattle.am_store.specs.Outlasting.{HasAtLeast, IsKept, IsState, Outlasts}
+use Rattle.am_store.specs.Crashes.{Disk, Remains, MayLeave, Does, MayDo, Changes, Runs, MayLeaveDuring, bytes_at}
+use Rattle.am_store.specs.Histories.{Act, AreOf, AreOfAll, AreOfSave, Drop, InStates, IsKnownOf, OfStates, Part, Rewrite, Save, states_of}
+use Rattle.am_store.specs.Outlasting.{HasAtLeast, InRow, IsKept, IsState, Outlasts, StartsWith, WasInFile, content_at}
 use Rattle.am_store.specs.Parting.{AreOfParting, EndsLogs, IsAnew, StopsAnew, anew_until, parting, parting_until, removing, renewing}
 use Rattle.am_store.specs.Rewrites.{AreOfRewriting, calls_before, old_log, rewriting, rewriting_until}
 use Rattle.am_store.specs.Saves.{DropsNew, IsDirectoryOf, IsSaved, beside, saving, saving_until}
 use Rattle.am_store.proofs.Crashes.{is_done, right_after}
-use Rattle.am_store.proofs.Parting.{FileHas, outlasts_anew, outlasts_parting}
+use Rattle.am_store.proofs.Outlasting.{first_held, later_held}
+use Rattle.am_store.proofs.Parting.{FileHas, anew_leaves, outlasts_anew, outlasts_parting, parting_leaves}
 use Rattle.am_store.proofs.RewriteCrashes.{during}
-use Rattle.am_store.proofs.RewriteOutlasting.{file_has, outlasts, outlasts_drop, outlasts_saved, outlasts_stopped}
+use Rattle.am_store.proofs.RewriteOutlasting.{drop_from, file_has, outlasts, outlasts_drop, outlasts_saved, outlasts_stopped, rewriting_from, saved_from, stopped_from}
 
 -- ---- calls leave the path of the directory
 does_stay : (call : Call) (disk next : Disk) → Does call disk next → next.directory ≡ disk.directory
@@ -202,3 +204,115 @@ module _ {K X : Type 0} (seen : X → Version K) (cmp : K → K → Ordering) (k
       (λ late. of_act late.0 (subst (IsDirectoryOf path) (sym (runs_stay first disk late.0 late.1)) its) (λ l m. sooner l (right_after first disk late.0 l late.1 m)) left act
       (All-head (λ (a : Act X). All Covers (states_of a)) act earlier covers) between last (subst (AreOf seen cmp path most act between) two is) late.2)
       (during first last disk left (subst (λ (events : List Event). MayLeaveDuring events disk left) (in_parts before between calls first last one two) may))
+
+-- ---- where a version comes from
+module _ {K X : Type 0} (seen : X → Version K) (cmp : K → K → Ordering) (keys : IsKeyOrder cmp) (is_value : X → Type 0) (plain : X → X) (unknown : Unknown)
+    (reads : ℕ → List ℕ → Result X WireError) (back : (v : X) → is_value v × StaysWhole plain unknown v → IsReadBack seen reads v)
+    (path : List ℕ) (most : ℕ) (small : most < 2 ^ 32) (v : X) where
+  -- the row of a state isn't too long, and it is read as it was
+  abbrev pub IsReadable : List X → Type 0
+  IsReadable state = (length (row_encoding seen state) < 2 ^ 64) × IsState seen cmp is_value plain unknown state
+
+  abbrev InFile : Remains → Type 0
+  InFile left = InRow seen reads (content_at left path) v
+
+  -- the version is in one of these states, or was in the file before
+  abbrev From : List (List X) → Disk → Type 0
+  From states disk = ((state : List X) × Contains states state × Contains state v) ⊎ WasInFile seen reads path disk v
+
+  abbrev InFileFrom : List (List X) → Disk → Option (List ℕ) → Type 0
+  InFileFrom states disk found = InRow seen reads (unwrap_or found []) v → From states disk
+
+  as_it_was : (states : List (List X)) (disk : Disk) (left : Remains) → MayLeave disk left → InFileFrom states disk (bytes_at left path)
+  as_it_was states disk left may in_file = inr (left, may, in_file)
+
+  module _ (disk : Disk) (its : IsDirectoryOf path disk.directory) where
+    module _ (state : List X) (good : IsReadable state) where
+      abbrev states : List (List X)
+      states = state ∷ []
+
+      abbrev its_row : List ℕ
+      its_row = row_encoding seen state
+
+      of_state : Contains state v ⊎ WasInFile seen reads path disk v → From states disk
+      of_state from = ⊎_elim (λ held. inl (state, first_held state [], held)) (λ was. inr was) from
+
+      saving_from : (stood : Bool) (directory : List ℕ) (left : Remains) → MayLeaveDuring (saving stood path directory its_row) disk left → InFileFrom states disk (bytes_at left path)
+      saving_from stood directory left may in_file =
+          of_state (saved_from seen cmp is_value plain unknown reads back path state disk left good.0 good.1 stood directory may v in_file)
+
+      saving_alone : (left : Remains) (before calls : List Event) → IsSaved path its_row before (before ++ calls) → MayLeaveDuring calls disk left → InFileFrom states disk (bytes_at left path)
+      saving_alone left before calls saved may =
+          saving_from saved.stood saved.directory left (subst (λ (events : List Event). MayLeaveDuring events disk left) (append_cancel_left before _ _ saved.calls) may)
+
+      saving_anew : (kept : Bool) (left : Remains) (before between calls : List Event) → IsSaved path its_row before between
+          → IsAnew kept path between (before ++ calls) ⊎ StopsAnew path between (before ++ calls) → MayLeaveDuring calls disk left → InFileFrom states disk (bytes_at left path)
+      saving_anew kept left before between calls saved ended may =
+          let (rest, is) = anew_adds kept path between (before ++ calls) ended in
+          let saves : List Event = saving saved.stood path saved.directory its_row in
+          ⊎_elim (saving_from saved.stood saved.directory left)
+          (λ late. anew_leaves path (InFileFrom states disk) late.0
+          (λ l m. saving_from saved.stood saved.directory l (right_after saves disk late.0 l late.1 m)) left kept between rest
+          (subst (λ (events : List Event). IsAnew kept path between events ⊎ StopsAnew path between events) is ended) late.2)
+          (during saves rest disk left (subst (λ (events : List Event). MayLeaveDuring events disk left) (in_parts before between calls saves rest saved.calls is) may))
+
+      saving_ended : (kept : Bool) (left : Remains) (before between calls : List Event) → IsSaved path its_row before between → EndsLogs kept path between (before ++ calls)
+          → MayLeaveDuring calls disk left → InFileFrom states disk (bytes_at left path)
+      saving_ended true left before between calls saved anew may = saving_anew true left before between calls saved (inl anew) may
+      saving_ended false left before between calls saved (inl anew) may = saving_anew false left before between calls saved (inl anew) may
+      saving_ended false left before between calls saved (inr same) may = saving_alone left before calls (subst (IsSaved path its_row before) (sym same) saved) may
+
+      save_from : (left : Remains) (before calls : List Event) → AreOfSave seen cmp path most state before (before ++ calls) → MayLeaveDuring calls disk left → InFileFrom states disk (bytes_at left path)
+      save_from left before calls (inl (kept, it)) may = saving_ended kept left before it.between calls it.saved it.anew may
+      save_from left before calls (inr (inl (fault, stops))) may = λ in_file.
+          of_state (stopped_from seen cmp is_value plain unknown reads back path state disk left good.0 good.1 stops.stop stops.stood stops.removed
+          (subst (λ (events : List Event). MayLeaveDuring events disk left) (append_cancel_left before _ _ stops.calls) may) v in_file)
+      save_from left before calls (inr (inr it)) may = saving_anew true left before it.between calls it.saved (inr it.stops) may
+
+    act_from : (act : Act X) → All IsReadable (states_of act) → (left : Remains) (before calls : List Event) → AreOf seen cmp path most act before (before ++ calls) → MayLeaveDuring calls disk left
+        → InFileFrom (states_of act) disk (bytes_at left path)
+    act_from (Save state) good left before calls made may = save_from state (All-head IsReadable state [] good) left before calls made may
+    act_from Part good left before calls made may = parting_leaves path (InFileFrom [] disk) disk (as_it_was [] disk) left before calls made may
+    act_from (Rewrite states) good left before calls made may =
+        rewriting_from seen cmp keys is_value plain unknown reads back path most states before calls disk small its (λ k d lt. (good k d lt).1) made left may v
+    act_from Drop good left before calls (inl same) may =
+        as_it_was [] disk left (subst (λ (events : List Event). MayLeaveDuring events disk left) (append_cancel_left before calls [] (same ∙ sym (append-nil before))) may)
+    act_from Drop good left before calls (inr (removed, is)) may = λ in_file.
+        inr (drop_from seen reads path v disk left removed
+        (subst (λ (events : List Event). MayLeaveDuring events disk left) (append_cancel_left before calls ((Remove (beside path), removed) ∷ []) is) may) in_file)
+
+  -- the version is in a state of these acts, or was in the file before
+  abbrev FromActs : List (Act X) → Disk → Type 0
+  FromActs acts disk = InStates seen reads path acts v ⊎ WasInFile seen reads path disk v
+
+  more_acts : (act : Act X) (acts : List (Act X)) (disk : Disk) → FromActs acts disk → FromActs (act ∷ acts) disk
+  more_acts act acts disk from = ⊎_elim (λ it. inl (it.0, later_held act acts it.0 it.1, it.2, it.3, it.4)) (λ was. inr was) from
+
+  all_from : (acts : List (Act X)) → OfStates IsReadable acts → (before calls : List Event) (disk : Disk) → IsDirectoryOf path disk.directory
+      → AreOfAll seen cmp path most acts before (before ++ calls) → (left : Remains) → MayLeaveDuring calls disk left → InFile left → FromActs acts disk
+  all_from [] good before calls disk its same left may in_file =
+      inr (left, subst (λ (events : List Event). MayLeaveDuring events disk left) (append_cancel_left before calls [] (same ∙ sym (append-nil before))) may, in_file)
+  all_from (act ∷ earlier) good before calls disk its (between, lead, is) left may in_file =
+      let (first, one) = all_add seen cmp path most earlier before between lead in
+      let (last, two) = act_adds seen cmp path most act between (before ++ calls) is in
+      let sooner : (l : Remains) → MayLeaveDuring first disk l → InFile l → FromActs (act ∷ earlier) disk =
+      λ l m i. more_acts act earlier disk (all_from earlier (All-tail (λ (a : Act X). All IsReadable (states_of a)) act earlier good) before first disk its
+      (subst (AreOfAll seen cmp path most earlier before) one lead) l m i) in
+      ⊎_elim (λ early. sooner left early in_file)
+      (λ late. ⊎_elim
+      (λ it. inl (act, first_held act earlier, it.0, it.1, it.2))
+      (λ was. sooner was.0 (right_after first disk late.0 was.0 late.1 was.1) was.2)
+      (act_from late.0 (subst (IsDirectoryOf path) (sym (runs_stay first disk late.0 late.1)) its) act
+      (All-head (λ (a : Act X). All IsReadable (states_of a)) act earlier good) left between last (subst (AreOf seen cmp path most act between) two is) late.2 in_file))
+      (during first last disk left (subst (λ (events : List Event). MayLeaveDuring events disk left) (in_parts before between calls first last one two) may))
+
+  pub nothing_new_of_all : (acts : List (Act X)) → OfStates IsReadable acts → (before calls : List Event) (disk : Disk) → IsDirectoryOf path disk.directory
+      → AreOfAll seen cmp path most acts before (before ++ calls) → (left : Remains) → MayLeaveDuring calls disk left
+      → (map : List X) → StartsWith seen reads path left map → Contains map v → IsKnownOf seen reads path acts disk left v
+  nothing_new_of_all acts good before calls disk its made left may map starts held = ⊎_elim
+      (λ some. ⊎_elim
+      (λ row. inr (inr (all_from acts good before calls disk its made left may (starts.in_row, starts.all_of_row, row))))
+      (λ old. inr (inl (starts.in_first, starts.all_of_first, old)))
+      (Contains-append_cases starts.in_row starts.in_first v some))
+      (λ own. inl (starts.in_second, starts.all_of_second, own))
+      (Contains-append_cases (starts.in_row ++ starts.in_first) starts.in_second v (starts.best.best v held).member)

@@ -34,10 +34,10 @@ module _ {X : Type 0} where
   pub none_held : (x : X) → Contains [] x → ⊥
   none_held x held = let lt = held.1 in omega (arith, lt)
 
-  first_held : (x : X) (xs : List X) → Contains (x ∷ xs) x
+  pub first_held : (x : X) (xs : List X) → Contains (x ∷ xs) x
   first_held x xs = Contains-append_left (x ∷ []) xs x (Contains-push [] x)
 
-  later_held : (x : X) (xs : List X) (y : X) → Contains xs y → Contains (x ∷ xs) y
+  pub later_held : (x : X) (xs : List X) (y : X) → Contains xs y → Contains (x ∷ xs) y
   later_held x xs y held = Contains-append_right (x ∷ []) xs y held
 
   first_or_later : (x : X) (xs : List X) (y : X) → Contains (x ∷ xs) y → (x ≡ y) ⊎ Contains xs y

@@ -17,7 +17,7 @@ use Rattle.am_store.specs.Calls.{Call, Event, Remove, Make, Permit, Write, Sync,
 use Rattle.am_store.specs.Crashes.{Agrees, Names, Disk, Remains, MayLeave, Does, MayDo, Changes, MayLeaveDuring, bytes_at, with_names}
 use Rattle.am_store.specs.Logs.{AreInBatches}
 use Rattle.am_store.specs.Outlasting.{HasAtLeast, IsKept, Outlasts, content_at}
-use Rattle.am_store.specs.Parting.{AnewStop, AreOfParting, BeginningStop, IsAnew, NoneBegun, NoneRemoved, OldKept, OldUnsettled, OwnKept, PartingStop, RemovalStop, StopsAnew, Unbegun, Unmade, Unpermitted, Unremoved, Unrenamed, Unsettled, Unmissed, Unsynced, Untried, Untrusted, Unwritten, anew_until, beginning, beginning_until, parting_until, removing, removing_until, renewing}
+use Rattle.am_store.specs.Parting.{AnewStop, AreOfParting, BeginningStop, IsAnew, NoneBegun, NoneRemoved, OldKept, OldUnsettled, OwnKept, PartingStop, RemovalStop, StopsAnew, Unbegun, Unmade, Unpermitted, Unremoved, Unrenamed, Unsettled, Unmissed, Unsynced, Untried, Untrusted, Unwritten, anew_until, beginning, beginning_until, parting, parting_until, removing, removing_until, renewing}
 use Rattle.am_store.specs.Rewrites.{old_log, own_log}
 use Rattle.am_store.proofs.BlockLemmas.{recovered_none}
 use Rattle.am_store.proofs.Crashes.{logs_apart, old_apart, old_behind, own_apart}
@@ -41,6 +41,7 @@ module _ (Keep : List ℕ → Type 0) (F : Remains → Type 0) where
   Spares (Permit path) = ⊤
   Spares (SyncDirectory path) = ⊤
   Spares (Miss path) = ⊤
+  Spares (Rename from to) = ¬ Keep from × ¬ Keep to
   Spares _ = ⊥
 
   abbrev pub AllSpare : List Event → Type 0
@@ -65,7 +66,8 @@ module _ (Keep : List ℕ → Type 0) (F : Remains → Type 0) where
   does (Permit path) spares disk next d fits = subst Fits (sym d) fits
   does (Write bytes) spares disk next d fits = absurd spares
   does (Sync bytes) spares disk next d fits = absurd spares
-  does (Rename from to) spares disk next d fits = absurd spares
+  does (Rename from to) spares disk next d fits =
+      subst Fits (sym d.3) (touched disk d.0 disk.created (λ other keep. d.2 other (unlike from other spares.0 keep) (unlike to other spares.1 keep)) fits)
   does (SyncDirectory path) spares disk next (inl here) fits = subst Fits (sym here.1) (record {
     safe = λ left may. fits.safe left (record { names = ⊎_elim (λ now. inl now) (λ none. absurd none) may.names; files = may.files });
     loose = fits.loose;
@@ -79,7 +81,7 @@ module _ (Keep : List ℕ → Type 0) (F : Remains → Type 0) where
   may_do (Permit path) spares disk next may fits = ⊎_elim (λ same. subst Fits (sym same) fits) (λ d. does (Permit path) spares disk next d fits) may
   may_do (Write bytes) spares disk next may fits = absurd spares
   may_do (Sync bytes) spares disk next may fits = absurd spares
-  may_do (Rename from to) spares disk next may fits = absurd spares
+  may_do (Rename from to) spares disk next may fits = ⊎_elim (λ same. subst Fits (sym same) fits) (λ d. does (Rename from to) spares disk next d fits) may
   may_do (SyncDirectory path) spares disk next same fits = subst Fits (sym same) fits
   may_do (Miss path) spares disk next same fits = subst Fits (sym same) fits
 
@@ -134,6 +136,53 @@ module _ (Keep : List ℕ → Type 0) (F : Remains → Type 0) where
           both_spare (removing old_stood own_stood path directory) (beginning_until stop path directory) (removing_spares old_stood own_stood) (beginning_part_spares stop)
       anew_part_spares (Unsynced old_stood own_stood) =
           both_spare (removing old_stood own_stood path directory) ((SyncDirectory directory, false) ∷ []) (removing_spares old_stood own_stood) (tt, tt)
+
+      pub parting_spares : AllSpare (parting path directory)
+      parting_spares = (tt, ((own, old), beginning_spares))
+
+      pub parting_part_spares : (stop : PartingStop) → AllSpare (parting_until stop path directory)
+      parting_part_spares Untried = tt
+      parting_part_spares Unmissed = (tt, tt)
+      parting_part_spares Untrusted = (tt, tt)
+      parting_part_spares Unrenamed = (tt, ((own, old), tt))
+      parting_part_spares (Unbegun stop) = (tt, ((own, old), beginning_part_spares stop))
+
+-- ---- what is said of the file alone
+module _ (path : List ℕ) (Q : Option (List ℕ) → Type 0) (disk : Disk) where
+  abbrev IsFile : List ℕ → Type 0
+  IsFile other = other ≡ path
+
+  abbrev pub OfFile : Remains → Type 0
+  OfFile left = Q (bytes_at left path)
+
+  module _ (safe : (left : Remains) → MayLeave disk left → OfFile left) (left : Remains) where
+    file_fits : Fits IsFile OfFile disk
+    file_fits = record {
+      safe = safe;
+      loose = λ l agree files. subst (λ (o : Option ℕ). Q (option_map l.bytes o)) (sym (agree path refl)) (safe (record { names = disk.names; bytes = l.bytes }) (record { names = inl refl; files = files }));
+    }
+
+    pub anew_leaves : (kept : Bool) (before calls : List Event) → IsAnew kept path before (before ++ calls) ⊎ StopsAnew path before (before ++ calls) → MayLeaveDuring calls disk left → OfFile left
+    anew_leaves kept before calls (inl anew) may =
+        during IsFile OfFile (removing anew.old_stood anew.own_stood path anew.directory ++ renewing kept path anew.directory)
+        (anew_spares IsFile OfFile path anew.directory (own_apart path) (old_apart path) kept anew.old_stood anew.own_stood) disk file_fits left
+        (subst (λ (events : List Event). MayLeaveDuring events disk left) (append_cancel_left before _ _ (anew.calls ∙ append_assoc before (removing anew.old_stood anew.own_stood path anew.directory) (renewing kept path anew.directory))) may)
+    anew_leaves kept before calls (inr stops) may =
+        during IsFile OfFile (anew_until stops.stop path stops.directory) (anew_part_spares IsFile OfFile path stops.directory (own_apart path) (old_apart path) stops.stop) disk file_fits left
+        (subst (λ (events : List Event). MayLeaveDuring events disk left) (append_cancel_left before _ _ stops.calls) may)
+
+    part_leaves : (directory : List ℕ) (stop : PartingStop) → MayLeaveDuring (parting_until stop path directory) disk left → OfFile left
+    part_leaves directory stop may =
+        during IsFile OfFile (parting_until stop path directory) (parting_part_spares IsFile OfFile path directory (own_apart path) (old_apart path) stop) disk file_fits left may
+
+    pub parting_leaves : (before calls : List Event) → AreOfParting path before (before ++ calls) → MayLeaveDuring calls disk left → OfFile left
+    parting_leaves before calls (inl parted) may =
+        during IsFile OfFile (parting path parted.directory) (parting_spares IsFile OfFile path parted.directory (own_apart path) (old_apart path)) disk file_fits left
+        (subst (λ (events : List Event). MayLeaveDuring events disk left) (append_cancel_left before _ _ parted.calls) may)
+    parting_leaves before calls (inr (inl stops)) may =
+        part_leaves stops.directory stops.stop (subst (λ (events : List Event). MayLeaveDuring events disk left) (append_cancel_left before _ _ stops.calls) may)
+    parting_leaves before calls (inr (inr found)) may =
+        part_leaves [] Unmissed (subst (λ (events : List Event). MayLeaveDuring events disk left) (append_cancel_left before calls ((Miss (old_log path), false) ∷ []) found) may)
 
 -- ---- a set of versions has its best
 module _ {K X : Type 0} (seen : X → Version K) (cmp : K → K → Ordering) (keys : IsKeyOrder cmp) where
@@ -245,32 +294,10 @@ abbrev pub FileHas : {K X : Type 0} → (X → Version K) → (ℕ → List ℕ 
 FileHas {K} {X} seen reads path v disk =
     (left : Remains) → MayLeave disk left → (versions : List X) → AreMessages reads (content_at left path) versions → HasAtLeast seen v versions
 
--- ---- a log is begun anew
-module _ {K X : Type 0} (seen : X → Version K) (reads : ℕ → List ℕ → Result X WireError) (path : List ℕ) (v : X) (disk : Disk) (has : FileHas seen reads path v disk) where
-  abbrev IsFile : List ℕ → Type 0
-  IsFile other = other ≡ path
-
-  abbrev InFile : Remains → Type 0
-  InFile left = (versions : List X) → AreMessages reads (content_at left path) versions → HasAtLeast seen v versions
-
-  fits : Fits IsFile InFile disk
-  fits = record {
-    safe = has;
-    loose = λ left agree files.
-        subst (λ (o : Option ℕ). (versions : List X) → AreMessages reads (unwrap_or (option_map left.bytes o) []) versions → HasAtLeast seen v versions) (sym (agree path refl))
-        (has (record { names = disk.names; bytes = left.bytes }) (record { names = inl refl; files = files }));
-  }
-
-  module _ (left : Remains) where
-    in_file : (kept : Bool) (before calls : List Event) → IsAnew kept path before (before ++ calls) ⊎ StopsAnew path before (before ++ calls) → MayLeaveDuring calls disk left → InFile left
-    in_file kept before calls (inl anew) may =
-        during IsFile InFile (removing anew.old_stood anew.own_stood path anew.directory ++ renewing kept path anew.directory)
-        (anew_spares IsFile InFile path anew.directory (own_apart path) (old_apart path) kept anew.old_stood anew.own_stood) disk fits left
-        (subst (λ (events : List Event). MayLeaveDuring events disk left) (append_cancel_left before _ _ (anew.calls ∙ append_assoc before (removing anew.old_stood anew.own_stood path anew.directory) (renewing kept path anew.directory))) may)
-    in_file kept before calls (inr stops) may =
-        during IsFile InFile (anew_until stops.stop path stops.directory) (anew_part_spares IsFile InFile path stops.directory (own_apart path) (old_apart path) stops.stop) disk fits left
-        (subst (λ (events : List Event). MayLeaveDuring events disk left) (append_cancel_left before _ _ stops.calls) may)
-
-    pub outlasts_anew : (kept : Bool) (before calls : List Event) → IsAnew kept path before (before ++ calls) ⊎ StopsAnew path before (before ++ calls) → MayLeaveDuring calls disk left
-        → IsKept seen reads path v left
-    outlasts_anew kept before calls anew may map starts = of_row seen reads path v left map starts (in_file kept before calls anew may starts.in_row starts.all_of_row)
+-- what the file has outlasts a crash while the logs are begun anew
+pub outlasts_anew : {K X : Type 0} (seen : X → Version K) (reads : ℕ → List ℕ → Result X WireError) (path : List ℕ) (v : X) (disk : Disk) → FileHas seen reads path v disk → (left : Remains)
+    (kept : Bool) (before calls : List Event) → IsAnew kept path before (before ++ calls) ⊎ StopsAnew path before (before ++ calls) → MayLeaveDuring calls disk left → IsKept seen reads path v left
+outlasts_anew {X = X} seen reads path v disk has left kept before calls anew may map starts =
+    of_row seen reads path v left map starts
+    (anew_leaves path (λ (o : Option (List ℕ)). (versions : List X) → AreMessages reads (unwrap_or o []) versions → HasAtLeast seen v versions) disk has left kept before calls anew may
+    starts.in_row starts.all_of_row)

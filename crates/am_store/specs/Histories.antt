@@ -1,14 +1,18 @@
 -- What was done, in order, with the names in the directory of a state's file.
 -- X is the type of versions, and `seen` is what the merge sees of one.
-use Rattle.std.specs.Prelude.{◌≡◌, ◌⊎◌, ℕ, Bool, List, [], ◌∷◌}
+use Rattle.std.specs.Prelude.{◌≡◌, ◌⊎◌, ℕ, Bool, List, [], ◌∷◌, Contains, Result}
 use Rattle.std.specs.List.{All}
 use Rattle.std.specs.declared.cmp.Ordering.{Ordering}
 use Rattle.am_version_order.specs.Versions.{Version}
+use Rattle.am_wire.specs.declared.error.WireError.{WireError}
 use Rattle.am_snapshot.specs.Encodings.{row_encoding}
 use Rattle.am_snapshot.specs.Saving.{FitsRow}
+use Rattle.am_store.specs.Blocks.{recovered}
 use Rattle.am_store.specs.Calls.{Event}
+use Rattle.am_store.specs.Crashes.{Disk, Remains}
+use Rattle.am_store.specs.Outlasting.{InBatches, WasInFile, content_at}
 use Rattle.am_store.specs.Parting.{AreOfParting, FailsAnew, IsSavedAnew}
-use Rattle.am_store.specs.Rewrites.{AreOfRewriting}
+use Rattle.am_store.specs.Rewrites.{AreOfRewriting, old_log, own_log}
 use Rattle.am_store.specs.Saves.{DropsNew, IsStopped}
 use Rattle.am_store.specs.declared.file_fault.FileFault.{FileFault}
 
@@ -49,6 +53,20 @@ module _ {K X : Type 0} (seen : X → Version K) (cmp : K → K → Ordering) (p
   abbrev pub AreOfAll : List (Act X) → List Event → List Event → Type 0
   AreOfAll [] before after = after ≡ before
   AreOfAll (act ∷ earlier) before after = (between : List Event) × AreOfAll earlier before between × AreOf act between after
+
+module _ {K X : Type 0} (seen : X → Version K) (reads : ℕ → List ℕ → Result X WireError) (path : List ℕ) where
+  -- the version is in a state that an act saves, or writes pieces of
+  abbrev pub InStates : List (Act X) → X → Type 0
+  InStates acts v = (act : Act X) × Contains acts act × (state : List X) × Contains (states_of act) state × Contains state v
+
+  -- the version is in one of the logs that are left, or in a state of these acts, or in the file that a crash before them might have
+  -- left
+  abbrev pub IsKnownOf : List (Act X) → Disk → Remains → X → Type 0
+  IsKnownOf acts disk left v =
+      InBatches seen reads (recovered (content_at left (own_log path))) v
+      ⊎ InBatches seen reads (recovered (content_at left (old_log path))) v
+      ⊎ InStates acts v
+      ⊎ WasInFile seen reads path disk v
 
 -- this is so of each state that the acts save, or write pieces of
 abbrev pub OfStates : {X : Type 0} → (List X → Type 0) → List (Act X) → Type 0

@@ -67,6 +67,10 @@ module _ {K X : Type 0} (seen : X → Version K) where
       abbrev pub OutlastsDuring : X → List Event → Disk → Type 0
       OutlastsDuring v calls disk = (left : Remains) → MayLeaveDuring calls disk left → IsKept v left
 
+      -- the version was in the file that a crash might have left of the disk
+      abbrev pub WasInFile : Disk → X → Type 0
+      WasInFile disk v = (earlier : Remains) × MayLeave disk earlier × InRow (content_at earlier path) v
+
       -- the version is in the log that is left, or in one of these states, or in the file or the old log that a crash before might
       -- have left
       abbrev pub IsKnown : List (List X) → Disk → Remains → X → Type 0

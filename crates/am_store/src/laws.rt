@@ -16,7 +16,7 @@ ghost use Rattle.am_store.specs.Calls.{Event};
 ghost use Rattle.am_store.specs.Saves.{IsDirectoryOf, IsSaved, IsStopped, saving};
 ghost use Rattle.am_store.specs.Crashes.{AtLeast, Disk, Exactly, IsAmong, Names, Remains, Keeps, MayLeave, MayLeaveDuring, Runs, Stays, bytes_at, moments};
 ghost use Rattle.am_store.specs.Outlasting.{HasAtLeast, InBatches, IsKept, IsKnown, IsState, Outlasts, OutlastsDuring, Stands, StartsWith, content_at};
-ghost use Rattle.am_store.specs.Histories.{Act, AreOf, AreOfAll, OfStates, Rewrite};
+ghost use Rattle.am_store.specs.Histories.{Act, AreOf, AreOfAll, IsKnownOf, OfStates, Rewrite};
 ghost use Rattle.am_store.specs.Rewrites.{AreOfRewriting, End, IsRewritten, IsWritten, IsUnderWay, StopsRewriting, old_log, own_log};
 ghost use Rattle.am_store.specs.UnsyncedSaves.{one_file, without_the_file, without_the_directory};
 
@@ -130,8 +130,15 @@ pub fn no_crash_loses_a_version<V: Record>()
         AreOfAll V.seen V.Key.cmp path most acts before (before ++ calls) →
         Outlasts V.seen (V.reads unknown) path v disk → OfStates (HasAtLeast V.seen v) acts →
         OutlastsDuring V.seen (V.reads unknown) path v calls disk }
+    // PROMISE: After a crash at any moment of such a history a start has no version that never was: each is in a log that is left, or was in the file before, or is in a state that is saved or rewritten meanwhile.
+    ensures nothing_new { (unknown : Unknown) (path : List ℕ) (most : ℕ) (acts : List (Act V)) (before calls : List Event) (disk : Disk) (left : Remains)
+        (map : List V) (v : V) →
+        most < 2 ^ 32 → IsDirectoryOf path disk.directory → OfStates (λ (state : List V). length (row_encoding V.seen state) < 2 ^ 64) acts →
+        OfStates (IsState V.seen V.Key.cmp V.Version.is_value V.plain unknown) acts →
+        AreOfAll V.seen V.Key.cmp path most acts before (before ++ calls) → MayLeaveDuring calls disk left →
+        StartsWith V.seen (V.reads unknown) path left map → Contains map v → IsKnownOf V.seen (V.reads unknown) path acts disk left v }
     // PROMISE: After a crash while a file is written anew a start has no version that never was: each is in the log, or was in the file or its old log, or in a state from which the file is written.
-    ensures nothing_new { (unknown : Unknown) (path : List ℕ) (most : ℕ) (states : List (List V)) (before calls : List Event) (disk : Disk) (left : Remains)
+    ensures nothing_rewritten_new { (unknown : Unknown) (path : List ℕ) (most : ℕ) (states : List (List V)) (before calls : List Event) (disk : Disk) (left : Remains)
         (map : List V) (v : V) →
         most < 2 ^ 32 → IsDirectoryOf path disk.directory → All (IsState V.seen V.Key.cmp V.Version.is_value V.plain unknown) states →
         AreOfRewriting V.seen V.Key.cmp path most states before (before ++ calls) → MayLeaveDuring calls disk left →
