@@ -11,13 +11,15 @@
 //!    leaves F, L and M, or G, L and M. Either way the join has the last version of each key that F, L or M has, since what came
 //!    after its piece was written is in M. A version that is neither in F nor in G had expired and left the map: then, if L or M
 //!    has an older version of its key, it is there too, after that one.
-//! 3. L goes only once G's name is on the disk, so no crash leaves F without L. (laws.rt has the theorems of 1, 2 and 3.)
+//! 3. L goes only once G's name is on the disk, so no crash leaves F without L.
 //! 4. If that is undone, L is back beside G and M, as in 2, or beside the file that M became, which is renamed onto L's name
 //!    first. L is whole then: a file that has lost its name is made shorter only once the disk has the directory without that
 //!    name, and no name leads to it after that, whatever crash comes. The same holds for F.
 //! 5. A save of the whole state removes L, hands that to the disk, and then removes M: L never stands without M, whose ends it
-//!    lacks. (laws.rt has the theorem that what the file has isn't lost meanwhile.)
+//!    lacks.
 //! 6. If L stands at the beginning, nothing is renamed; G has all of L and M, and the rest is as above.
+//!
+//! laws.rt has the theorem of all these, but for the bytes of a file that has lost its name, over any history of them.
 //!
 //! If the logs lack something, the compaction ends and G is removed: then a save of the whole state is due.
 
