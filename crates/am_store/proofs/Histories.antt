@@ -14,14 +14,14 @@ use Rattle.am_snapshot.specs.Encodings.{row_encoding}
 use Rattle.am_snapshot.proofs.ReadAgain.{IsReadBack}
 use Rattle.am_store.specs.Calls.{Call, Event, Remove, Make, Permit, Write, Sync, Rename, SyncDirectory, Miss}
 use Rattle.am_store.specs.Crashes.{Disk, Remains, MayLeave, Does, MayDo, Changes, Runs, MayLeaveDuring, bytes_at}
-use Rattle.am_store.specs.Histories.{Act, AreOf, AreOfAll, AreOfSave, Drop, InStates, IsKnownOf, OfStates, Part, Rewrite, Save, states_of}
+use Rattle.am_store.specs.Histories.{Act, AreOf, AreOfAll, AreOfSave, Drop, InStates, IsKnownOf, OfStates, Open, Part, Rewrite, Save, states_of}
 use Rattle.am_store.specs.Outlasting.{HasAtLeast, InRow, IsKept, IsState, Outlasts, StartsWith, WasInFile, content_at}
-use Rattle.am_store.specs.Parting.{AreOfParting, EndsLogs, IsAnew, StopsAnew, anew_until, parting, parting_until, removing, renewing}
+use Rattle.am_store.specs.Parting.{AreOfParting, EndsLogs, IsAnew, Opens, StopsAnew, anew_until, beginning, parting, parting_until, removing, renewing}
 use Rattle.am_store.specs.Rewrites.{AreOfRewriting, calls_before, old_log, rewriting, rewriting_until}
 use Rattle.am_store.specs.Saves.{DropsNew, IsDirectoryOf, IsSaved, beside, saving, saving_until}
 use Rattle.am_store.proofs.Crashes.{is_done, right_after}
 use Rattle.am_store.proofs.Outlasting.{first_held, later_held}
-use Rattle.am_store.proofs.Parting.{FileHas, anew_leaves, outlasts_anew, outlasts_parting, parting_leaves}
+use Rattle.am_store.proofs.Parting.{FileHas, anew_leaves, opening_leaves, outlasts_anew, outlasts_opening, outlasts_parting, parting_leaves}
 use Rattle.am_store.proofs.RewriteCrashes.{during}
 use Rattle.am_store.proofs.RewriteOutlasting.{drop_from, file_has, outlasts, outlasts_drop, outlasts_saved, outlasts_stopped, rewriting_from, saved_from, stopped_from}
 
@@ -102,11 +102,17 @@ module _ {K X : Type 0} (seen : X → Version K) (cmp : K → K → Ordering) (p
   drop_adds before after (inl same) = nothing_added before after same
   drop_adds before after (inr (removed, is)) = ((Remove (beside path), removed) ∷ [], is)
 
+  open_adds : (kept : Bool) (before after : List Event) → Opens kept path before after → Adds before after
+  open_adds true before after (directory, standing, inl begun) = (beginning path directory, begun)
+  open_adds true before after (directory, standing, inr stood) = ((SyncDirectory directory, true) ∷ [], stood)
+  open_adds false before after same = nothing_added before after same
+
   act_adds : (act : Act X) (before after : List Event) → AreOf seen cmp path most act before after → Adds before after
-  act_adds (Save state) = save_adds state
-  act_adds Part = part_adds
-  act_adds (Rewrite states) = rewrite_adds states
-  act_adds Drop = drop_adds
+  act_adds Open before after (kept, opens) = open_adds kept before after opens
+  act_adds (Save state) before after made = save_adds state before after made
+  act_adds Part before after made = part_adds before after made
+  act_adds (Rewrite states) before after made = rewrite_adds states before after made
+  act_adds Drop before after made = drop_adds before after made
 
   all_add : (acts : List (Act X)) (before after : List Event) → AreOfAll seen cmp path most acts before after → Adds before after
   all_add [] before after same = nothing_added before after same
@@ -186,10 +192,11 @@ module _ {K X : Type 0} (seen : X → Version K) (cmp : K → K → Ordering) (k
         outlasts seen cmp keys is_value plain unknown reads back path most states before calls disk small its (λ k d lt. (covers k d lt).good) made left may map starts v safe (λ k d lt. (covers k d lt).has)
 
     of_act : (act : Act X) → All Covers (states_of act) → (before calls : List Event) → AreOf seen cmp path most act before (before ++ calls) → MayLeaveDuring calls disk left → Kept left
-    of_act (Save state) covers = of_save state (All-head Covers state [] covers)
-    of_act Part covers = outlasts_parting seen cmp keys reads path v disk safe left
-    of_act (Rewrite states) covers = of_rewrite states covers
-    of_act Drop covers = of_drop
+    of_act Open covers before calls (kept, opens) may = outlasts_opening seen cmp keys reads path v disk safe left kept before calls opens may
+    of_act (Save state) covers before calls made may = of_save state (All-head Covers state [] covers) before calls made may
+    of_act Part covers before calls made may = outlasts_parting seen cmp keys reads path v disk safe left before calls made may
+    of_act (Rewrite states) covers before calls made may = of_rewrite states covers before calls made may
+    of_act Drop covers before calls made may = of_drop before calls made may
 
   -- a history of acts
   pub outlasts_all : (acts : List (Act X)) → OfStates Covers acts → (before calls : List Event) (disk : Disk) → IsDirectoryOf path disk.directory
@@ -271,6 +278,7 @@ module _ {K X : Type 0} (seen : X → Version K) (cmp : K → K → Ordering) (k
 
     act_from : (act : Act X) → All IsReadable (states_of act) → (left : Remains) (before calls : List Event) → AreOf seen cmp path most act before (before ++ calls) → MayLeaveDuring calls disk left
         → InFileFrom (states_of act) disk (bytes_at left path)
+    act_from Open good left before calls (kept, opens) may = opening_leaves path (InFileFrom [] disk) disk (as_it_was [] disk) left kept before calls opens may
     act_from (Save state) good left before calls made may = save_from state (All-head IsReadable state [] good) left before calls made may
     act_from Part good left before calls made may = parting_leaves path (InFileFrom [] disk) disk (as_it_was [] disk) left before calls made may
     act_from (Rewrite states) good left before calls made may =

@@ -17,7 +17,7 @@ use Rattle.am_store.specs.Calls.{Call, Event, Remove, Make, Permit, Write, Sync,
 use Rattle.am_store.specs.Crashes.{Agrees, Names, Disk, Remains, MayLeave, Does, MayDo, Changes, MayLeaveDuring, bytes_at, with_names}
 use Rattle.am_store.specs.Logs.{AreInBatches}
 use Rattle.am_store.specs.Outlasting.{HasAtLeast, IsKept, Outlasts, content_at}
-use Rattle.am_store.specs.Parting.{AnewStop, AreOfParting, BeginningStop, IsAnew, NoneBegun, NoneRemoved, OldKept, OldUnsettled, OwnKept, PartingStop, RemovalStop, StopsAnew, Unbegun, Unmade, Unpermitted, Unremoved, Unrenamed, Unsettled, Unmissed, Unsynced, Untried, Untrusted, Unwritten, anew_until, beginning, beginning_until, parting, parting_until, removing, removing_until, renewing}
+use Rattle.am_store.specs.Parting.{AnewStop, AreOfParting, BeginningStop, IsAnew, NoneBegun, NoneRemoved, OldKept, OldUnsettled, Opens, OwnKept, PartingStop, RemovalStop, StopsAnew, Unbegun, Unmade, Unpermitted, Unremoved, Unrenamed, Unsettled, Unmissed, Unsynced, Untried, Untrusted, Unwritten, anew_until, beginning, beginning_until, parting, parting_until, removing, removing_until, renewing}
 use Rattle.am_store.specs.Rewrites.{old_log, own_log}
 use Rattle.am_store.proofs.BlockLemmas.{recovered_none}
 use Rattle.am_store.proofs.Crashes.{logs_apart, old_apart, old_behind, own_apart}
@@ -171,6 +171,16 @@ module _ (path : List ℕ) (Q : Option (List ℕ) → Type 0) (disk : Disk) wher
         during IsFile OfFile (anew_until stops.stop path stops.directory) (anew_part_spares IsFile OfFile path stops.directory (own_apart path) (old_apart path) stops.stop) disk file_fits left
         (subst (λ (events : List Event). MayLeaveDuring events disk left) (append_cancel_left before _ _ stops.calls) may)
 
+    pub opening_leaves : (kept : Bool) (before calls : List Event) → Opens kept path before (before ++ calls) → MayLeaveDuring calls disk left → OfFile left
+    opening_leaves true before calls (directory, standing, inl begun) may =
+        during IsFile OfFile (beginning path directory) (beginning_spares IsFile OfFile path directory (own_apart path)) disk file_fits left
+        (subst (λ (events : List Event). MayLeaveDuring events disk left) (append_cancel_left before calls (beginning path directory) begun) may)
+    opening_leaves true before calls (directory, standing, inr stood) may =
+        during IsFile OfFile ((SyncDirectory directory, true) ∷ []) (tt, tt) disk file_fits left
+        (subst (λ (events : List Event). MayLeaveDuring events disk left) (append_cancel_left before calls ((SyncDirectory directory, true) ∷ []) stood) may)
+    opening_leaves false before calls same may =
+        safe left (subst (λ (events : List Event). MayLeaveDuring events disk left) (append_cancel_left before calls [] (same ∙ sym (append-nil before))) may)
+
     part_leaves : (directory : List ℕ) (stop : PartingStop) → MayLeaveDuring (parting_until stop path directory) disk left → OfFile left
     part_leaves directory stop may =
         during IsFile OfFile (parting_until stop path directory) (parting_part_spares IsFile OfFile path directory (own_apart path) (old_apart path) stop) disk file_fits left may
@@ -222,8 +232,31 @@ module _ {K X : Type 0} (seen : X → Version K) (cmp : K → K → Ordering) (k
         among : (row first : List X) (w : X) → Contains (row ++ [] ++ first) w → Contains (row ++ first) w
         among row first w held = subst (λ (all : List X). Contains (all ++ first) w) (append-nil row) held
 
+    -- what a start has without a log it has with any log
+    of_new_log : (earlier left : Remains) → bytes_at earlier path ≡ bytes_at left path → bytes_at earlier (old_log path) ≡ bytes_at left (old_log path)
+        → bytes_at earlier (own_log path) ≡ None → IsKept seen reads path v earlier → IsKept seen reads path v left
+    of_new_log earlier left file log none kept map starts =
+        let (best, held) = has_best ((starts.in_row ++ starts.in_first) ++ []) in
+        let has = kept best (record {
+          in_row = starts.in_row;
+          in_first = starts.in_first;
+          in_second = [];
+          all_of_row = subst (λ (o : Option (List ℕ)). AreMessages reads (unwrap_or o []) starts.in_row) (sym file) starts.all_of_row;
+          all_of_first = subst (λ (o : Option (List ℕ)). AreInBatches seen reads (recovered (unwrap_or o [])) starts.in_first) (sym log) starts.all_of_first;
+          all_of_second = subst (λ (o : Option (List ℕ)). AreInBatches seen reads (recovered (unwrap_or o [])) []) (sym none)
+              (subst (λ (batches : List (List ℕ)). AreInBatches seen reads batches []) (sym (recovered_none [] refl)) refl);
+          best = held;
+        }) in
+        of_best seen v (starts.in_row ++ starts.in_first ++ starts.in_second) map starts.best (record {
+          version = has.version;
+          held = Contains-append_left (starts.in_row ++ starts.in_first) starts.in_second has.version
+              (subst (λ (all : List X). Contains all has.version) (append-nil (starts.in_row ++ starts.in_first)) (held.best has.version has.held).member);
+          same_key = has.same_key;
+          not_below = has.not_below;
+        })
+
     module _ (disk : Disk) where
-      -- ---- a log is parted from the one before it
+      -- ---- a log is opened, or parted from the one before it
       module _ (safe : Outlasts seen reads path v disk) where
         abbrev FileOrOld : List ℕ → Type 0
         FileOrOld other = (other ≡ path) ⊎ (other ≡ old_log path)
@@ -233,6 +266,30 @@ module _ {K X : Type 0} (seen : X → Version K) (cmp : K → K → Ordering) (k
 
         own_spared : ¬ FileOrOld (own_log path)
         own_spared is = ⊎_elim (own_apart path) (logs_apart path) is
+
+        of_made : (left : Remains) → left.names path ≡ disk.names path → left.names (old_log path) ≡ disk.names (old_log path) → disk.names (own_log path) ≡ None
+            → HasFiles FileOrOld Has disk left → Has left
+        of_made left file log none files =
+            let earlier : Remains = record { names = disk.names; bytes = left.bytes } in
+            let might : MayLeave disk earlier = record { names = inl refl; files = files } in
+            let at : Option ℕ → Option (List ℕ) = λ o. option_map left.bytes o in
+            of_new_log earlier left (ap at (sym file)) (ap at (sym log)) (ap at none) (safe earlier might)
+
+        log_made : (next : Disk) → Does (Make (own_log path)) disk next → Fits FileOrOld Has next
+        log_made next d =
+            let file : d.0 path ≡ disk.names path = d.4 path (λ same. own_apart path (sym same)) in
+            let log : d.0 (old_log path) ≡ disk.names (old_log path) = d.4 (old_log path) (λ same. logs_apart path (sym same)) in
+            subst (Fits FileOrOld Has) (sym d.5) (record {
+              safe = λ left may. ⊎_elim
+                  (λ now. of_made left (ap (λ (n : Names). n path) now ∙ file) (ap (λ (n : Names). n (old_log path)) now ∙ log) d.6 may.files)
+                  (λ earlier. safe left (record { names = earlier; files = may.files }))
+                  may.names;
+              loose = λ left agree files. of_made left (agree path (inl refl) ∙ file) (agree (old_log path) (inr refl) ∙ log) d.6 files;
+            })
+
+        may_be_made : (next : Disk) → MayDo (Make (own_log path)) disk next → Outlasts seen reads path v next
+        may_be_made next (inl same) = subst (Outlasts seen reads path v) (sym same) safe
+        may_be_made next (inr d) = (log_made next d).safe
 
         module _ (none : disk.names (old_log path) ≡ None) where
           of_renamed : (left : Remains) → left.names path ≡ disk.names path → left.names (old_log path) ≡ disk.names (own_log path) → HasFiles FileOrOld Has disk left → Has left
@@ -270,6 +327,27 @@ module _ {K X : Type 0} (seen : X → Version K) (cmp : K → K → Ordering) (k
           -- the system says that no old log stands
           missed : (events : List Event) → (disk.names (old_log path) ≡ None → MayLeaveDuring events disk left → Has left) → MayLeaveDuring ((Miss (old_log path), true) ∷ events) disk left → Has left
           missed events later may = ⊎_elim (λ it. as_before it.0 it.1 it.2) (λ it. later it.1.0 (subst (λ (d : Disk). MayLeaveDuring events d left) it.1.1 it.2)) may
+
+          -- the directory of a log that stands is synced
+          synced_left : (directory : List ℕ) → MayLeaveDuring ((SyncDirectory directory, true) ∷ []) disk left → Has left
+          synced_left directory may = ⊎_elim (λ it. as_before it.0 it.1 it.2) (λ it. ⊎_elim
+              (λ here. safe left (record {
+                names = ⊎_elim (λ now. inl now) (λ none. absurd none) (subst (λ (d : Disk). MayLeave d left) here.1 it.2).names;
+                files = (subst (λ (d : Disk). MayLeave d left) here.1 it.2).files;
+              }))
+              (λ elsewhere. as_before it.0 elsewhere.1 it.2) it.1) may
+
+          begun_left : (directory : List ℕ) → MayLeaveDuring (beginning path directory) disk left → Has left
+          begun_left directory may = ⊎_elim (λ it. may_be_made it.0 it.1 left it.2)
+              (λ it. during FileOrOld Has ((Permit path, true) ∷ (SyncDirectory directory, true) ∷ []) (tt, (tt, tt)) it.0 (log_made it.0 it.1) left it.2) may
+
+          pub outlasts_opening : (kept : Bool) (before calls : List Event) → Opens kept path before (before ++ calls) → MayLeaveDuring calls disk left → Has left
+          outlasts_opening true before calls (directory, standing, inl begun) may =
+              begun_left directory (subst (λ (events : List Event). MayLeaveDuring events disk left) (append_cancel_left before calls (beginning path directory) begun) may)
+          outlasts_opening true before calls (directory, standing, inr stood) may =
+              synced_left directory (subst (λ (events : List Event). MayLeaveDuring events disk left) (append_cancel_left before calls ((SyncDirectory directory, true) ∷ []) stood) may)
+          outlasts_opening false before calls same may =
+              safe left (subst (λ (events : List Event). MayLeaveDuring events disk left) (append_cancel_left before calls [] (same ∙ sym (append-nil before))) may)
 
           part_left : (directory : List ℕ) (stop : PartingStop) → MayLeaveDuring (parting_until stop path directory) disk left → Has left
           part_left directory Untried may = safe left may

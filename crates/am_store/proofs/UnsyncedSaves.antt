@@ -5,6 +5,7 @@ use Rattle.std.proofs.lemmas.Slice.Eq.{bytes_eq-Decides}
 use Rattle.am_store.specs.Calls.{Make, Rename}
 use Rattle.am_store.specs.Saves.{beside, saving}
 use Rattle.am_store.specs.Crashes.{Agrees, Exactly, Names, Disk, Remains, MayLeave, IsNew, Does, Runs, bytes_at, with_names, with_bytes}
+use Rattle.am_store.proofs.Crashes.{apart}
 use Rattle.am_store.specs.UnsyncedSaves.{one_file, without_the_file, without_the_directory}
 
 at_itself : (path : List ℕ) (a b : Option ℕ) → (if bytes_eq path path then a else b) ≡ a
@@ -44,6 +45,7 @@ module _ (path bytes : List ℕ) where
     at_itself (beside path) (Some 1) ((one_file path bytes).names (beside path)),
     (λ other apart. at_other other (beside path) (Some 1) ((one_file path bytes).names other) apart),
     refl,
+    at_other (beside path) path (Some 0) None (λ same. apart path (sym same)),
   )
 
   renames : (disk : Disk) → disk.names ≡ named → Does (Rename (beside path) path) disk (with_names disk placed)

@@ -84,10 +84,10 @@ pub record IsNew (file : ℕ) (disk : Disk) : Type 0 where
 abbrev pub Does : Call → Disk → Disk → Type 0
 -- unlink: nothing is at the path
 Does (Remove path) old new = (names : Names) × (names path ≡ None) × SameBut path old.names names × (new ≡ with_names old names)
--- open with O_CREAT and O_EXCL: a new file is at the path
+-- open with O_CREAT and O_EXCL: nothing was at the path, and a new file is
 Does (Make path) old new =
     (names : Names) × (file : ℕ) × IsNew file old × (names path ≡ Some file) × SameBut path old.names names
-    × (new ≡ record (with_names old names) { created = file })
+    × (new ≡ record (with_names old names) { created = file }) × (old.names path ≡ None)
 Does (Permit path) old new = new ≡ old
 -- write: the new file isn't synced any more
 Does (Write bytes) old new = new ≡ with_bytes old None

@@ -11,13 +11,15 @@ use Rattle.am_store.specs.Blocks.{recovered}
 use Rattle.am_store.specs.Calls.{Event}
 use Rattle.am_store.specs.Crashes.{Disk, Remains}
 use Rattle.am_store.specs.Outlasting.{InBatches, WasInFile, content_at}
-use Rattle.am_store.specs.Parting.{AreOfParting, FailsAnew, IsSavedAnew}
+use Rattle.am_store.specs.Parting.{AreOfParting, FailsAnew, IsSavedAnew, Opens}
 use Rattle.am_store.specs.Rewrites.{AreOfRewriting, old_log, own_log}
 use Rattle.am_store.specs.Saves.{DropsNew, IsStopped}
 use Rattle.am_store.specs.declared.file_fault.FileFault.{FileFault}
 
 -- what is done with the files of a state
 pub data Act (X : Type 0) : Type 0 where
+  -- the log is opened, if one is kept
+  Open : Act X
   -- a state is saved, and then the logs are begun anew, if nothing stops either
   Save : (state : List X) → Act X
   -- the log is parted from the one before it, if nothing stops that, and no old log stands
@@ -29,6 +31,7 @@ pub data Act (X : Type 0) : Type 0 where
 
 -- the states that an act saves, or writes pieces of
 abbrev pub states_of : {X : Type 0} → Act X → List (List X)
+states_of Open = []
 states_of (Save state) = state ∷ []
 states_of Part = []
 states_of (Rewrite states) = states
@@ -44,6 +47,7 @@ module _ {K X : Type 0} (seen : X → Version K) (cmp : K → K → Ordering) (p
 
   -- these are the calls of an act, after those before
   abbrev pub AreOf : Act X → List Event → List Event → Type 0
+  AreOf Open before after = (kept : Bool) × Opens kept path before after
   AreOf (Save state) before after = AreOfSave state before after
   AreOf Part before after = AreOfParting path before after
   AreOf (Rewrite states) before after = AreOfRewriting seen cmp path most states before after

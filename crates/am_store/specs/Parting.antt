@@ -28,12 +28,13 @@ beginning_until Unpermitted path directory = (Make (own_log path), true) ∷ (Pe
 beginning_until Unwritten path directory = (Make (own_log path), true) ∷ (Permit path, true) ∷ []
 beginning_until Unsettled path directory = (Make (own_log path), true) ∷ (Permit path, true) ∷ (SyncDirectory directory, false) ∷ []
 
--- the first calls on names, when the files of a state are opened: a new log is begun, or the directory of one that stands is
--- synced; or no log is kept
-abbrev pub Opens : Bool → List ℕ → List Event → Type 0
-Opens true path calls =
-    (directory : List ℕ) × IsDirectoryOf path directory × ((calls ≡ beginning path directory) ⊎ (calls ≡ (SyncDirectory directory, true) ∷ []))
-Opens false path calls = calls ≡ []
+-- the log of a state is opened: a new one is begun, or the directory of one that stands is synced; or no log is kept. These are the
+-- calls, after those before.
+abbrev pub Opens : Bool → List ℕ → List Event → List Event → Type 0
+Opens true path before after =
+    (directory : List ℕ) × IsDirectoryOf path directory
+    × ((after ≡ before ++ beginning path directory) ⊎ (after ≡ before ++ (SyncDirectory directory, true) ∷ []))
+Opens false path before after = after ≡ before
 
 -- ---- a parting: FILE.log becomes FILE.log.old, if none stands, and there is a new FILE.log
 -- its calls

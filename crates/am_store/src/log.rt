@@ -84,7 +84,7 @@ fn old_log<R: Files<File = File>>(
 }
 
 impl StateLog {
-    /// Opens the log beside the file of this path, which was read up to `read`, or makes a new one. No call was made before.
+    /// Opens the log beside the file of this path, which was read up to `read`, or makes a new one.
     ///
     /// # Errors
     ///
@@ -95,8 +95,7 @@ impl StateLog {
         path: &str,
         read: Option<LogEnd>,
     ) -> Result<StateLog, FileFault>
-        requires { disk.old.log.events ≡ [] }
-        ensures { OnOk result (Opens true path.now disk.new.log.events) }
+        ensures { OnOk result (Opens true path.now disk.old.log.events disk.new.log.events) }
     {
         let own = beside(rt.alloc(), path, LOG)?;
         let directory = directory_of(path);

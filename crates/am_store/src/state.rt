@@ -1,6 +1,6 @@
 //! The files of a state, which belong to one process for as long as it lives.
 
-ghost use Rattle.std.specs.Prelude.{◌≡◌, false, is_some, IfErr, IfOk, IfSome, OnErr, OnOk};
+ghost use Rattle.std.specs.Prelude.{◌≡◌, [], false, is_some, IfErr, IfOk, IfSome, OnErr, OnOk};
 ghost use Rattle.am_snapshot.specs.Encodings.{row_encoding};
 ghost use Rattle.am_snapshot.specs.Saving.{FitsRow};
 ghost use Rattle.am_store.specs.Appending.{Appends, Commits, IfKept, IsBegunAnew, IsNotTrusted, log_of, rows_if_kept, trusted};
@@ -75,7 +75,8 @@ pub fn open_state<V: Version + Message, R: Files<File = File> + AllocGlobal>(
     keeps_log: bool,
 ) -> Result<OpenedState<V>, FileFault>
     ensures log { IfOk result (λ opened. is_some (log_of opened.file) ≡ keeps_log) }
-    ensures calls { IfOk result (λ opened. Opens keeps_log (path_of opened.file) (calls_of opened.file)) }
+    // PROMISE: The first calls on names that a file's record has are those by which its log is opened: a history begins with them.
+    ensures calls { IfOk result (λ opened. Opens keeps_log (path_of opened.file) [] (calls_of opened.file)) }
 {
     let path = target_of(rt, path)?;
     let lock = lock_beside(rt, path.as_str())?;
@@ -93,7 +94,7 @@ fn state_file<R: Files<File = File> + AllocGlobal>(
     keeps_log: bool,
 ) -> Result<StateFile, FileFault>
     ensures log { IfOk result (λ file. is_some (log_of file) ≡ keeps_log) }
-    ensures calls { IfOk result (λ file. Opens keeps_log (path_of file) (calls_of file)) }
+    ensures calls { IfOk result (λ file. Opens keeps_log (path_of file) [] (calls_of file)) }
 {
     let size = size_of(rt, path.as_str())?;
     let mut disk = SystemDisk::after(rt, DiskCalls::new());
