@@ -49,7 +49,6 @@ ANCHORS = {
     "save": ("am_store::a_crash_leaves_the_old_file_or_the_new_one", "saved"),
     "anew": ("am_store::a_crash_leaves_the_old_file_or_the_one_written_anew", "rewritten"),
     "outlasts": ("am_store::no_crash_loses_a_version", "outlasts"),
-    "parted": ("am_store::no_crash_loses_a_version", "parted"),
     "life": ("am_daemon::live", "lived"),
     "frames": ("am_daemon::each_frame_goes_once", None),
     "kept": ("am_daemon::Server::release", "kept"),
@@ -96,7 +95,7 @@ TAIL = """## Only tested
 
 - **That definitions mean what people want**: [cases/](CASES.md), worked out by hand.
 - **That the loop** is fair, keeps deadlines, closes the right connection, hands on an answer once the peer ends, and counts unfinished bytes, and that replies come: tests/upkeep.py, tests/edges.py. Members under faults of network, process and disk: tests/chaos.py.
-- **That with `--log`** a log is parted before a file is written anew, and begun anew only after a save (the calls of each are recorded apart, and those that remove an unfinished file, or logs where none is kept, aren't), and which fault is told if it isn't; that what is appended to the log between the stretches, which is another file, adds nothing to the calls of the rewriting (in the laws such a log may hold anything, and `Journal::commit` says what it has), nor a save, whose calls are recorded apart; that each state from which the file is written comes of the one before by takes and sweeps; that a rewriting stops where the old log can't be removed; and that a start reads the file and both logs of its path, so that members with logs are durable: tests/disk.py.
+- **That with `--log`** a log is parted before a file is written anew, and which fault is told if it isn't; in which order the member makes the acts of a history, and that it goes on with a rewriting only if it did nothing else with the names of that file meanwhile (`open_state`, `StateFile::save`, `part_logs`, `drop_new` and `compact` say of each act that its calls come behind all before); that a log's file keeps the batches that it acknowledged, as the disks of the laws know (`Journal::commit` says it of the log, whose own calls are recorded apart); that each state from which the file is written comes of the one before by takes and sweeps; that a rewriting stops where the old log can't be removed; and that a start reads the file and both logs of its path, so that members with logs are durable: tests/disk.py.
 - **A member's turns, figures, readiness and first pull**, that a decision is broken off at its limit and not before, and that it gives each step the right moment: tests/turns.py, tests/operations.py, tests/three_members.py, tests/machines.py.
 - **That pages go out**, and only once if nothing fails: tests/pages.py; with real Alertmanagers, if one is installed, tests/real_shims.py.
 - **Command lines, what is read from a path, a server or logs, the counts of `diff --prometheus`, what `mend` does in turn, pictures' layout, the page for people**: tests/command_line.py, live_sources.py, log_sources.py, gossip.py, pictures.py, page.py (with chromium).

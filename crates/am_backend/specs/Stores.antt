@@ -1,5 +1,5 @@
 -- The store of a member, as contracts see it: the state of what is to be on the disk, and the rows of its logs.
-use Rattle.std.specs.Prelude.{◌≡◌, ◌⊎◌, ℕ, ◌+◌, ◌-◌, ◌^◌, ◌<◌, ◌≤◌, Bool, true, false, not, List, [], ◌∷◌, ◌++◌, Option, Some, None, IfSome, IsSomeAnd}
+use Rattle.std.specs.Prelude.{◌≡◌, ◌⊎◌, ℕ, ◌+◌, ◌-◌, ◌^◌, ◌<◌, ◌≤◌, Bool, true, false, not, List, [], ◌∷◌, ◌++◌, Option, Some, None, IfSome, IsSomeAnd, is_some}
 use Rattle.std.specs.List.{list_any}
 use Rattle.am_gossip.specs.declared.frame.Frame.{Frame}
 use Rattle.am_gossip.specs.declared.frame.Frame.TheVariants.{Delta}
@@ -14,20 +14,21 @@ use Rattle.am_snapshot.specs.Encodings.{row_encoding}
 use Rattle.am_store.specs.Appending.{Appends, Commits, IfKept, IsBegunAnew, LogRows, log_of}
 use Rattle.am_store.specs.Calls.{Event}
 use Rattle.am_store.specs.Rewrites.{path_of}
-use Rattle.am_store.specs.Saves.{IsSaved, saves_of}
+use Rattle.am_store.specs.Parting.{IsSavedAnew}
+use Rattle.am_store.specs.Saves.{calls_of}
 use Rattle.am_store.specs.declared.state.StateFile.{StateFile}
 use Rattle.am_backend.specs.declared.commit_state.CommitState.{CommitState}
 use Rattle.am_backend.specs.declared.system_backend.SystemBackend.{SystemBackend}
 use Rattle.am_backend.specs.CommitStates.{behind, came, disk_of, keeps_logs, kept, uncommitted, with_lost, with_saved}
 
--- a file of a state: its path, and the calls of its saves so far
+-- a file of a state: its path, and the calls so far on names in its directory
 pub record SavedFile : Type 0 where
   pub path : List ℕ
-  pub saves : List Event
+  pub calls : List Event
 
 -- the file of a state, as the code holds it
 abbrev pub saved_file : StateFile → SavedFile
-saved_file file = record { path = path_of file; saves = saves_of file }
+saved_file file = record { path = path_of file; calls = calls_of file }
 
 -- the state of what is to be on the disk, and the rows of the logs and the files of the silences and of the notification log
 pub record Store : Type 0 where
@@ -123,15 +124,15 @@ pub record HasCommitted (old new : CommitState) (committed other committed' othe
   pub disk : disk_of new ≡ disk_of old
   pub other_stays : other' ≡ other
 
--- The last save of a file put this row into it.
-abbrev pub HoldsRow : List ℕ → SavedFile → Type 0
-HoldsRow row file = (before : List Event) × IsSaved file.path row before file.saves
+-- The last calls of a file put this row into it, and then began its log anew, if one is kept.
+abbrev pub HoldsRow : List ℕ → Option LogRows → SavedFile → Type 0
+HoldsRow row log file = (before : List Event) × IsSavedAnew (is_some log) file.path row before file.calls
 
 -- Both states of an instance were saved, each in its own file, and their logs begun anew.
 pub record AreSaved (stand : InstanceState) (new : Store) : Type 0 where
   pub complete : behind new.commit_state ≡ false
-  pub silences : HoldsRow (row_encoding mesh_version stand.silences) new.silences_file
-  pub log : HoldsRow (row_encoding entry_version stand.log) new.log_file
+  pub silences : HoldsRow (row_encoding mesh_version stand.silences) new.silences new.silences_file
+  pub log : HoldsRow (row_encoding entry_version stand.log) new.log new.log_file
   pub silences_anew : IsBegunAnew new.silences
   pub log_anew : IsBegunAnew new.log
 

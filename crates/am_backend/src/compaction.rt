@@ -2,6 +2,7 @@
 //! file at a time.
 
 ghost use Rattle.std.specs.Prelude.{◌≡◌};
+ghost use Rattle.am_store.specs.Appending.{log_of};
 ghost use Rattle.am_backend.specs.Stores.{store_of};
 
 use crate::system_backend::{SystemBackend, sooner};
@@ -126,10 +127,12 @@ impl<R> SystemBackend<'_, R> {
     }
 }
 
-impl<R: Files + AllocGlobal> SystemBackend<'_, R> {
+impl<R: Files<File = File> + AllocGlobal> SystemBackend<'_, R> {
     /// Gives up writing files anew, since both are saved.
     pub(crate) fn give_up_compaction(&mut self)
-        ensures store { store_of self.new ≡ store_of self.old }
+        ensures commit_state { self.new.commit_state ≡ self.old.commit_state }
+        ensures silences { log_of self.new.silences ≡ log_of self.old.silences }
+        ensures log { log_of self.new.log ≡ log_of self.old.log }
         ensures queue { self.new.queue ≡ self.old.queue }
         ensures lock { self.new.lock ≡ self.old.lock }
     {

@@ -42,7 +42,7 @@ impl<R: AllocGlobal + Clock + Eprint + Files<File = File>> SystemBackend<'_, R> 
 
     /// Saves the silences, and returns the reason why they are not saved, if they aren't, which is told.
     fn save_silences(&mut self, instance: &Instance) -> Option<Fault>
-        ensures saved { IfNone result (HoldsRow (row_encoding mesh_version instance.now.silences) (saved_file self.new.silences)) }
+        ensures saved { IfNone result (HoldsRow (row_encoding mesh_version instance.now.silences) (log_of self.new.silences) (saved_file self.new.silences)) }
         ensures anew { IfNone result (IsBegunAnew (log_of self.new.silences)) }
         ensures commit_state { self.new.commit_state ≡ self.old.commit_state }
         ensures log { log_of self.new.log ≡ log_of self.old.log }
@@ -68,7 +68,7 @@ impl<R: AllocGlobal + Clock + Eprint + Files<File = File>> SystemBackend<'_, R> 
 
     /// Saves the log, and returns the reason why it is not saved, if it isn't, which is told.
     fn save_log(&mut self, instance: &Instance) -> Option<Fault>
-        ensures saved { IfNone result (HoldsRow (row_encoding entry_version instance.now.log) (saved_file self.new.log)) }
+        ensures saved { IfNone result (HoldsRow (row_encoding entry_version instance.now.log) (log_of self.new.log) (saved_file self.new.log)) }
         ensures anew { IfNone result (IsBegunAnew (log_of self.new.log)) }
         ensures commit_state { self.new.commit_state ≡ self.old.commit_state }
         ensures silences { log_of self.new.silences ≡ log_of self.old.silences }

@@ -6,7 +6,7 @@ use Rattle.std.proofs.Math.Seq.{get_or-append_seam}
 use Rattle.am_store.specs.Calls.{Call, Event, Remove, Make, Permit, Sync, Rename, SyncDirectory}
 use Rattle.am_store.specs.Saves.{HasNoSlash, IsCut, IsDirectoryOf, Lack, Permissions, Row, Safety, Name, Stop, Unnamed, Unmade, Unreplaced, Unsettled, beside, replacing, replacing_until, saving, saving_until}
 use Rattle.am_store.specs.Rewrites.{old_log, own_log}
-use Rattle.am_store.specs.Crashes.{Names, Disk, Remains, IsAmong, MayLeave, Keeps, Does, MayDo, Changes, Runs, MayLeaveDuring, bytes_at, with_names}
+use Rattle.am_store.specs.Crashes.{Agrees, Exactly, Known, Names, Disk, Remains, IsAmong, MayLeave, Keeps, Does, MayDo, Changes, Runs, MayLeaveDuring, bytes_at, with_names}
 
 -- ---- a file has one directory
 slash_inside : (before name : List ℕ) → HasNoSlash (before ++ 47 ∷ name) → ⊥
@@ -62,11 +62,11 @@ own_aside path e = absurd (two_letters (ap (λ (l : List ℕ). get_or l 1 0) (ap
 pub logs_apart : (path : List ℕ) → own_log path ≢ old_log path
 logs_apart path e = omega (arith, ap length e, length-append path (codes ".log"), length-append path (codes ".log.old"))
 
-synced_as : (disk : Disk) (left : Remains) (bytes : List ℕ) → MayLeave disk left → disk.synced disk.created ≡ Some bytes → left.bytes disk.created ≡ bytes
-synced_as disk left bytes may is = subst (λ (o : Option (List ℕ)). IfSome o (λ b. left.bytes disk.created ≡ b)) is (may.files disk.created)
+synced_as : (disk : Disk) (left : Remains) (bytes : List ℕ) → MayLeave disk left → disk.known disk.created ≡ Some (Exactly bytes) → left.bytes disk.created ≡ bytes
+synced_as disk left bytes may is = subst (λ (o : Option Known). IfSome o (λ k. Agrees k (left.bytes disk.created))) is (may.files disk.created)
 
 -- what was at a path, if it is the new file
-at_file : (disk : Disk) (left : Remains) (path row : List ℕ) → MayLeave disk left → left.names path ≡ Some disk.created → disk.synced disk.created ≡ Some row → bytes_at left path ≡ Some row
+at_file : (disk : Disk) (left : Remains) (path row : List ℕ) → MayLeave disk left → left.names path ≡ Some disk.created → disk.known disk.created ≡ Some (Exactly row) → bytes_at left path ≡ Some row
 at_file disk left path row may named is = ap (λ (o : Option ℕ). option_map left.bytes o) named ∙ ap Some (synced_as disk left row may is)
 
 -- ---- what is synced
@@ -74,10 +74,10 @@ last_names : (disk : Disk) (left : Remains) → MayLeave disk left → disk.earl
 last_names disk left may none =
     ⊎_elim (λ now. now) (λ before. absurd before) (subst (λ (earlier : List Names). IsAmong left.names (disk.names ∷ earlier)) none may.names)
 
-pub kept : (path bytes : List ℕ) (file : ℕ) (disk : Disk) → disk.earlier ≡ [] → disk.names path ≡ Some file → disk.synced file ≡ Some bytes → Keeps disk path (Some bytes)
+pub kept : (path bytes : List ℕ) (file : ℕ) (disk : Disk) → disk.earlier ≡ [] → disk.names path ≡ Some file → disk.known file ≡ Some (Exactly bytes) → Keeps disk path (Some bytes)
 kept path bytes file disk none named is left may =
     ap (λ (o : Option ℕ). option_map left.bytes o) (ap (λ (n : Names). n path) (last_names disk left may none) ∙ named)
-    ∙ ap Some (subst (λ (o : Option (List ℕ)). IfSome o (λ b. left.bytes file ≡ b)) is (may.files file))
+    ∙ ap Some (subst (λ (o : Option Known). IfSome o (λ k. Agrees k (left.bytes file))) is (may.files file))
 
 pub none_there : (path : List ℕ) (disk : Disk) → disk.earlier ≡ [] → disk.names path ≡ None → Keeps disk path None
 none_there path disk none named left may =
@@ -100,20 +100,20 @@ directory_stays name disk next (inr does) = ap (λ (d : Disk). d.directory) does
 module _ (path row : List ℕ) where
   -- the new file is there; it is synced with the whole row; it is in its place
   abbrev Made : Disk → Type 0
-  Made disk = (disk.names (beside path) ≡ Some disk.created) × (disk.synced disk.created ≡ None)
+  Made disk = (disk.names (beside path) ≡ Some disk.created) × (disk.known disk.created ≡ None)
 
   abbrev Whole : Disk → Type 0
-  Whole disk = (disk.names (beside path) ≡ Some disk.created) × (disk.synced disk.created ≡ Some row)
+  Whole disk = (disk.names (beside path) ≡ Some disk.created) × (disk.known disk.created ≡ Some (Exactly row))
 
   abbrev Placed : Disk → Type 0
-  Placed disk = (disk.names path ≡ Some disk.created) × (disk.synced disk.created ≡ Some row)
+  Placed disk = (disk.names path ≡ Some disk.created) × (disk.known disk.created ≡ Some (Exactly row))
 
   is_made : (disk next : Disk) → Does (Make (beside path)) disk next → Made next
-  is_made disk next does = subst Made (sym does.5) (does.3, does.2.unsynced)
+  is_made disk next does = subst Made (sym does.5) (does.3, does.2.unknown)
 
   is_whole : (disk next : Disk) → Does (Sync (Some row)) disk next → Made disk → Whole next
   is_whole disk next does file =
-      subst Whole (sym does) (file.0, ap (λ (test : Bool). if test then Some row else disk.synced disk.created) (eq-eqb disk.created disk.created refl))
+      subst Whole (sym does) (file.0, ap (λ (test : Bool). if test then Some (Exactly row) else disk.known disk.created) (eq-eqb disk.created disk.created refl))
 
   is_placed : (disk next : Disk) → Does (Rename (beside path) path) disk next → Whole disk → Placed next
   is_placed disk next does file = subst Placed (sym does.3) (does.1 ∙ file.0, file.1)
@@ -155,7 +155,7 @@ module _ (path row : List ℕ) (Q : Option (List ℕ) → Option (List ℕ) → 
 
   -- ---- what a call does
   -- what holds of the names of this moment
-  pub before : (disk : Disk) → Safe disk → (left : Remains) → ((file : ℕ) → IfSome (disk.synced file) (λ bytes. left.bytes file ≡ bytes))
+  pub before : (disk : Disk) → Safe disk → (left : Remains) → ((file : ℕ) → IfSome (disk.known file) (λ known. Agrees known (left.bytes file)))
       → Fine (record { names = disk.names; bytes = left.bytes })
   before disk safe left files = safe (record { names = disk.names; bytes = left.bytes }) (record { names = inl refl; files = files })
 
@@ -169,9 +169,9 @@ module _ (path row : List ℕ) (Q : Option (List ℕ) → Option (List ℕ) → 
     | inr earlier ↦ safe left (record { names = earlier; files = may.files })
   ]
 
-  removed : (disk next : Disk) → MayDo (Remove (beside path)) disk next → Safe disk → Safe next
-  removed disk next (inl same) safe = subst Safe (sym same) safe
-  removed disk next (inr does) safe =
+  pub new_removed : (disk next : Disk) → MayDo (Remove (beside path)) disk next → Safe disk → Safe next
+  new_removed disk next (inl same) safe = subst Safe (sym same) safe
+  new_removed disk next (inr does) safe =
       subst Safe (sym does.3) (more disk does.0 disk.created (does.2 path (apart path)) (does.2 (old_log path) (old_aside path)) (does.2 (own_log path) (own_aside path)) safe)
 
   made : (disk next : Disk) → MayDo (Make (beside path)) disk next → Safe disk → Safe next
@@ -183,13 +183,13 @@ module _ (path row : List ℕ) (Q : Option (List ℕ) → Option (List ℕ) → 
   permitted disk next (inl same) = same
   permitted disk next (inr same) = same
 
-  synced : (disk next : Disk) → Does (Sync (Some row)) disk next → disk.synced disk.created ≡ None → Safe disk → Safe next
+  synced : (disk next : Disk) → Does (Sync (Some row)) disk next → disk.known disk.created ≡ None → Safe disk → Safe next
   synced disk next does none safe = subst Safe (sym does) (λ left may. safe left (record {
     names = may.names;
     files = λ file. elim (cases_eq file disk.created) [
-      | inl same ↦ subst (λ (o : Option (List ℕ)). IfSome o (λ b. left.bytes file ≡ b)) (sym (ap disk.synced same ∙ none)) tt
+      | inl same ↦ subst (λ (o : Option Known). IfSome o (λ k. Agrees k (left.bytes file))) (sym (ap disk.known same ∙ none)) tt
       | inr unlike ↦
-          subst (λ (test : Bool). IfSome (if test then Some row else disk.synced file) (λ b. left.bytes file ≡ b)) (ne_eqb file disk.created unlike) (may.files file)
+          subst (λ (test : Bool). IfSome (if test then Some (Exactly row) else disk.known file) (λ k. Agrees k (left.bytes file))) (ne_eqb file disk.created unlike) (may.files file)
     ];
   }))
 
@@ -240,8 +240,8 @@ module _ (path row : List ℕ) (Q : Option (List ℕ) → Option (List ℕ) → 
 
       removes : (done : Bool) (events : List Event) (disk : Disk) → Safe disk → ((next : Disk) → Safe next → MayLeaveDuring events next left → Fine left)
           → MayLeaveDuring ((Remove (beside path), done) ∷ events) disk left → Fine left
-      removes done events disk safe goes_on = either (Remove (beside path)) done events disk (λ next may. removed disk next may safe)
-          (λ next changes. goes_on next (removed disk next (removing (beside path) done disk next changes) safe))
+      removes done events disk safe goes_on = either (Remove (beside path)) done events disk (λ next may. new_removed disk next may safe)
+          (λ next changes. goes_on next (new_removed disk next (removing (beside path) done disk next changes) safe))
 
       ends : (disk : Disk) → Safe disk → (done : Bool) → MayLeaveDuring ((Remove (beside path), done) ∷ []) disk left → Fine left
       ends disk safe done = removes done [] disk safe (λ next still. still left)

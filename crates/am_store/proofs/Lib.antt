@@ -14,6 +14,7 @@ mod Outlasting
 mod RewriteOutlasting
 mod Parting
 mod PartingStops
+mod Histories
 mod Rewrites
 mod UnsyncedSaves
 pub mod Appended

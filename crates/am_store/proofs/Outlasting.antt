@@ -1,6 +1,6 @@
 -- A start after a crash.
 use Rattle.std.specs.Prelude.{⊤, Contains, filter}
-use Rattle.std.proofs.Common.{◌≡◌, ◌⊎◌, inl, inr, ⊎_elim, ℕ, Bool, true, false, cond, List, [], ◌∷◌, ◌++◌, Option, Some, None, unwrap_or, Result, refl, sym, ◌∙◌, ap, subst, arith, append-nil}
+use Rattle.std.proofs.Common.{◌≡◌, ◌⊎◌, inl, inr, ⊎_elim, ℕ, Bool, true, false, cond, List, [], ◌∷◌, ◌++◌, Option, Some, None, IfSome, option_map, unwrap_or, Result, refl, sym, ◌∙◌, ap, subst, arith, append-nil}
 use Rattle.std.specs.List.{All, AllByRecursion}
 use Rattle.std.proofs.lemmas.Bool.{lt-ltb}
 use Rattle.std.proofs.lemmas.Cmp.{tied_itself}
@@ -22,11 +22,11 @@ use Rattle.am_merge.proofs.Sweeps.{IsMap-filter}
 use Rattle.am_snapshot.specs.Encodings.{row_encoding}
 use Rattle.am_snapshot.specs.Pieces.{GoesOn}
 use Rattle.am_store.specs.Blocks.{recovered, with_batch, IsBeforeOrAfter}
-use Rattle.am_store.specs.Crashes.{Remains, bytes_at}
+use Rattle.am_store.specs.Crashes.{Agrees, AtLeast, Disk, IsAmong, Known, Names, Remains, bytes_at, moments}
 use Rattle.am_store.specs.Logs.{AreInBatches}
 use Rattle.am_store.specs.Recovering.{IsRecovered}
 use Rattle.am_store.specs.Rewrites.{Place, First, At, End, place_behind, left_at, stretch, old_log, own_log, IsWritten}
-use Rattle.am_store.specs.Outlasting.{HasAtLeast, InBatches, Stands, StartsWith, IsKept, content_at}
+use Rattle.am_store.specs.Outlasting.{HasAtLeast, InBatches, Outlasts, Stands, StartsWith, IsKept, content_at}
 use Rattle.am_store.proofs.Joining.{unbeaten_past}
 
 -- ---- members of lists
@@ -34,10 +34,10 @@ module _ {X : Type 0} where
   pub none_held : (x : X) → Contains [] x → ⊥
   none_held x held = let lt = held.1 in omega (arith, lt)
 
-  first_held : (x : X) (xs : List X) → Contains (x ∷ xs) x
+  pub first_held : (x : X) (xs : List X) → Contains (x ∷ xs) x
   first_held x xs = Contains-append_left (x ∷ []) xs x (Contains-push [] x)
 
-  later_held : (x : X) (xs : List X) (y : X) → Contains xs y → Contains (x ∷ xs) y
+  pub later_held : (x : X) (xs : List X) (y : X) → Contains xs y → Contains (x ∷ xs) y
   later_held x xs y held = Contains-append_right (x ∷ []) xs y held
 
   first_or_later : (x : X) (xs : List X) (y : X) → Contains (x ∷ xs) y → (x ≡ y) ⊎ Contains xs y
@@ -221,6 +221,19 @@ module _ {K X : Type 0} (seen : X → Version K) where
       pub acknowledged_kept : (v : X) (batches : List (List ℕ)) (batch : List ℕ) (left : Remains) → InBatches seen reads batches v → IsBeforeOrAfter batches batch (content_at left (own_log path)) → IsKept seen reads path v left
       acknowledged_kept v batches batch left among is map starts =
           of_own_log v left map starts (still_in batches batch (content_at left (own_log path)) v among is starts.in_second starts.all_of_second)
+
+      -- a log that has at least some batches keeps what is in them
+      pub logged_kept : (v : X) (batches : List (List ℕ)) (left : Remains) → InBatches seen reads batches v → Agrees (AtLeast batches) (content_at left (own_log path)) → IsKept seen reads path v left
+      logged_kept v batches left (some, in_some, held) (more, same) map starts =
+          of_own_log v left map starts
+          (of_more batches more starts.in_second some v (subst (λ (bs : List (List ℕ)). AreInBatches seen reads bs starts.in_second) same starts.all_of_second) in_some held)
+
+      pub log_outlasts : (v : X) (batches : List (List ℕ)) (file : ℕ) (disk : Disk) → InBatches seen reads batches v → disk.known file ≡ Some (AtLeast batches)
+          → ((names : Names) → IsAmong names (moments disk) → names (own_log path) ≡ Some file) → Outlasts seen reads path v disk
+      log_outlasts v batches file disk among known named left may =
+          logged_kept v batches left among
+          (subst (λ (o : Option ℕ). Agrees (AtLeast batches) (unwrap_or (option_map left.bytes o) [])) (sym (named left.names may.names))
+          (subst (λ (o : Option Known). IfSome o (λ k. Agrees k (left.bytes file))) known (may.files file)))
 
       -- what a start has of the same files is the same
       pub same_start : (earlier left : Remains) (map : List X) → bytes_at earlier path ≡ bytes_at left path → bytes_at earlier (old_log path) ≡ bytes_at left (old_log path)

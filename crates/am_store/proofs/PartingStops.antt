@@ -1,9 +1,8 @@
 -- The calls of a parting, or of a beginning anew, that stopped.
-use Rattle.std.proofs.Common.{◌≡◌, ◌≢◌, ◌⊎◌, inl, inr, ⊎_elim, ℕ, zero, suc, ◌==◌, if◌then◌else◌, List, [], ◌∷◌, ◌++◌, length, codes, Option, Some, None, Result, Ok, Err, OnErr, refl, sym, ◌∙◌, ap, arith, append-nil, append_assoc}
+use Rattle.std.proofs.Common.{◌≡◌, ◌≢◌, ◌⊎◌, inl, inr, ⊎_elim, ℕ, zero, suc, ◌==◌, if◌then◌else◌, List, [], ◌∷◌, ◌++◌, length, codes, Option, Some, None, Result, Ok, Err, OnErr, OnOk, refl, sym, ◌∙◌, ap, arith, append-nil, append_assoc}
 use Rattle.std.proofs.lemmas.Bool.{cases_eq}
-use Rattle.am_store.specs.Appending.{IfKept}
 use Rattle.am_store.specs.Calls.{Event}
-use Rattle.am_store.specs.Parting.{FailsToBegin, FailsToPart, NoneRemoved, Untried, calls_in}
+use Rattle.am_store.specs.Parting.{AreOfParting, FailsToPart, IfLogKept, MayPart, Untried}
 use Rattle.am_store.specs.Saves.{HasNoSlash, IsCut, IsDirectoryOf}
 use Rattle.am_store.specs.declared.log.StateLog.{StateLog}
 
@@ -44,15 +43,21 @@ has_directory path = ⊎_elim
     (λ it. (if length it.0 == 0 then codes "/" else it.0, inr (it.0, it.1, it.2, refl)))
     (cut_or_not path)
 
--- ---- nothing is called
-pub unparted : (path : List ℕ) (log : Option StateLog) → IfKept (FailsToPart path) log log
-unparted path None = refl
-unparted path (Some log) =
-    let its = has_directory path in
-    record { stops = record { stop = Untried; directory = its.0; standing = its.1; calls = sym (append-nil (calls_in log)) }; trust = refl }
+-- ---- a parting, whatever comes of it
+pub of_part : {A E : Type 0} (r : Result A E) (path : List ℕ) (before after : List Event) (old new : StateLog)
+    → OnOk r (MayPart path before after old new) → OnErr r (FailsToPart path before after old new) → AreOfParting path before after
+of_part (Ok x) path before after old new (inl parts) stops = inl parts.parted
+of_part (Ok x) path before after old new (inr found) stops = inr (inr found)
+of_part (Err e) path before after old new parts fails = inr (inl fails.stops)
 
-pub unbegun : (path : List ℕ) (log : Option StateLog) → IfKept (FailsToBegin path) log log
-unbegun path None = refl
-unbegun path (Some log) =
+pub none_parted : (path : List ℕ) (events : List Event) → AreOfParting path events events
+none_parted path events =
     let its = has_directory path in
-    record { stop = NoneRemoved; directory = its.0; standing = its.1; calls = sym (append-nil (calls_in log)) }
+    inr (inl (record { stop = Untried; directory = its.0; standing = its.1; calls = sym (append-nil events) }))
+
+-- ---- nothing is called
+pub unparted : (path : List ℕ) (events : List Event) (log : Option StateLog) → IfLogKept (FailsToPart path) events events log log
+unparted path events None = (refl, refl)
+unparted path events (Some log) =
+    let its = has_directory path in
+    record { stops = record { stop = Untried; directory = its.0; standing = its.1; calls = sym (append-nil events) }; trust = refl }

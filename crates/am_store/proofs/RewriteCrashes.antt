@@ -1,14 +1,14 @@
 -- The files that a crash of a rewriting leaves.
 use Rattle.std.specs.Prelude.{⊤}
 use Rattle.std.proofs.Common.{◌≡◌, ◌⊎◌, inl, inr, ⊎_elim, ℕ, Bool, true, false, List, [], ◌∷◌, ◌++◌, Option, Some, None, refl, sym, subst}
-use Rattle.am_store.specs.Calls.{Call, Event, Remove, Make, Permit, Write, Sync, Rename, SyncDirectory}
-use Rattle.am_store.specs.Saves.{IsDirectoryOf, Permissions, Row, Safety, Name, Unnamed, Unmade, Unreplaced, Unsettled, beside, saving}
+use Rattle.am_store.specs.Calls.{Call, Event, Remove, Make, Permit, Write, Sync, Rename, SyncDirectory, Miss}
+use Rattle.am_store.specs.Saves.{IsDirectoryOf, Permissions, Row, Safety, Name, Unnamed, Unmade, Unreplaced, Unsettled, saving}
 use Rattle.am_store.specs.Crashes.{Disk, Remains, MayLeave, Keeps, MayDo, Runs, MayLeaveDuring, bytes_at}
 use Rattle.am_store.specs.Rewrites.{HasWhole, Place, End, RewritingStop, Unsaved, LogUnnamed, LogKept, LogUnsettled, old_log, own_log, rewriting, rewriting_until}
 use Rattle.am_store.proofs.Crashes.{Fine, Safe, is_done, is_saved, is_stopped, log_ends, log_may_end, log_removed, removing, right_after, settled}
 
 -- a crash during calls comes during the first ones, or once these are made
-during : (first second : List Event) (disk : Disk) (left : Remains) → MayLeaveDuring (first ++ second) disk left
+pub during : (first second : List Event) (disk : Disk) (left : Remains) → MayLeaveDuring (first ++ second) disk left
     → MayLeaveDuring first disk left ⊎ ((mid : Disk) × Runs first disk mid × MayLeaveDuring second mid left)
 during [] second disk left may = inr (disk, refl, may)
 during ((call, done) ∷ events) second disk left (inl now) = inl (inl now)
@@ -30,6 +30,7 @@ does_nothing (Write bytes) disk = inl refl
 does_nothing (Sync bytes) disk = refl
 does_nothing (Rename from to) disk = inl refl
 does_nothing (SyncDirectory path) disk = refl
+does_nothing (Miss path) disk = refl
 
 pub sooner : (first second : List Event) (disk : Disk) (left : Remains) → MayLeaveDuring first disk left → MayLeaveDuring (first ++ second) disk left
 sooner [] [] disk left may = may

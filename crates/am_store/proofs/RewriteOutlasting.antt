@@ -17,16 +17,16 @@ use Rattle.am_snapshot.proofs.ReadAgain.{IsReadBack}
 use Rattle.am_store.specs.Blocks.{recovered}
 use Rattle.am_store.specs.Calls.{Event, Remove, Make, Sync, Rename, SyncDirectory}
 use Rattle.am_store.specs.Crashes.{Disk, Remains, Keeps, MayLeave, MayLeaveDuring, bytes_at}
-use Rattle.am_store.specs.Saves.{IsDirectoryOf, IsTried, Name, Row, Unnamed, Unreplaced, Unsettled, beside, replacing, saving}
-use Rattle.am_store.specs.declared.file_fault.FileFault.{FileFault}
+use Rattle.am_store.specs.Saves.{IsDirectoryOf, Name, Row, Stop, Unnamed, Unreplaced, Unsettled, beside, replacing, saving, saving_until}
 use Rattle.am_store.specs.declared.stages.CompactionStage.{CompactionStage}
 use Rattle.am_store.specs.declared.stages.CompactionStage.TheVariants as stages
-use Rattle.am_store.specs.Rewrites.{AreOfRewriting, First, End, Has, HasWhole, IsCause, IsWritten, Place, RewritingStop, LogUnnamed, LogKept, LogUnsettled, Unsaved, calls_before, making, new_bytes, old_log, own_log, place_from, place_of, rewriting, rewriting_until, stage_of}
+use Rattle.am_store.specs.Rewrites.{AreOfRewriting, First, End, Has, HasWhole, IsCause, IsWritten, Place, RewritingStop, LogUnnamed, LogKept, LogUnsettled, Unsaved, calls_before, making, new_bytes, old_log, own_log, place_from, place_of, rewriting, rewriting_until}
 use Rattle.am_store.specs.Logs.{AreInBatches}
-use Rattle.am_store.specs.Outlasting.{FileHas, HasAtLeast, IsKept, IsKnown, IsState, Outlasts, StartsWith, content_at}
-use Rattle.am_store.proofs.Crashes.{Fine, is_saved, is_stopped}
+use Rattle.am_store.specs.Outlasting.{HasAtLeast, InRow, IsKept, IsKnown, IsState, Outlasts, StartsWith, WasInFile, content_at}
+use Rattle.am_store.proofs.Crashes.{Fine, is_saved, is_stopped, new_removed, removing}
 use Rattle.am_store.proofs.BlockLemmas.{recovered_none}
 use Rattle.am_store.proofs.Outlasting.{IsOf, Reaches, none_held, of_row, pieces_of, same_start}
+use Rattle.am_store.proofs.Parting.{FileHas}
 use Rattle.am_store.proofs.ReadRows.{read_same}
 use Rattle.am_store.proofs.RewriteCrashes.{leaves_new, log_covers, sooner}
 
@@ -105,19 +105,19 @@ module _ {K X : Type 0} (seen : X → Version K) (cmp : K → K → Ordering) (p
     pub fits : length row ≤ most
     pub is : IsLeft path disk row (place ≡ End) left
 
-  during : (calls made : List Event) → calls ≡ made → MayLeaveDuring calls disk left → MayLeaveDuring made disk left
-  during calls made same may = subst (λ (events : List Event). MayLeaveDuring events disk left) same may
+  during : (before calls made : List Event) → before ++ calls ≡ before ++ made → MayLeaveDuring calls disk left → MayLeaveDuring made disk left
+  during before calls made same may = subst (λ (events : List Event). MayLeaveDuring events disk left) (append_cancel_left before calls made same) may
 
-  pub of_rewriting : (calls : List Event) → AreOfRewriting seen cmp path most states calls → MayLeaveDuring calls disk left → Leaves
-  of_rewriting calls (inl anew) may = record {
+  pub of_rewriting : (before calls : List Event) → AreOfRewriting seen cmp path most states before (before ++ calls) → MayLeaveDuring calls disk left → Leaves
+  of_rewriting before calls (inl anew) may = record {
     row = anew.row;
     place = End;
     written = anew.written;
     fits = anew.fits;
     is = ⊎_elim (λ old. inl old) (λ new. inr (refl, new.1, new.2))
-        (whole_left path disk its left anew.row anew.stood anew.ended anew.directory anew.standing (during calls (rewriting anew.stood anew.ended path anew.directory anew.row) anew.calls may));
+        (whole_left path disk its left anew.row anew.stood anew.ended anew.directory anew.standing (during before calls (rewriting anew.stood anew.ended path anew.directory anew.row) anew.calls may));
   }
-  of_rewriting calls (inr (inl (state, fault, stops))) may =
+  of_rewriting before calls (inr (inl (state, fault, stops))) may =
       record {
         row = stops.row;
         place = stops.place;
@@ -126,23 +126,23 @@ module _ {K X : Type 0} (seen : X → Version K) (cmp : K → K → Ordering) (p
         is = part_left path disk its left stops.row stops.place stops.stood stops.removed stops.ended stops.directory stops.stop stops.whole
             (λ e. (subst (λ (s : RewritingStop). IsCause seen cmp path most s state states stops.directory fault) e stops.cause).0)
             (λ e. (subst (λ (s : RewritingStop). IsCause seen cmp path most s state states stops.directory fault) e stops.cause).0)
-            (during calls (rewriting_until stops.stop stops.stood stops.removed stops.ended path stops.directory stops.row) stops.calls may);
+            (during before calls (rewriting_until stops.stop stops.stood stops.removed stops.ended path stops.directory stops.row) stops.calls may);
       }
-  of_rewriting calls (inr (inr (compaction, come, same))) may = record {
+  of_rewriting before calls (inr (inr (stage, come))) may = record {
     row = come.row;
-    place = place_of (stage_of compaction);
+    place = place_of stage;
     written = come.written;
     fits = come.fits;
-    is = come_left path disk its left new_bytes (stage_of compaction) come.row come.stood come.ended come.directory come.has
-        (during calls (calls_before (stage_of compaction) come.stood come.ended path come.directory come.row) (sym same ∙ come.calls) may);
+    is = come_left path disk its left new_bytes stage come.row come.stood come.ended come.directory come.has
+        (during before calls (calls_before stage come.stood come.ended path come.directory come.row) come.calls may);
   }
 
 -- ---- a new file is read as the versions that it was made of
-row_read_again : {K X : Type 0} (seen : X → Version K) (reads : ℕ → List ℕ → Result X WireError) (path : List ℕ) (left : Remains) (map : List X) (starts : StartsWith seen reads path left map)
-    (row : List ℕ) (versions : List X) → bytes_at left path ≡ Some row → row ≡ row_encoding seen versions → length row < 2 ^ 64 → All (IsReadBack seen reads) versions → starts.in_row ≡ versions
-row_read_again seen reads path left map starts row versions found text small back =
-    read_same seen reads versions starts.in_row back (omega (arith, small, ap length text))
-    (subst (λ (bytes : List ℕ). AreMessages reads bytes starts.in_row) (ap (λ (o : Option (List ℕ)). unwrap_or o []) found ∙ text) starts.all_of_row)
+row_read_again : {K X : Type 0} (seen : X → Version K) (reads : ℕ → List ℕ → Result X WireError) (path : List ℕ) (left : Remains) (in_row : List X) → AreMessages reads (content_at left path) in_row
+    → (row : List ℕ) (versions : List X) → bytes_at left path ≡ Some row → row ≡ row_encoding seen versions → length row < 2 ^ 64 → All (IsReadBack seen reads) versions → in_row ≡ versions
+row_read_again seen reads path left in_row all row versions found text small back =
+    read_same seen reads versions in_row back (omega (arith, small, ap length text))
+    (subst (λ (bytes : List ℕ). AreMessages reads bytes in_row) (ap (λ (o : Option (List ℕ)). unwrap_or o []) found ∙ text) all)
 
 -- a file that is kept with the row of a state has what the state has
 pub file_has : {K X : Type 0} (seen : X → Version K) (cmp : K → K → Ordering) (is_value : X → Type 0) (plain : X → X) (unknown : Unknown)
@@ -156,37 +156,77 @@ file_has seen cmp is_value plain unknown reads back path state disk v small is k
 -- ---- what a start has after a save
 module _ {K X : Type 0} (seen : X → Version K) (cmp : K → K → Ordering) (is_value : X → Type 0) (plain : X → X) (unknown : Unknown)
     (reads : ℕ → List ℕ → Result X WireError) (back : (v : X) → is_value v × StaysWhole plain unknown v → IsReadBack seen reads v)
-    (path : List ℕ) (fits : Type 0) (state : List X) (earlier calls : List Event) (fault : FileFault) (disk : Disk) (left : Remains)
+    (path : List ℕ) (state : List X) (disk : Disk) (left : Remains)
     (small : length (row_encoding seen state) < 2 ^ 64) (is : IsState seen cmp is_value plain unknown state) where
+  abbrev row : List ℕ
+  row = row_encoding seen state
+
   abbrev BeforeOrNew : Option (List ℕ) → Option (List ℕ) → Option (List ℕ) → Type 0
-  BeforeOrNew found there log = AsBefore path disk found there log ⊎ (found ≡ Some (row_encoding seen state))
+  BeforeOrNew found there log = AsBefore path disk found there log ⊎ (found ≡ Some row)
 
-  save_leaves : IsTried fits path (row_encoding seen state) earlier (earlier ++ calls) fault → MayLeaveDuring calls disk left → Fine path (row_encoding seen state) BeforeOrNew left
-  save_leaves (inl stopped) may =
-      is_stopped path (row_encoding seen state) BeforeOrNew (λ found there log new. inr refl) left stopped.stop stopped.stood stopped.removed disk (λ l m. inl (before path disk l m))
-      (subst (λ (events : List Event). MayLeaveDuring events disk left) (append_cancel_left earlier _ _ stopped.calls) may)
-  save_leaves (inr saved) may =
-      is_saved path (row_encoding seen state) BeforeOrNew (λ found there log new. inr refl) left saved.stood saved.directory disk (λ l m. inl (before path disk l m))
-      (subst (λ (events : List Event). MayLeaveDuring events disk left) (append_cancel_left earlier _ _ saved.calls) may)
-
-  pub outlasts_save : IsTried fits path (row_encoding seen state) earlier (earlier ++ calls) fault → MayLeaveDuring calls disk left → (v : X) → Outlasts seen reads path v disk → HasAtLeast seen v state → IsKept seen reads path v left
-  outlasts_save tried may v safe has map starts = ⊎_elim
+  keeps : Fine path row BeforeOrNew left → (v : X) → Outlasts seen reads path v disk → HasAtLeast seen v state → IsKept seen reads path v left
+  keeps fine v safe has map starts = ⊎_elim
       (λ old. safe old.earlier old.might map (same_start seen reads path old.earlier left map old.file old.first old.second starts))
-      (λ new. of_row seen reads path v left map starts (subst (HasAtLeast seen v) (sym (row_read_again seen reads path left map starts (row_encoding seen state) state new refl small
+      (λ new. of_row seen reads path v left map starts (subst (HasAtLeast seen v) (sym (row_read_again seen reads path left starts.in_row starts.all_of_row row state new refl small
       (λ k d lt. back (get_or state k d) (is.values k d lt, is.whole k d lt)))) has))
-      (save_leaves tried may)
+      fine
+
+  comes : Fine path row BeforeOrNew left → (v : X) → InRow seen reads (content_at left path) v → Contains state v ⊎ WasInFile seen reads path disk v
+  comes fine v (versions, all, held) = ⊎_elim
+      (λ old. inr (old.earlier, old.might, (versions, subst (λ (o : Option (List ℕ)). AreMessages reads (unwrap_or o []) versions) (sym old.file) all, held)))
+      (λ new. inl (subst (λ (vs : List X). Contains vs v) (row_read_again seen reads path left versions all row state new refl small
+      (λ k d lt. back (get_or state k d) (is.values k d lt, is.whole k d lt))) held))
+      fine
+
+  pub saved_from : (stood : Bool) (directory : List ℕ) → MayLeaveDuring (saving stood path directory row) disk left → (v : X) → InRow seen reads (content_at left path) v
+      → Contains state v ⊎ WasInFile seen reads path disk v
+  saved_from stood directory may =
+      comes (is_saved path row BeforeOrNew (λ found there log new. inr refl) left stood directory disk (λ l m. inl (before path disk l m)) may)
+
+  pub stopped_from : (stop : Stop) (stood removed : Bool) → MayLeaveDuring (saving_until stop stood removed path row) disk left → (v : X) → InRow seen reads (content_at left path) v
+      → Contains state v ⊎ WasInFile seen reads path disk v
+  stopped_from stop stood removed may =
+      comes (is_stopped path row BeforeOrNew (λ found there log new. inr refl) left stop stood removed disk (λ l m. inl (before path disk l m)) may)
+
+  pub outlasts_saved : (stood : Bool) (directory : List ℕ) → MayLeaveDuring (saving stood path directory row) disk left → (v : X) → Outlasts seen reads path v disk → HasAtLeast seen v state
+      → IsKept seen reads path v left
+  outlasts_saved stood directory may =
+      keeps (is_saved path row BeforeOrNew (λ found there log new. inr refl) left stood directory disk (λ l m. inl (before path disk l m)) may)
+
+  pub outlasts_stopped : (stop : Stop) (stood removed : Bool) → MayLeaveDuring (saving_until stop stood removed path row) disk left → (v : X) → Outlasts seen reads path v disk → HasAtLeast seen v state
+      → IsKept seen reads path v left
+  outlasts_stopped stop stood removed may =
+      keeps (is_stopped path row BeforeOrNew (λ found there log new. inr refl) left stop stood removed disk (λ l m. inl (before path disk l m)) may)
+
+-- ---- what a start has after the new file is removed
+module _ {K X : Type 0} (seen : X → Version K) (reads : ℕ → List ℕ → Result X WireError) (path : List ℕ) (v : X) (disk : Disk) (left : Remains) where
+  removed_leaves : (done : Bool) → MayLeaveDuring ((Remove (beside path), done) ∷ []) disk left → Fine path [] (AsBefore path disk) left
+  removed_leaves done may = ⊎_elim
+      (λ it. new_removed path [] (AsBefore path disk) disk it.0 it.1 (before path disk) left it.2)
+      (λ it. new_removed path [] (AsBefore path disk) disk it.0 (removing (beside path) done disk it.0 it.1) (before path disk) left it.2)
+      may
+
+  pub drop_from : (done : Bool) → MayLeaveDuring ((Remove (beside path), done) ∷ []) disk left → InRow seen reads (content_at left path) v → WasInFile seen reads path disk v
+  drop_from done may (versions, all, held) =
+      let old = removed_leaves done may in
+      (old.earlier, old.might, (versions, subst (λ (o : Option (List ℕ)). AreMessages reads (unwrap_or o []) versions) (sym old.file) all, held))
+
+  pub outlasts_drop : (done : Bool) → MayLeaveDuring ((Remove (beside path), done) ∷ []) disk left → Outlasts seen reads path v disk → IsKept seen reads path v left
+  outlasts_drop done may safe map starts =
+      let old = removed_leaves done may in
+      safe old.earlier old.might map (same_start seen reads path old.earlier left map old.file old.first old.second starts)
 
 -- ---- what a start has
 module _ {K X : Type 0} (seen : X → Version K) (cmp : K → K → Ordering) (keys : IsKeyOrder cmp) (is_value : X → Type 0) (plain : X → X) (unknown : Unknown)
     (reads : ℕ → List ℕ → Result X WireError) (back : (v : X) → is_value v × StaysWhole plain unknown v → IsReadBack seen reads v)
-    (path : List ℕ) (most : ℕ) (states : List (List X)) (calls : List Event) (disk : Disk) (small : most < 2 ^ 32) (its : IsDirectoryOf path disk.directory)
-    (are : All (IsState seen cmp is_value plain unknown) states) (made : AreOfRewriting seen cmp path most states calls) where
+    (path : List ℕ) (most : ℕ) (states : List (List X)) (earlier calls : List Event) (disk : Disk) (small : most < 2 ^ 32) (its : IsDirectoryOf path disk.directory)
+    (are : All (IsState seen cmp is_value plain unknown) states) (made : AreOfRewriting seen cmp path most states earlier (earlier ++ calls)) where
   orders : All (IsMap seen cmp) states
   orders k d lt = (are k d lt).order
 
-  module _ (left : Remains) (may : MayLeaveDuring calls disk left) (map : List X) (starts : StartsWith seen reads path left map) where
+  module _ (left : Remains) (may : MayLeaveDuring calls disk left) where
     leaves : Leaves seen cmp path most states disk its left
-    leaves = of_rewriting seen cmp path most states disk its left calls made may
+    leaves = of_rewriting seen cmp path most states disk its left earlier calls made may
 
     pieces : IsOf seen cmp keys states leaves.row leaves.place
     pieces = pieces_of seen cmp keys states leaves.row leaves.place orders leaves.written
@@ -197,46 +237,50 @@ module _ {K X : Type 0} (seen : X → Version K) (cmp : K → K → Ordering) (k
         let is = All-contains (IsState seen cmp is_value plain unknown) states state are among in
         back v (All-contains is_value state v is.values has, All-contains (StaysWhole plain unknown) state v is.whole has)
 
-    new_row : bytes_at left path ≡ Some leaves.row → starts.in_row ≡ pieces.versions
-    new_row found =
-        row_read_again seen reads path left map starts leaves.row pieces.versions found pieces.text (omega (arith, small, leaves.fits))
+    new_row : (in_row : List X) → AreMessages reads (content_at left path) in_row → bytes_at left path ≡ Some leaves.row → in_row ≡ pieces.versions
+    new_row in_row all found =
+        row_read_again seen reads path left in_row all leaves.row pieces.versions found pieces.text (omega (arith, small, leaves.fits))
         (λ k d lt. readable (get_or pieces.versions k d) (All-contains_itself pieces.versions k d lt))
 
-    pub outlasts : (v : X) → Outlasts seen reads path v disk → All (HasAtLeast seen v) states → HasAtLeast seen v map
-    outlasts v safe all = ⊎_elim
-        (λ old. safe old.earlier old.might map (same_start seen reads path old.earlier left map old.file old.first old.second starts))
-        (λ new. ⊎_elim
-        (λ has. of_row seen reads path v left map starts (subst (HasAtLeast seen v) (sym (new_row new.1)) has))
-        (λ never. absurd (subst (λ (p : Place K). Reaches seen cmp keys p (seen v).key) new.0 never))
-        (pieces.covers v all))
+    pub rewriting_from : (v : X) → InRow seen reads (content_at left path) v → ((state : List X) × Contains states state × Contains state v) ⊎ WasInFile seen reads path disk v
+    rewriting_from v (versions, all, held) = ⊎_elim
+        (λ old. inr (old.earlier, old.might, (versions, subst (λ (o : Option (List ℕ)). AreMessages reads (unwrap_or o []) versions) (sym old.file) all, held)))
+        (λ new. inl (pieces.from v (subst (λ (vs : List X). Contains vs v) (new_row versions all new.1) held)))
         leaves.is
 
-    pub nothing_new : (v : X) → Contains map v → IsKnown seen reads path states disk left v
-    nothing_new v held = ⊎_elim (λ some. ⊎_elim of_the_row of_the_old_log (Contains-append_cases starts.in_row starts.in_first v some))
-        (λ own. inl (starts.in_second, starts.all_of_second, own))
-        (Contains-append_cases (starts.in_row ++ starts.in_first) starts.in_second v (starts.best.best v held).member)
-      where
-        same_bytes : (earlier : Remains) (p : List ℕ) → bytes_at earlier p ≡ bytes_at left p → content_at left p ≡ content_at earlier p
-        same_bytes earlier p same = ap (λ (o : Option (List ℕ)). unwrap_or o []) (sym same)
+    module _ (map : List X) (starts : StartsWith seen reads path left map) where
+      pub outlasts : (v : X) → Outlasts seen reads path v disk → All (HasAtLeast seen v) states → HasAtLeast seen v map
+      outlasts v safe all = ⊎_elim
+          (λ old. safe old.earlier old.might map (same_start seen reads path old.earlier left map old.file old.first old.second starts))
+          (λ new. ⊎_elim
+          (λ has. of_row seen reads path v left map starts (subst (HasAtLeast seen v) (sym (new_row starts.in_row starts.all_of_row new.1)) has))
+          (λ never. absurd (subst (λ (p : Place K). Reaches seen cmp keys p (seen v).key) new.0 never))
+          (pieces.covers v all))
+          leaves.is
 
-        of_the_row : Contains starts.in_row v → IsKnown seen reads path states disk left v
-        of_the_row in_row = ⊎_elim
-            (λ old. inr (inr (old.earlier, old.might, inl (starts.in_row, subst (λ (row : List ℕ). AreMessages reads row starts.in_row) (same_bytes old.earlier path old.file) starts.all_of_row, in_row))))
-            (λ new. inr (inl (pieces.from v (subst (λ (vs : List X). Contains vs v) (new_row new.1) in_row))))
-            leaves.is
+      pub nothing_new : (v : X) → Contains map v → IsKnown seen reads path states disk left v
+      nothing_new v held = ⊎_elim (λ some. ⊎_elim of_the_row of_the_old_log (Contains-append_cases starts.in_row starts.in_first v some))
+          (λ own. inl (starts.in_second, starts.all_of_second, own))
+          (Contains-append_cases (starts.in_row ++ starts.in_first) starts.in_second v (starts.best.best v held).member)
+        where
+          same_bytes : (earlier : Remains) (p : List ℕ) → bytes_at earlier p ≡ bytes_at left p → content_at left p ≡ content_at earlier p
+          same_bytes earlier p same = ap (λ (o : Option (List ℕ)). unwrap_or o []) (sym same)
 
-        in_old_log : (earlier : Remains) → MayLeave disk earlier → bytes_at earlier (old_log path) ≡ bytes_at left (old_log path) → Contains starts.in_first v → IsKnown seen reads path states disk left v
-        in_old_log earlier might same in_first =
-            inr (inr (earlier, might, inr (starts.in_first, subst (λ (log : List ℕ). AreInBatches seen reads (recovered log) starts.in_first) (same_bytes earlier (old_log path) same) starts.all_of_first, in_first)))
+          of_the_row : Contains starts.in_row v → IsKnown seen reads path states disk left v
+          of_the_row in_row = ⊎_elim (λ state. inr (inl state)) (λ was. inr (inr (was.0, was.1, inl was.2))) (rewriting_from v (starts.in_row, starts.all_of_row, in_row))
 
-        none_in : bytes_at left (old_log path) ≡ None → Contains starts.in_first v → ⊥
-        none_in none in_first =
-            none_held v (subst (λ (vs : List X). Contains vs v)
-            (subst (λ (batches : List (List ℕ)). AreInBatches seen reads batches starts.in_first) (recovered_none [] refl)
-            (subst (λ (o : Option (List ℕ)). AreInBatches seen reads (recovered (unwrap_or o [])) starts.in_first) none starts.all_of_first)) in_first)
+          in_old_log : (earlier : Remains) → MayLeave disk earlier → bytes_at earlier (old_log path) ≡ bytes_at left (old_log path) → Contains starts.in_first v → IsKnown seen reads path states disk left v
+          in_old_log earlier might same in_first =
+              inr (inr (earlier, might, inr (starts.in_first, subst (λ (log : List ℕ). AreInBatches seen reads (recovered log) starts.in_first) (same_bytes earlier (old_log path) same) starts.all_of_first, in_first)))
 
-        of_the_old_log : Contains starts.in_first v → IsKnown seen reads path states disk left v
-        of_the_old_log in_first = ⊎_elim
-            (λ old. in_old_log old.earlier old.might old.first in_first)
-            (λ new. ⊎_elim (λ same. in_old_log new.2.earlier new.2.might same in_first) (λ none. absurd (none_in none in_first)) new.2.first)
-            leaves.is
+          none_in : bytes_at left (old_log path) ≡ None → Contains starts.in_first v → ⊥
+          none_in none in_first =
+              none_held v (subst (λ (vs : List X). Contains vs v)
+              (subst (λ (batches : List (List ℕ)). AreInBatches seen reads batches starts.in_first) (recovered_none [] refl)
+              (subst (λ (o : Option (List ℕ)). AreInBatches seen reads (recovered (unwrap_or o [])) starts.in_first) none starts.all_of_first)) in_first)
+
+          of_the_old_log : Contains starts.in_first v → IsKnown seen reads path states disk left v
+          of_the_old_log in_first = ⊎_elim
+              (λ old. in_old_log old.earlier old.might old.first in_first)
+              (λ new. ⊎_elim (λ same. in_old_log new.2.earlier new.2.might same in_first) (λ none. absurd (none_in none in_first)) new.2.first)
+              leaves.is

@@ -1,5 +1,5 @@
 -- The progress of a rewriting, stage by stage.
-use Rattle.std.proofs.Common.{◌≡◌, ◌⊎◌, inl, inr, ℕ, ◌+◌, ◌<◌, ◌≤◌, Bool, true, false, List, [], ◌∷◌, ◌++◌, length, Option, Some, None, Ok, Err, string_bytes, refl, sym, ◌∙◌, ap, subst, arith, length-append}
+use Rattle.std.proofs.Common.{◌≡◌, ◌⊎◌, inl, inr, ℕ, ◌+◌, ◌<◌, ◌≤◌, Bool, true, false, List, [], ◌∷◌, ◌++◌, length, Option, Some, None, Ok, Err, string_bytes, refl, sym, ◌∙◌, ap, subst, arith, length-append, append_assoc}
 use Rattle.std.specs.declared.cmp.Ordering.{Ordering}
 use Rattle.std.specs.declared.fs.File.{File}
 use Rattle.std.specs.Io.KnownBytes.{Appends}
@@ -29,27 +29,33 @@ module _ {K X F : Type 0} (seen : X → Version K) (cmp : K → K → Ordering) 
   nothing_yet [] row written = written.0
   nothing_yet (m ∷ earlier) row (before, from, piece, w, is, r, place) = absurd (not_first piece.next place)
 
-  three : (a b c d : List Event) (x y z : Event) → a ≡ [] → b ≡ a ++ x ∷ [] → c ≡ b ++ y ∷ [] → d ≡ c ++ z ∷ [] → d ≡ x ∷ y ∷ z ∷ []
-  three a b c d x y z ea eb ec ed = rw (ed, ec, eb, ea) refl
+  one_more : (before first a b : List Event) (x : Event) → a ≡ before ++ first → b ≡ a ++ x ∷ [] → b ≡ before ++ (first ++ x ∷ [])
+  one_more before first a b x ea eb = eb ∙ ap (λ (l : List Event). l ++ x ∷ []) ea ∙ append_assoc before first (x ∷ [])
+
+  two_more : (before first a b c : List Event) (x y : Event) → a ≡ before ++ first → b ≡ a ++ x ∷ [] → c ≡ b ++ y ∷ [] → c ≡ before ++ ((first ++ x ∷ []) ++ y ∷ [])
+  two_more before first a b c x y ea eb ec = one_more before (first ++ x ∷ []) b c y (one_more before first a b x ea eb) ec
+
+  three : (before a b c d : List Event) (x y z : Event) → a ≡ before ++ [] → b ≡ a ++ x ∷ [] → c ≡ b ++ y ∷ [] → d ≡ c ++ z ∷ [] → d ≡ before ++ x ∷ y ∷ z ∷ []
+  three before a b c d x y z ea eb ec ed = one_more before (x ∷ y ∷ []) c d z (two_more before [] a b c x y ea eb ec) ed
 
   pub made : (a b c d : List Event) (name : List ℕ) (stood : Bool) (new : NewFile F) → b ≡ a ++ (call.Remove name, stood) ∷ []
       → c ≡ b ++ (call.Make name, true) ∷ [] → d ≡ c ++ (call.Permit path, true) ∷ [] → name ≡ beside path → string_bytes new.name ≡ name
       → contents new.file ≡ Some [] → new.written ≡ 0 → Advances seen cmp path most contents map Make a (Ok (Write new None)) d
   made a b c d name stood new eb ec ed is its empty none = record {
     next = tt;
-    come = λ maps has.
+    come = λ maps before has.
         let no : has.row ≡ [] = nothing_yet maps has.row has.written in
         record {
           row = has.row;
           stood = stood;
           ended = has.ended;
           directory = has.directory;
-          calls = three a b c d _ _ _ has.calls eb ec ed ∙ ap (λ (n : List ℕ). (call.Remove n, stood) ∷ (call.Make n, true) ∷ (call.Permit path, true) ∷ []) is;
+          calls = three before a b c d _ _ _ has.calls eb ec ed ∙ ap (λ (n : List ℕ). before ++ (call.Remove n, stood) ∷ (call.Make n, true) ∷ (call.Permit path, true) ∷ []) is;
           written = has.written;
           fits = has.fits;
           has = (its ∙ is, empty ∙ ap Some (sym no), none ∙ ap length (sym no));
         };
-    stopped = λ maps has. tt;
+    stopped = λ maps before has. tt;
   }
 
   -- ---- a piece
@@ -68,7 +74,7 @@ module _ {K X F : Type 0} (seen : X → Version K) (cmp : K → K → Ordering) 
     pub wrote : (key : K) → piece.next ≡ Some key → Advances seen cmp path most contents map (Write old from) a (Ok (Write new (Some key))) b
     wrote key next = record {
       next = tt;
-      come = λ maps has.
+      come = λ maps before has.
           let size : new.written ≡ length (has.row ++ piece.row) = omega (arith, count, has.has.2, length-append has.row piece.row) in
           record {
             row = has.row ++ piece.row;
@@ -80,13 +86,13 @@ module _ {K X F : Type 0} (seen : X → Version K) (cmp : K → K → Ordering) 
             fits = omega (arith, size, few);
             has = (ap string_bytes name ∙ has.has.0, appended (contents old.file) (contents new.file) has.row piece.row has.has.1 grows, size);
           };
-      stopped = λ maps has. tt;
+      stopped = λ maps before has. tt;
     }
 
     pub wrote_all : piece.next ≡ None → Advances seen cmp path most contents map (Write old from) a (Ok (HandOver new)) b
     wrote_all next = record {
       next = tt;
-      come = λ maps has.
+      come = λ maps before has.
           let size : new.written ≡ length (has.row ++ piece.row) = omega (arith, count, has.has.2, length-append has.row piece.row) in
           record {
             row = has.row ++ piece.row;
@@ -98,7 +104,7 @@ module _ {K X F : Type 0} (seen : X → Version K) (cmp : K → K → Ordering) 
             fits = omega (arith, size, few);
             has = (ap string_bytes name ∙ has.has.0, appended (contents old.file) (contents new.file) has.row piece.row has.has.1 grows, size);
           };
-      stopped = λ maps has. tt;
+      stopped = λ maps before has. tt;
     }
 
   pub unwritten : (a b c : List Event) (new : NewFile F) (name : List ℕ) (from : Option K) (removed : Bool) (fault : FileFault) → b ≡ a → name ≡ string_bytes new.name
@@ -107,8 +113,8 @@ module _ {K X F : Type 0} (seen : X → Version K) (cmp : K → K → Ordering) 
       → Advances seen cmp path most contents map (Write new from) a (Err fault) c
   unwritten a b c new name from removed fault eb is ec why = record {
     next = tt;
-    come = λ maps has. tt;
-    stopped = λ maps has. record {
+    come = λ maps before has. tt;
+    stopped = λ maps before has. record {
       stop = Unsaved (Unreplaced Row);
       row = has.row;
       place = place_from from;
@@ -116,7 +122,7 @@ module _ {K X F : Type 0} (seen : X → Version K) (cmp : K → K → Ordering) 
       removed = removed;
       ended = has.ended;
       directory = has.directory;
-      calls = ec ∙ ap (λ (l : List Event). l ++ (call.Remove name, removed) ∷ []) (eb ∙ has.calls) ∙ ap (λ (n : List ℕ). making has.stood path ++ (call.Remove n, removed) ∷ []) (is ∙ has.has.0);
+      calls = one_more before (making has.stood path) b c _ (eb ∙ has.calls) ec ∙ ap (λ (n : List ℕ). before ++ (making has.stood path ++ (call.Remove n, removed) ∷ [])) (is ∙ has.has.0);
       written = has.written;
       whole = tt;
       fits = has.fits;
@@ -137,8 +143,8 @@ module _ {K X F : Type 0} (seen : X → Version K) (cmp : K → K → Ordering) 
   pub unnamed : (a b : List Event) (fault : FileFault) → b ≡ a → fault ≡ Snapshot snapshot.Memory → Advances seen cmp path most contents map Make a (Err fault) b
   unnamed a b fault eb why = record {
     next = tt;
-    come = λ maps has. tt;
-    stopped = λ maps has. record {
+    come = λ maps before has. tt;
+    stopped = λ maps before has. record {
       stop = Unsaved Unnamed;
       row = has.row;
       place = First;
@@ -158,8 +164,8 @@ module _ {K X F : Type 0} (seen : X → Version K) (cmp : K → K → Ordering) 
       → name ≡ beside path → IsOfSystem fault → Advances seen cmp path most contents map Make a (Err fault) c
   unmade a b c name stood fault eb ec is why = record {
     next = tt;
-    come = λ maps has. tt;
-    stopped = λ maps has. record {
+    come = λ maps before has. tt;
+    stopped = λ maps before has. record {
       stop = Unsaved Unmade;
       row = has.row;
       place = First;
@@ -167,7 +173,7 @@ module _ {K X F : Type 0} (seen : X → Version K) (cmp : K → K → Ordering) 
       removed = false;
       ended = has.ended;
       directory = has.directory;
-      calls = rw (ec, eb, has.calls, is) refl;
+      calls = rw (ec, eb, has.calls, is) (simp append_assoc);
       written = has.written;
       whole = tt;
       fits = has.fits;
@@ -180,8 +186,8 @@ module _ {K X F : Type 0} (seen : X → Version K) (cmp : K → K → Ordering) 
       → Advances seen cmp path most contents map Make a (Err fault) e
   unpermitted a b c d e name stood removed fault eb ec ed ee is why = record {
     next = tt;
-    come = λ maps has. tt;
-    stopped = λ maps has. record {
+    come = λ maps before has. tt;
+    stopped = λ maps before has. record {
       stop = Unsaved (Unreplaced Permissions);
       row = has.row;
       place = First;
@@ -189,7 +195,7 @@ module _ {K X F : Type 0} (seen : X → Version K) (cmp : K → K → Ordering) 
       removed = removed;
       ended = has.ended;
       directory = has.directory;
-      calls = rw (ee, ed, ec, eb, has.calls, is) refl;
+      calls = rw (ee, ed, ec, eb, has.calls, is) (simp append_assoc);
       written = has.written;
       whole = tt;
       fits = has.fits;
@@ -202,17 +208,17 @@ module _ {K X F : Type 0} (seen : X → Version K) (cmp : K → K → Ordering) 
       → Advances seen cmp path most contents map (HandOver new) a (Ok (Rename whole)) b
   handed a b new whole eb name count = record {
     next = tt;
-    come = λ maps has. record {
+    come = λ maps before has. record {
       row = has.row;
       stood = has.stood;
       ended = has.ended;
       directory = has.directory;
-      calls = rw (eb, has.calls, has.has.1) refl;
+      calls = rw (eb, has.calls, has.has.1) (simp append_assoc);
       written = has.written;
       fits = has.fits;
       has = (ap string_bytes name ∙ has.has.0, count ∙ has.has.2);
     };
-    stopped = λ maps has. tt;
+    stopped = λ maps before has. tt;
   }
 
   pub unhanded : (a b c : List Event) (new : NewFile F) (name : List ℕ) (removed : Bool) (fault : FileFault) → b ≡ a ++ (call.Sync (contents new.file), false) ∷ []
@@ -220,8 +226,8 @@ module _ {K X F : Type 0} (seen : X → Version K) (cmp : K → K → Ordering) 
       → Advances seen cmp path most contents map (HandOver new) a (Err fault) c
   unhanded a b c new name removed fault eb is ec why = record {
     next = tt;
-    come = λ maps has. tt;
-    stopped = λ maps has. record {
+    come = λ maps before has. tt;
+    stopped = λ maps before has. record {
       stop = Unsaved (Unreplaced Safety);
       row = has.row;
       place = End;
@@ -229,7 +235,7 @@ module _ {K X F : Type 0} (seen : X → Version K) (cmp : K → K → Ordering) 
       removed = removed;
       ended = has.ended;
       directory = has.directory;
-      calls = rw (ec, eb, has.calls, has.has.1, is, has.has.0) refl;
+      calls = rw (ec, eb, has.calls, has.has.1, is, has.has.0) (simp append_assoc);
       written = has.written;
       whole = refl;
       fits = has.fits;
@@ -241,17 +247,17 @@ module _ {K X F : Type 0} (seen : X → Version K) (cmp : K → K → Ordering) 
       → Advances seen cmp path most contents map (Rename new) a (Ok (Settle replaced)) b
   renamed a b new name replaced eb is = record {
     next = tt;
-    come = λ maps has. record {
+    come = λ maps before has. record {
       row = has.row;
       stood = has.stood;
       ended = has.ended;
       directory = has.directory;
-      calls = rw (eb, has.calls, is, has.has.0) refl;
+      calls = rw (eb, has.calls, is, has.has.0) (simp append_assoc);
       written = has.written;
       fits = has.fits;
       has = tt;
     };
-    stopped = λ maps has. tt;
+    stopped = λ maps before has. tt;
   }
 
   pub unrenamed : (a b c : List Event) (new : WholeNewFile) (name : List ℕ) (removed : Bool) (fault : FileFault) → b ≡ a ++ (call.Rename name path, false) ∷ []
@@ -259,8 +265,8 @@ module _ {K X F : Type 0} (seen : X → Version K) (cmp : K → K → Ordering) 
       → Advances seen cmp path most contents map (Rename new) a (Err fault) c
   unrenamed a b c new name removed fault eb is ec why = record {
     next = tt;
-    come = λ maps has. tt;
-    stopped = λ maps has. record {
+    come = λ maps before has. tt;
+    stopped = λ maps before has. record {
       stop = Unsaved (Unreplaced Name);
       row = has.row;
       place = End;
@@ -268,7 +274,7 @@ module _ {K X F : Type 0} (seen : X → Version K) (cmp : K → K → Ordering) 
       removed = removed;
       ended = has.ended;
       directory = has.directory;
-      calls = rw (ec, eb, has.calls, is, has.has.0) refl;
+      calls = rw (ec, eb, has.calls, is, has.has.0) (simp append_assoc);
       written = has.written;
       whole = refl;
       fits = has.fits;
@@ -281,25 +287,25 @@ module _ {K X F : Type 0} (seen : X → Version K) (cmp : K → K → Ordering) 
       → Advances seen cmp path most contents map (Settle replaced) a (Ok EndLog) b
   settled a b directory replaced standing eb = record {
     next = tt;
-    come = λ maps has. record {
+    come = λ maps before has. record {
       row = has.row;
       stood = has.stood;
       ended = has.ended;
       directory = directory;
-      calls = rw (eb, has.calls) refl;
+      calls = rw (eb, has.calls) (simp append_assoc);
       written = has.written;
       fits = has.fits;
       has = standing;
     };
-    stopped = λ maps has. tt;
+    stopped = λ maps before has. tt;
   }
 
   pub unsettled : (a b : List Event) (directory : List ℕ) (replaced : Option File) (fault : FileFault) → IsDirectoryOf path directory → b ≡ a ++ (call.SyncDirectory directory, false) ∷ []
       → IsOfSystem fault → Advances seen cmp path most contents map (Settle replaced) a (Err fault) b
   unsettled a b directory replaced fault standing eb why = record {
     next = tt;
-    come = λ maps has. tt;
-    stopped = λ maps has. record {
+    come = λ maps before has. tt;
+    stopped = λ maps before has. record {
       stop = Unsaved (Unsettled directory);
       row = has.row;
       place = End;
@@ -307,7 +313,7 @@ module _ {K X F : Type 0} (seen : X → Version K) (cmp : K → K → Ordering) 
       removed = false;
       ended = has.ended;
       directory = directory;
-      calls = rw (eb, has.calls) refl;
+      calls = rw (eb, has.calls) (simp append_assoc);
       written = has.written;
       whole = refl;
       fits = has.fits;
@@ -320,25 +326,25 @@ module _ {K X F : Type 0} (seen : X → Version K) (cmp : K → K → Ordering) 
       → Advances seen cmp path most contents map EndLog a (Ok (SettleEnd log)) b
   ended_log a b name ended log eb is = record {
     next = tt;
-    come = λ maps has. record {
+    come = λ maps before has. record {
       row = has.row;
       stood = has.stood;
       ended = ended;
       directory = has.directory;
-      calls = rw (eb, has.calls, is) refl;
+      calls = rw (eb, has.calls, is) (simp append_assoc);
       written = has.written;
       fits = has.fits;
       has = has.has;
     };
-    stopped = λ maps has. tt;
+    stopped = λ maps before has. tt;
   }
 
   pub kept_log : (a b : List Event) (name : List ℕ) (fault : FileFault) → b ≡ a ++ (call.Remove name, false) ∷ [] → name ≡ old_log path → IsOfSystem fault
       → Advances seen cmp path most contents map EndLog a (Err fault) b
   kept_log a b name fault eb is why = record {
     next = tt;
-    come = λ maps has. tt;
-    stopped = λ maps has. record {
+    come = λ maps before has. tt;
+    stopped = λ maps before has. record {
       stop = LogKept;
       row = has.row;
       place = End;
@@ -346,7 +352,7 @@ module _ {K X F : Type 0} (seen : X → Version K) (cmp : K → K → Ordering) 
       removed = false;
       ended = has.ended;
       directory = has.directory;
-      calls = rw (eb, has.calls, is) refl;
+      calls = rw (eb, has.calls, is) (simp append_assoc);
       written = has.written;
       whole = refl;
       fits = has.fits;
@@ -358,27 +364,27 @@ module _ {K X F : Type 0} (seen : X → Version K) (cmp : K → K → Ordering) 
       → Advances seen cmp path most contents map (SettleEnd log) a (Ok Done) b
   done a b directory log standing eb = record {
     next = tt;
-    come = λ maps has.
+    come = λ maps before has.
         let same : directory ≡ has.directory = one_directory path directory has.directory standing has.has in
         record {
           row = has.row;
           stood = has.stood;
           ended = has.ended;
           directory = has.directory;
-          calls = rw (eb, has.calls, same) refl;
+          calls = rw (eb, has.calls, same) (simp append_assoc);
           written = has.written;
           fits = has.fits;
           has = has.has;
         };
-    stopped = λ maps has. tt;
+    stopped = λ maps before has. tt;
   }
 
   pub undone : (a b : List Event) (directory : List ℕ) (log : Option File) (fault : FileFault) → IsDirectoryOf path directory → b ≡ a ++ (call.SyncDirectory directory, false) ∷ []
       → IsOfSystem fault → Advances seen cmp path most contents map (SettleEnd log) a (Err fault) b
   undone a b directory log fault standing eb why = record {
     next = tt;
-    come = λ maps has. tt;
-    stopped = λ maps has.
+    come = λ maps before has. tt;
+    stopped = λ maps before has.
         let same : directory ≡ has.directory = one_directory path directory has.directory standing has.has in
         record {
           stop = LogUnsettled;
@@ -388,7 +394,7 @@ module _ {K X F : Type 0} (seen : X → Version K) (cmp : K → K → Ordering) 
           removed = false;
           ended = has.ended;
           directory = has.directory;
-          calls = rw (eb, has.calls, same) refl;
+          calls = rw (eb, has.calls, same) (simp append_assoc);
           written = has.written;
           whole = refl;
           fits = has.fits;
@@ -397,8 +403,8 @@ module _ {K X F : Type 0} (seen : X → Version K) (cmp : K → K → Ordering) 
   }
 
   -- ---- at the end
-  pub is_whole : (maps : List (List X)) (stage : CompactionStage K F) (made : List Event) → is_left_at stage ≡ false → HasCome seen cmp path most contents maps stage made → IsRewritten seen cmp path most maps made
-  is_whole maps Done made over has = record {
+  pub is_whole : (maps : List (List X)) (stage : CompactionStage K F) (before after : List Event) → is_left_at stage ≡ false → HasCome seen cmp path most contents maps stage before after → IsRewritten seen cmp path most maps before after
+  is_whole maps Done before after over has = record {
     row = has.row;
     stood = has.stood;
     ended = has.ended;
@@ -408,11 +414,11 @@ module _ {K X F : Type 0} (seen : X → Version K) (cmp : K → K → Ordering) 
     written = has.written;
     fits = has.fits;
   }
-  is_whole maps GiveBack made over has = absurd cc
-  is_whole maps Make made over has = absurd cc
-  is_whole maps (Write new from) made over has = absurd cc
-  is_whole maps (HandOver new) made over has = absurd cc
-  is_whole maps (Rename new) made over has = absurd cc
-  is_whole maps (Settle replaced) made over has = absurd cc
-  is_whole maps EndLog made over has = absurd cc
-  is_whole maps (SettleEnd log) made over has = absurd cc
+  is_whole maps GiveBack before after over has = absurd cc
+  is_whole maps Make before after over has = absurd cc
+  is_whole maps (Write new from) before after over has = absurd cc
+  is_whole maps (HandOver new) before after over has = absurd cc
+  is_whole maps (Rename new) before after over has = absurd cc
+  is_whole maps (Settle replaced) before after over has = absurd cc
+  is_whole maps EndLog before after over has = absurd cc
+  is_whole maps (SettleEnd log) before after over has = absurd cc

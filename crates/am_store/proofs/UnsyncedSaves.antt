@@ -4,7 +4,8 @@ use Rattle.std.proofs.lemmas.Bool.{cases_Bool}
 use Rattle.std.proofs.lemmas.Slice.Eq.{bytes_eq-Decides}
 use Rattle.am_store.specs.Calls.{Make, Rename}
 use Rattle.am_store.specs.Saves.{beside, saving}
-use Rattle.am_store.specs.Crashes.{Names, Disk, Remains, MayLeave, IsNew, Does, Runs, bytes_at, with_names, with_bytes}
+use Rattle.am_store.specs.Crashes.{Agrees, Exactly, Names, Disk, Remains, MayLeave, IsNew, Does, Runs, bytes_at, with_names, with_bytes}
+use Rattle.am_store.proofs.Crashes.{apart}
 use Rattle.am_store.specs.UnsyncedSaves.{one_file, without_the_file, without_the_directory}
 
 at_itself : (path : List ℕ) (a b : Option ℕ) → (if bytes_eq path path then a else b) ≡ a
@@ -29,7 +30,7 @@ module _ (path bytes : List ℕ) where
 
   is_new : IsNew 1 (one_file path bytes)
   is_new = record {
-    unsynced = refl;
+    unknown = refl;
     unnamed = λ names among name is. ⊎_elim (λ now. not_one (bytes_eq name path) (sym (ap (λ (n : Names). n name) now) ∙ is)) (λ none. none) among;
   }
 
@@ -44,6 +45,7 @@ module _ (path bytes : List ℕ) where
     at_itself (beside path) (Some 1) ((one_file path bytes).names (beside path)),
     (λ other apart. at_other other (beside path) (Some 1) ((one_file path bytes).names other) apart),
     refl,
+    at_other (beside path) path (Some 0) None (λ same. apart path (sym same)),
   )
 
   renames : (disk : Disk) → disk.names ≡ named → Does (Rename (beside path) path) disk (with_names disk placed)
@@ -62,7 +64,7 @@ module _ (path bytes : List ℕ) where
       (last, (one_file path bytes, inl refl, (made, makes, (made, refl, (synced, refl, (renamed, renames synced refl, (last, inl (refl, refl), refl)))))))
 
   module _ (found : List ℕ) where
-    old_or_found : (test : Bool) → IfSome (if test then Some bytes else None) (λ is. (if test then bytes else found) ≡ is)
+    old_or_found : (test : Bool) → IfSome (if test then Some (Exactly bytes) else None) (λ known. Agrees known (if test then bytes else found))
     old_or_found true = refl
     old_or_found false = tt
 
@@ -79,7 +81,7 @@ module _ (path bytes : List ℕ) where
         )
 
   module _ (row : List ℕ) where
-    row_or_old : (a b : Bool) → IfSome (if a then Some row else (if b then Some bytes else None)) (λ is. (if a then row else bytes) ≡ is)
+    row_or_old : (a b : Bool) → IfSome (if a then Some (Exactly row) else (if b then Some (Exactly bytes) else None)) (λ known. Agrees known (if a then row else bytes))
     row_or_old true b = refl
     row_or_old false true = refl
     row_or_old false false = tt

@@ -1,4 +1,4 @@
--- The calls that a save makes of a file system. Paths and what is written are bytes.
+-- The calls on the names and files of a directory. Paths and what is written are bytes.
 use Rattle.std.specs.Prelude.{ℕ, zero, suc, ◌==◌, Bool, List, [], Option, Some, slice_index}
 use Rattle.std.specs.List.{flat_map}
 
@@ -17,6 +17,8 @@ pub data Call : Type 0 where
   Rename : (from to : List ℕ) → Call
   -- the names in a directory are synced to the disk
   SyncDirectory : (path : List ℕ) → Call
+  -- the system is asked what is at a path; this is done if it says that nothing is
+  Miss : (path : List ℕ) → Call
 
 -- a call, and whether it was done
 abbrev pub Event : Type 0
@@ -39,7 +41,9 @@ call_of (suc (suc zero)) first second written = Permit first
 call_of (suc (suc (suc zero))) first second written = Write first
 call_of (suc (suc (suc (suc zero)))) first second written = Sync (Some written)
 call_of (suc (suc (suc (suc (suc zero))))) first second written = Rename first second
-call_of (suc (suc (suc (suc (suc (suc _)))))) first second written = SyncDirectory first
+call_of (suc (suc (suc (suc (suc (suc zero)))))) first second written = SyncDirectory first
+call_of (suc (suc (suc (suc (suc (suc (suc _))))))) first second written = Miss first
 
+-- a call with a number is done if the next one is 1
 abbrev pub event_of : List ℕ → List ℕ → List ℕ → List Event → Event
 event_of numbers first second file = (call_of (slice_index numbers 0) first second (written_in file), slice_index numbers 1 == 1)

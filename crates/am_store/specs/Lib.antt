@@ -20,3 +20,4 @@ pub mod Logs
 pub mod Recovering
 pub mod Outlasting
 pub mod Parting
+pub mod Histories

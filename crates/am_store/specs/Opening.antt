@@ -8,6 +8,11 @@ use Rattle.am_store.specs.Faults.{file_fault_of}
 use Rattle.am_store.specs.declared.file_fault.FileFault.{FileFault}
 use Rattle.am_store.specs.declared.file_fault.FileFault.TheVariants.{NotAFile}
 
+-- true if the answer is that no file is there
+abbrev pub is_missed : Result Bool FileFault → Bool
+is_missed (Ok false) = true
+is_missed _ = false
+
 -- nothing is there, or the system doesn't say what is
 abbrev pub is_missing : ErrorKind → Result Bool FileFault
 is_missing NotFound = Ok false

@@ -67,9 +67,9 @@ module _ {K X : Type 0} (seen : X → Version K) where
       abbrev pub OutlastsDuring : X → List Event → Disk → Type 0
       OutlastsDuring v calls disk = (left : Remains) → MayLeaveDuring calls disk left → IsKept v left
 
-      -- whatever a crash leaves of the disk, a start reads the version, or a greater one of its key, in the file
-      abbrev pub FileHas : X → Disk → Type 0
-      FileHas v disk = (left : Remains) → MayLeave disk left → (versions : List X) → AreMessages reads (content_at left path) versions → HasAtLeast v versions
+      -- the version was in the file that a crash might have left of the disk
+      abbrev pub WasInFile : Disk → X → Type 0
+      WasInFile disk v = (earlier : Remains) × MayLeave disk earlier × InRow (content_at earlier path) v
 
       -- the version is in the log that is left, or in one of these states, or in the file or the old log that a crash before might
       -- have left

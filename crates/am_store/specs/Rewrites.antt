@@ -159,14 +159,14 @@ HasWhole (Unsaved (Unreplaced Row)) place = ⊤
 HasWhole _ place = place ≡ End
 
 module _ {K X : Type 0} (seen : X → Version K) (cmp : K → K → Ordering) (path : List ℕ) (most : ℕ) where
-  -- a rewriting with pieces of these maps is done: these are its calls
-  pub record IsRewritten (maps : List (List X)) (made : List Event) : Type 0 where
+  -- a rewriting with pieces of these maps is done: these are its calls, after those before
+  pub record IsRewritten (maps : List (List X)) (before after : List Event) : Type 0 where
     pub row : List ℕ
     pub stood : Bool
     pub ended : Bool
     pub directory : List ℕ
     pub standing : IsDirectoryOf path directory
-    pub calls : made ≡ rewriting stood ended path directory row
+    pub calls : after ≡ before ++ rewriting stood ended path directory row
     pub written : IsWritten seen cmp maps row End
     pub fits : length row ≤ most
 
@@ -181,8 +181,9 @@ module _ {K X : Type 0} (seen : X → Version K) (cmp : K → K → Ordering) (p
   IsCause LogUnnamed map maps directory fault = IsDirectoryOf path directory × (fault ≡ Snapshot snapshot.Memory)
   IsCause _ map maps directory fault = IsDirectoryOf path directory × IsOfSystem fault
 
-  -- a rewriting with pieces of these maps stopped when the state was this map: these are its calls, and this is why
-  pub record StopsRewriting (map : List X) (maps : List (List X)) (made : List Event) (fault : FileFault) : Type 0 where
+  -- a rewriting with pieces of these maps stopped when the state was this map: these are its calls, after those before, and this is
+  -- why
+  pub record StopsRewriting (map : List X) (maps : List (List X)) (before after : List Event) (fault : FileFault) : Type 0 where
     pub stop : RewritingStop
     pub row : List ℕ
     pub place : Place K
@@ -191,51 +192,47 @@ module _ {K X : Type 0} (seen : X → Version K) (cmp : K → K → Ordering) (p
     pub removed : Bool
     pub ended : Bool
     pub directory : List ℕ
-    pub calls : made ≡ rewriting_until stop stood removed ended path directory row
+    pub calls : after ≡ before ++ rewriting_until stop stood removed ended path directory row
     pub written : IsWritten seen cmp maps row place
     pub whole : HasWhole stop place
     pub fits : length row ≤ most
     pub cause : IsCause stop map maps directory fault
 
   module _ {F : Type 0} (contents : F → Option (List ℕ)) where
-    -- a rewriting has come to a stage by these calls, with pieces of these maps
-    pub record HasCome (maps : List (List X)) (stage : CompactionStage K F) (made : List Event) : Type 0 where
+    -- a rewriting with pieces of these maps has come to a stage: these are its calls, after those before
+    pub record HasCome (maps : List (List X)) (stage : CompactionStage K F) (before after : List Event) : Type 0 where
       pub row : List ℕ
       pub stood : Bool
       pub ended : Bool
       pub directory : List ℕ
-      pub calls : made ≡ calls_before stage stood ended path directory row
+      pub calls : after ≡ before ++ calls_before stage stood ended path directory row
       pub written : IsWritten seen cmp maps row (place_of stage)
       pub fits : length row ≤ most
       pub has : Has contents stage path directory row
 
     -- A stage is done while the state is this map: if a rewriting had come to it by the old calls, it has come to the next stage by
-    -- the new ones, with a piece more if it is one that writes, or else it stopped.
+    -- the new ones, with a piece more if it is one that writes, or else it stopped, whatever calls there were before it began.
     pub record Advances (map : List X) (stage : CompactionStage K F) (old : List Event) (result : Result (CompactionStage K F) FileFault) (new : List Event) : Type 0 where
       pub next : IfOk result (Follows stage)
-      pub come : (maps : List (List X)) → HasCome maps stage old → IfOk result (λ then. HasCome (with_piece stage map maps) then new)
-      pub stopped : (maps : List (List X)) → HasCome maps stage old → IfErr result (StopsRewriting map maps new)
+      pub come : (maps : List (List X)) (before : List Event) → HasCome maps stage before old → IfOk result (λ then. HasCome (with_piece stage map maps) then before new)
+      pub stopped : (maps : List (List X)) (before : List Event) → HasCome maps stage before old → IfErr result (StopsRewriting map maps before new)
 
 -- ---- a compaction, as contracts see it
 -- its next stage
 abbrev pub stage_of : {K : Type 0} → Compaction K → CompactionStage K (SystemFile File)
 stage_of compaction = compaction.stage
 
--- its calls so far
-abbrev pub calls_of : {K : Type 0} → Compaction K → List Event
-calls_of compaction = compaction.calls.events
-
 -- the bytes written to a new file
 abbrev pub new_bytes : SystemFile File → Option (List ℕ)
 new_bytes file = Some (written_in file.log.events)
 
--- a compaction has come to its stage, with pieces of these maps
-abbrev pub IsUnderWay : {K X : Type 0} → (X → Version K) → (K → K → Ordering) → List ℕ → ℕ → List (List X) → Compaction K → Type 0
-IsUnderWay seen cmp path most maps compaction = HasCome seen cmp path most new_bytes maps (stage_of compaction) (calls_of compaction)
+-- a rewriting with pieces of these maps has come to a stage, in a file of this machine: these are its calls, after those before
+abbrev pub IsUnderWay : {K X : Type 0} → (X → Version K) → (K → K → Ordering) → List ℕ → ℕ → List (List X) → CompactionStage K (SystemFile File) → List Event → List Event → Type 0
+IsUnderWay seen cmp path most maps stage before after = HasCome seen cmp path most new_bytes maps stage before after
 
--- these are the calls of a rewriting with pieces of these states, which is done, or stopped, or is under way
-abbrev pub AreOfRewriting : {K X : Type 0} → (X → Version K) → (K → K → Ordering) → List ℕ → ℕ → List (List X) → List Event → Type 0
-AreOfRewriting {K} {X} seen cmp path most states calls =
-    IsRewritten seen cmp path most states calls
-    ⊎ ((state : List X) × (fault : FileFault) × StopsRewriting seen cmp path most state states calls fault)
-    ⊎ ((compaction : Compaction K) × IsUnderWay seen cmp path most states compaction × (calls_of compaction ≡ calls))
+-- these are the calls of a rewriting with pieces of these states, which is done, or stopped, or is under way, after those before
+abbrev pub AreOfRewriting : {K X : Type 0} → (X → Version K) → (K → K → Ordering) → List ℕ → ℕ → List (List X) → List Event → List Event → Type 0
+AreOfRewriting {K} {X} seen cmp path most states before after =
+    IsRewritten seen cmp path most states before after
+    ⊎ ((state : List X) × (fault : FileFault) × StopsRewriting seen cmp path most state states before after fault)
+    ⊎ ((stage : CompactionStage K (SystemFile File)) × IsUnderWay seen cmp path most states stage before after)

@@ -9,9 +9,9 @@ use Rattle.am_store.specs.declared.file_fault.FileFault.TheVariants.{Snapshot}
 use Rattle.am_store.specs.Faults.{file_fault_of}
 use Rattle.am_store.specs.Calls.{Event, Remove, Make, Permit, Sync, Rename, SyncDirectory}
 
--- the calls of a file's saves so far
-abbrev pub saves_of : StateFile → List Event
-saves_of file = file.saves.events
+-- the calls so far on names in the directory of a state's file, in order
+abbrev pub calls_of : StateFile → List Event
+calls_of file = file.calls.events
 
 -- no byte is a slash
 abbrev pub HasNoSlash : List ℕ → Type 0
@@ -118,6 +118,6 @@ pub record IsStopped (fits : Type 0) (path row : List ℕ) (before after : List 
   pub calls : after ≡ before ++ saving_until stop stood removed path row
   pub cause : IsStopOf fits path row stop fault
 
--- a save stops, or it is done, and something that comes after it fails
-abbrev pub IsTried : Type 0 → List ℕ → List ℕ → List Event → List Event → FileFault → Type 0
-IsTried fits path row before after fault = IsStopped fits path row before after fault ⊎ IsSaved path row before after
+-- the new file is removed, unless there is no memory for its name: these are the calls, after those before
+abbrev pub DropsNew : List ℕ → List Event → List Event → Type 0
+DropsNew path before after = (after ≡ before) ⊎ ((removed : Bool) × (after ≡ before ++ (Remove (beside path), removed) ∷ []))

@@ -2,7 +2,7 @@
 use Rattle.std.specs.Prelude.{ℕ, ◌==◌, true, if◌then◌else◌, List, [], ◌∷◌, Some, None, codes, bytes_eq}
 use Rattle.am_store.specs.Calls.{Event, Make, Sync, Rename, SyncDirectory}
 use Rattle.am_store.specs.Saves.{beside}
-use Rattle.am_store.specs.Crashes.{Disk}
+use Rattle.am_store.specs.Crashes.{Disk, Exactly}
 
 -- one file is in the directory `.`, with these bytes, and all is synced
 abbrev pub one_file : List ℕ → List ℕ → Disk
@@ -10,7 +10,7 @@ one_file path bytes = record {
   directory = codes ".";
   names = λ name. if bytes_eq name path then Some 0 else None;
   earlier = [];
-  synced = λ file. if file == 0 then Some bytes else None;
+  known = λ file. if file == 0 then Some (Exactly bytes) else None;
   created = 0;
 }
 

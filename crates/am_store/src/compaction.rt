@@ -11,19 +11,23 @@
 //!    leaves F, L and M, or G, L and M. Either way the join has the last version of each key that F, L or M has, since what came
 //!    after its piece was written is in M. A version that is neither in F nor in G had expired and left the map: then, if L or M
 //!    has an older version of its key, it is there too, after that one.
-//! 3. L goes only once G's name is on the disk, so no crash leaves F without L. (laws.rt has the theorems of 1, 2 and 3.)
+//! 3. L goes only once G's name is on the disk, so no crash leaves F without L.
 //! 4. If that is undone, L is back beside G and M, as in 2, or beside the file that M became, which is renamed onto L's name
 //!    first. L is whole then: a file that has lost its name is made shorter only once the disk has the directory without that
 //!    name, and no name leads to it after that, whatever crash comes. The same holds for F.
 //! 5. A save of the whole state removes L, hands that to the disk, and then removes M: L never stands without M, whose ends it
-//!    lacks. (laws.rt has the theorem that what the file has isn't lost meanwhile.)
+//!    lacks.
 //! 6. If L stands at the beginning, nothing is renamed; G has all of L and M, and the rest is as above.
+//!
+//! laws.rt has the theorem of all these, but for the bytes of a file that has lost its name, over any history of them.
 //!
 //! If the logs lack something, the compaction ends and G is removed: then a save of the whole state is due.
 
 ghost use Rattle.std.specs.Prelude.{◌≡◌, ℕ, List, [], false, Ok, IfOk, IfErr, OnOk};
 ghost use Rattle.am_store.specs.declared.stages.CompactionStage.TheVariants as stages;
-ghost use Rattle.am_store.specs.Rewrites.{Advances, Follows, IsRewritten, IsUnderWay, StopsRewriting, calls_of, is_left_at, path_of, stage_of, with_piece};
+ghost use Rattle.am_store.specs.Calls.{Event};
+ghost use Rattle.am_store.specs.Rewrites.{Advances, Follows, IsRewritten, IsUnderWay, StopsRewriting, is_left_at, path_of, stage_of, with_piece};
+ghost use Rattle.am_store.specs.Saves.{calls_of};
 
 use crate::beside::{OLD_LOG, beside};
 use crate::disk::Disk;
@@ -46,19 +50,15 @@ use std::rt::Files;
 #[derive(Drop)]
 pub struct Compaction<K> {
     stage: CompactionStage<K, SystemFile<File>>,
-    /// The calls so far.
-    calls: DiskCalls,
 }
 
 impl<K: Drop> Compaction<K> {
     /// Begins a compaction with nothing written yet. [`StateFile::part_logs`] has to have begun a new log before.
     pub fn new() -> Compaction<K>
-        ensures calls { calls_of result ≡ [] }
-        ensures stage { stage_of result ≡ stages.GiveBack }
+        ensures { stage_of result ≡ stages.GiveBack }
     {
         Compaction {
             stage: CompactionStage::GiveBack,
-            calls: DiskCalls::new(),
         }
     }
 }
@@ -84,19 +84,22 @@ where
     // PROMISE: Each step of writing a file anew is the one that follows.
     ensures next { OnOk result (Follows (stage_of compaction.old) (stage_of compaction.new)) }
     // PROMISE: It makes just the calls of its stage, and one that writes adds one piece of the state as it is then.
-    ensures come { (maps : List (List V)) → IsUnderWay V.seen V.Key.cmp (path_of file.old) most maps compaction.old →
-        OnOk result (IsUnderWay V.seen V.Key.cmp (path_of file.old) most (with_piece (stage_of compaction.old) held.now maps) compaction.new) }
+    ensures come { (maps : List (List V)) (before : List Event) →
+        IsUnderWay V.seen V.Key.cmp (path_of file.old) most maps (stage_of compaction.old) before (calls_of file.old) →
+        OnOk result (IsUnderWay V.seen V.Key.cmp (path_of file.old) most (with_piece (stage_of compaction.old) held.now maps) (stage_of compaction.new) before (calls_of file.new)) }
     // PROMISE: A file that is written anew in stretches has a piece of each state that it was written from, in order, and its calls are those of a save and then of the end of the old log.
-    ensures done { (maps : List (List V)) → IsUnderWay V.seen V.Key.cmp (path_of file.old) most maps compaction.old → result ≡ Ok false →
-        IsRewritten V.seen V.Key.cmp (path_of file.old) most (with_piece (stage_of compaction.old) held.now maps) (calls_of compaction.new) }
+    ensures done { (maps : List (List V)) (before : List Event) →
+        IsUnderWay V.seen V.Key.cmp (path_of file.old) most maps (stage_of compaction.old) before (calls_of file.old) → result ≡ Ok false →
+        IsRewritten V.seen V.Key.cmp (path_of file.old) most (with_piece (stage_of compaction.old) held.now maps) before (calls_of file.new) }
     // PROMISE: If that fails, its own new file is removed and nothing else, unless the new file has taken its place.
-    ensures stopped { (maps : List (List V)) → IsUnderWay V.seen V.Key.cmp (path_of file.old) most maps compaction.old →
-        IfErr result (StopsRewriting V.seen V.Key.cmp (path_of file.old) most held.now maps (calls_of compaction.new)) }
+    ensures stopped { (maps : List (List V)) (before : List Event) →
+        IsUnderWay V.seen V.Key.cmp (path_of file.old) most maps (stage_of compaction.old) before (calls_of file.old) →
+        IfErr result (StopsRewriting V.seen V.Key.cmp (path_of file.old) most held.now maps before (calls_of file.new)) }
 {
-    let mut disk = SystemDisk::after(rt, mem::replace(&mut compaction.calls, DiskCalls::new()));
+    let mut disk = SystemDisk::after(rt, mem::replace(&mut file.calls, DiskCalls::new()));
     let stage = mem::replace(&mut compaction.stage, CompactionStage::Done);
     let done = resume(rt, &mut disk, file, stage, held, most);
-    compaction.calls = disk.into_calls();
+    file.calls = disk.into_calls();
     match done {
         Ok(stage) => {
             let is_left = !matches!(stage, CompactionStage::Done);

@@ -1,12 +1,14 @@
-//! A file system as a save sees it.
+//! A file system as saves, logs and rewritings see it.
 
 ghost use Rattle.std.specs.Prelude.{◌≡◌, ◌++◌, [], ◌∷◌, List, Some, is_ok, IfOk};
-ghost use Rattle.am_store.specs.Calls.{Event, Remove, Make, Permit, Sync, Rename, SyncDirectory};
+ghost use Rattle.am_store.specs.Calls.{Event, Remove, Make, Permit, Sync, Rename, SyncDirectory, Miss};
+ghost use Rattle.am_store.specs.Opening.{is_missed};
 
+use crate::file_fault::FileFault;
 use std::io::{self, Write};
 
-/// The calls that a save makes of a file system, at once or in stretches. A call's clause says that it is recorded, whether it
-/// succeeded or not, and nothing about what the disk makes of it.
+/// The calls of a file system on names and new files. A call's clause says that it is recorded, whether it succeeded or not, and
+/// nothing about what the disk makes of it.
 pub trait Disk {
     /// A new file, which is written and then synced to the disk.
     type File: Write + Drop;
@@ -43,4 +45,12 @@ pub trait Disk {
     /// Syncs the names in a directory to the disk.
     fn sync_directory(&mut self, path: &str) -> io::Result<()>
         ensures noted { calls self.new ≡ calls self.old ++ (SyncDirectory path.now, is_ok result) ∷ [] };
+
+    /// Returns whether a file is at a path.
+    ///
+    /// # Errors
+    ///
+    /// Those of `is_there`.
+    fn find(&mut self, path: &str) -> Result<bool, FileFault>
+        ensures noted { calls self.new ≡ calls self.old ++ (Miss path.now, is_missed result) ∷ [] };
 }

@@ -1,13 +1,13 @@
 //! The log of a state: what was taken since its file was written, on the disk before it is answered.
 
-ghost use Rattle.std.specs.Prelude.{◌≡◌, ◌++◌, [], true, false, is_ok, OnOk, OnErr};
+ghost use Rattle.std.specs.Prelude.{◌≡◌, ◌++◌, [], ◌∷◌, true, false, is_ok, OnOk, OnErr};
 ghost use Rattle.am_store.specs.Appending.{Appends, Commits, rows_in, trusted};
-ghost use Rattle.am_store.specs.Parting.{BeginningStop, BeginsAnew, FailsToBegin, FailsToPart, Parts, beginning, beginning_until, calls_in};
+ghost use Rattle.am_store.specs.Parting.{BeginningStop, FailsToPart, IsAnew, MayPart, Opens, StopsAnew, beginning, beginning_until};
+ghost use Rattle.am_store.specs.Calls.{SyncDirectory};
 ghost use Rattle.am_store.specs.Rewrites.{own_log};
 
 use crate::beside::{LOG, OLD_LOG, beside, remove_logs};
 use crate::disk::Disk;
-use crate::disk_calls::DiskCalls;
 use crate::file_fault::FileFault;
 use crate::journal::Journal;
 use crate::log_error::LogError;
@@ -18,7 +18,6 @@ use crate::system::SystemDisk;
 use am_snapshot::SnapshotError;
 use std::alloc::Global;
 use std::fs::{File, OpenOptions};
-use std::mem;
 use std::rt::Files;
 
 /// The most bytes in a batch, unless one row alone has more: what comes beyond is a batch of its own.
@@ -34,8 +33,6 @@ pub struct StateLog {
     journal: Option<Journal<LogFile<Found>>>,
     /// The rows that wait for the next commit.
     batch: Vec<u8>,
-    /// The calls on names so far.
-    calls: DiskCalls,
 }
 
 /// Returns the log in a file whose whole blocks end at byte `end`.
@@ -76,7 +73,9 @@ fn old_log<R: Files<File = File>>(
     own: &str,
     directory: &str,
     read: LogEnd,
-) -> Result<Journal<LogFile<Found>>, FileFault> {
+) -> Result<Journal<LogFile<Found>>, FileFault>
+    ensures { OnOk result (disk.new.log.events ≡ disk.old.log.events ++ (SyncDirectory directory.now, true) ∷ []) }
+{
     let mut how = OpenOptions::new();
     how.read(true).write(true);
     let journal = log_in(how.open(rt, own)?, read.end)?;
@@ -92,20 +91,21 @@ impl StateLog {
     /// The error that the system reports.
     pub fn open<R: Files<File = File> + AllocGlobal>(
         rt: &R,
+        disk: &mut SystemDisk<'_, R>,
         path: &str,
         read: Option<LogEnd>,
-    ) -> Result<StateLog, FileFault> {
+    ) -> Result<StateLog, FileFault>
+        ensures { OnOk result (Opens true path.now disk.old.log.events disk.new.log.events) }
+    {
         let own = beside(rt.alloc(), path, LOG)?;
         let directory = directory_of(path);
-        let mut disk = SystemDisk::after(rt, DiskCalls::new());
         let journal = match read {
-            Some(read) => old_log(rt, &mut disk, &own, directory, read)?,
-            None => new_log(&mut disk, path, &own, directory)?,
+            Some(read) => old_log(rt, disk, &own, directory, read)?,
+            None => new_log(disk, path, &own, directory)?,
         };
         Ok(StateLog {
             journal: Some(journal),
             batch: Vec::new(rt.alloc()),
-            calls: disk.into_calls(),
         })
     }
 
@@ -173,27 +173,28 @@ impl StateLog {
     /// # Errors
     ///
     /// The error that the system reports. If the old log then stands without a new one, no log is trusted.
-    pub fn rotate<R: Files<File = File> + AllocGlobal>(
+    pub fn part<R: Files<File = File>>(
         &mut self,
-        rt: &R,
+        disk: &mut SystemDisk<'_, R>,
+        alloc: Global,
         path: &str,
     ) -> Result<(), FileFault>
         ensures waiting { (rows_in self.new).waiting ≡ (rows_in self.old).waiting }
-        ensures parted { OnOk result (Parts path.now self.old self.new) }
-        ensures stopped { OnErr result (FailsToPart path.now self.old self.new) }
+        ensures parted { OnOk result (MayPart path.now disk.old.log.events disk.new.log.events self.old self.new) }
+        ensures stopped { OnErr result (FailsToPart path.now disk.old.log.events disk.new.log.events self.old self.new) }
     {
         let directory = directory_of(path);
-        let own = beside(rt.alloc(), path, LOG)?;
-        let old = beside(rt.alloc(), path, OLD_LOG)?;
+        let own = beside(alloc, path, LOG)?;
+        let old = beside(alloc, path, OLD_LOG)?;
+        if disk.find(&old)? {
+            return Ok(());
+        }
         if !self.is_trusted() {
             return Err(NO_LOG);
         }
-        let mut disk = SystemDisk::after(rt, mem::replace(&mut self.calls, DiskCalls::new()));
-        let renamed = disk.rename(&own, &old);
-        self.calls = disk.into_calls();
-        renamed?;
+        disk.rename(&own, &old)?;
         self.journal = None;
-        self.begin(rt, path, &own, directory)
+        self.begin(disk, path, &own, directory)
     }
 
     /// Begins the log anew, now that everything is in the file of the state, including the rows that wait.
@@ -201,47 +202,43 @@ impl StateLog {
     /// # Errors
     ///
     /// The error that the system reports. The log isn't trusted then.
-    pub fn begin_anew<R: Files<File = File> + AllocGlobal>(
+    pub fn begin_anew<R: Files<File = File>>(
         &mut self,
-        rt: &R,
+        disk: &mut SystemDisk<'_, R>,
+        alloc: Global,
         path: &str,
     ) -> Result<(), FileFault>
         ensures waiting { (rows_in self.new).waiting ≡ [] }
         ensures anew { trusted self.new ≡ is_ok result }
-        ensures begun { OnOk result (BeginsAnew path.now self.old self.new) }
-        ensures stopped { OnErr result (FailsToBegin path.now self.old self.new) }
+        ensures begun { OnOk result (IsAnew true path.now disk.old.log.events disk.new.log.events) }
+        ensures stopped { OnErr result (StopsAnew path.now disk.old.log.events disk.new.log.events) }
     {
         self.journal = None;
         self.batch.clear();
         let directory = directory_of(path);
-        let own = beside(rt.alloc(), path, LOG)?;
-        let old = beside(rt.alloc(), path, OLD_LOG)?;
-        let mut disk = SystemDisk::after(rt, mem::replace(&mut self.calls, DiskCalls::new()));
-        let removed = remove_logs(&mut disk, path, &old, &own, directory);
-        self.calls = disk.into_calls();
-        removed?;
-        self.begin(rt, path, &own, directory)
+        let own = beside(alloc, path, LOG)?;
+        let old = beside(alloc, path, OLD_LOG)?;
+        remove_logs(disk, path, &old, &own, directory)?;
+        self.begin(disk, path, &own, directory)
     }
 
     /// Begins a new log at this path, at which there is none.
     fn begin<R: Files<File = File>>(
         &mut self,
-        rt: &R,
+        disk: &mut SystemDisk<'_, R>,
         path: &str,
         own: &str,
         directory: &str,
     ) -> Result<(), FileFault>
         requires { own.now ≡ own_log path.now }
         ensures waiting { (rows_in self.new).waiting ≡ (rows_in self.old).waiting }
-        ensures begun { OnOk result (calls_in self.new ≡ calls_in self.old ++ beginning path.now directory.now) }
+        ensures begun { OnOk result (disk.new.log.events ≡ disk.old.log.events ++ beginning path.now directory.now) }
         ensures trust { OnOk result (trusted self.new ≡ true) }
-        ensures stopped { OnErr result ((stop : BeginningStop) × (calls_in self.new ≡ calls_in self.old ++ beginning_until stop path.now directory.now)) }
+        ensures stopped { OnErr result ((stop : BeginningStop) × (disk.new.log.events ≡ disk.old.log.events ++ beginning_until stop path.now directory.now)) }
         ensures no_trust { OnErr result (trusted self.new ≡ trusted self.old) }
     {
-        let mut disk = SystemDisk::after(rt, mem::replace(&mut self.calls, DiskCalls::new()));
-        let begun = new_log(&mut disk, path, own, directory);
-        self.calls = disk.into_calls();
-        self.journal = Some(begun?);
+        let journal = new_log(disk, path, own, directory)?;
+        self.journal = Some(journal);
         Ok(())
     }
 }

@@ -1,12 +1,13 @@
 //! The files of a state, which belong to one process for as long as it lives.
 
-ghost use Rattle.std.specs.Prelude.{◌≡◌, ◌⊎◌, is_some, IfErr, IfOk, OnErr, OnOk};
+ghost use Rattle.std.specs.Prelude.{◌≡◌, [], false, is_some, IfErr, IfOk, IfSome, OnErr, OnOk};
 ghost use Rattle.am_snapshot.specs.Encodings.{row_encoding};
 ghost use Rattle.am_snapshot.specs.Saving.{FitsRow};
-ghost use Rattle.am_store.specs.Appending.{Appends, Commits, IfKept, IsBegunAnew, IsNotTrusted, log_of};
-ghost use Rattle.am_store.specs.Parting.{BeginsAnew, FailsToBegin, FailsToPart, MayPart, kept_log};
+ghost use Rattle.am_store.specs.Appending.{Appends, Commits, IfKept, IsBegunAnew, IsNotTrusted, log_of, rows_if_kept, trusted};
+ghost use Rattle.am_store.specs.Histories.{AreOf, Part, Save};
+ghost use Rattle.am_store.specs.Parting.{AreOfParting, EndsLogs, FailsToPart, FailsToSave, IfLogKept, IsAnew, IsSavedAnew, MayPart, OfLog, Opens, StopsAnew, keeps_log};
 ghost use Rattle.am_store.specs.Rewrites.{path_of};
-ghost use Rattle.am_store.specs.Saves.{IsSaved, IsStopped, IsTried, saves_of};
+ghost use Rattle.am_store.specs.Saves.{DropsNew, IsSaved, IsStopped, calls_of};
 
 use crate::beside::{LOG, NEW, OLD_LOG, beside, remove_logs};
 use crate::disk::Disk;
@@ -14,7 +15,6 @@ use crate::disk_calls::DiskCalls;
 use crate::file_fault::FileFault;
 use crate::lock::lock_beside;
 use crate::log::StateLog;
-use crate::opening::is_there;
 use crate::paths::target_of;
 use crate::reading::FoundLogs;
 use crate::recovering::{Recovered, load_state};
@@ -49,8 +49,8 @@ pub struct StateFile {
     pub(crate) size: u64,
     /// The files that it replaced, and the old logs.
     pub(crate) spent: SpentFiles,
-    /// The calls of its saves so far.
-    saves: DiskCalls,
+    /// The calls so far on names in its directory: of its saves, of its logs and of its rewritings, in order.
+    pub(crate) calls: DiskCalls,
 }
 
 /// A state, just opened.
@@ -74,7 +74,9 @@ pub fn open_state<V: Version + Message, R: Files<File = File> + AllocGlobal>(
     most: u32,
     keeps_log: bool,
 ) -> Result<OpenedState<V>, FileFault>
-    ensures { IfOk result (λ opened. is_some (log_of opened.file) ≡ keeps_log) }
+    ensures log { IfOk result (λ opened. is_some (log_of opened.file) ≡ keeps_log) }
+    // PROMISE: The first calls on names that a file's record has are those by which its log is opened: a history begins with them.
+    ensures calls { IfOk result (λ opened. Opens keeps_log (path_of opened.file) [] (calls_of opened.file)) }
 {
     let path = target_of(rt, path)?;
     let lock = lock_beside(rt, path.as_str())?;
@@ -91,11 +93,13 @@ fn state_file<R: Files<File = File> + AllocGlobal>(
     found: FoundLogs,
     keeps_log: bool,
 ) -> Result<StateFile, FileFault>
-    ensures { IfOk result (λ file. is_some (log_of file) ≡ keeps_log) }
+    ensures log { IfOk result (λ file. is_some (log_of file) ≡ keeps_log) }
+    ensures calls { IfOk result (λ file. Opens keeps_log (path_of file) [] (calls_of file)) }
 {
     let size = size_of(rt, path.as_str())?;
+    let mut disk = SystemDisk::after(rt, DiskCalls::new());
     let log = if keeps_log {
-        Some(StateLog::open(rt, path.as_str(), found.log)?)
+        Some(StateLog::open(rt, &mut disk, path.as_str(), found.log)?)
     } else {
         None
     };
@@ -107,7 +111,7 @@ fn state_file<R: Files<File = File> + AllocGlobal>(
         torn: found.torn(),
         size,
         spent: SpentFiles::none(rt.alloc()),
-        saves: DiskCalls::new(),
+        calls: disk.into_calls(),
     })
 }
 
@@ -121,14 +125,54 @@ fn size_of<R: Files>(rt: &R, path: &str) -> Result<u64, FileFault> {
 }
 
 /// Removes the logs beside the file at a path, of which none is kept, for good.
-fn end_other_logs<R: Files + AllocGlobal>(rt: &R, path: &str) -> Result<(), FileFault> {
-    let own = beside(rt.alloc(), path, LOG)?;
-    let old = beside(rt.alloc(), path, OLD_LOG)?;
+fn end_other_logs<D: Disk>(disk: &mut D, alloc: Global, path: &str) -> Result<(), FileFault>
+    ensures ended { OnOk result (IsAnew false path.now (D.calls disk.old) (D.calls disk.new)) }
+    ensures stopped { OnErr result (StopsAnew path.now (D.calls disk.old) (D.calls disk.new)) }
+{
     let directory = directory_of(path);
-    let mut disk = SystemDisk::after(rt, DiskCalls::new());
-    remove_logs(&mut disk, path, &old, &own, directory)?;
+    let own = beside(alloc, path, LOG)?;
+    let old = beside(alloc, path, OLD_LOG)?;
+    remove_logs(disk, path, &old, &own, directory)?;
     disk.sync_directory(directory)?;
     Ok(())
+}
+
+/// Begins the log beside the file at a path anew, if one is kept, or else removes those of an earlier time, if there are any.
+fn end_logs_beside<R: Files<File = File>>(
+    disk: &mut SystemDisk<'_, R>,
+    alloc: Global,
+    path: &str,
+    log: &mut Option<StateLog>,
+    has_others: bool,
+) -> Result<(), FileFault>
+    ensures anew { OnOk result (IsBegunAnew (rows_if_kept log.new)) }
+    ensures untrusted { OnErr result (IfSome log.new (λ log. trusted log ≡ false)) }
+    ensures ended { OnOk result (EndsLogs (is_some (rows_if_kept log.new)) path.now disk.old.log.events disk.new.log.events) }
+    ensures stopped { OnErr result (StopsAnew path.now disk.old.log.events disk.new.log.events) }
+{
+    match log {
+        Some(log) => log.begin_anew(disk, alloc, path),
+        None if has_others => end_other_logs(disk, alloc, path),
+        None => Ok(()),
+    }
+}
+
+/// Parts the log beside the file at a path from the one before it, if one is kept and no old one stands.
+fn part_log_beside<R: Files<File = File>>(
+    disk: &mut SystemDisk<'_, R>,
+    alloc: Global,
+    path: &str,
+    log: &mut Option<StateLog>,
+) -> Result<(), FileFault>
+    ensures waiting { IfKept (λ old new. new.waiting ≡ old.waiting) (rows_if_kept log.old) (rows_if_kept log.new) }
+    ensures parted { OnOk result (IfLogKept (MayPart path.now) disk.old.log.events disk.new.log.events log.old log.new) }
+    ensures stopped { OnErr result (IfLogKept (FailsToPart path.now) disk.old.log.events disk.new.log.events log.old log.new) }
+    ensures act { AreOfParting path.now disk.old.log.events disk.new.log.events }
+{
+    match log {
+        Some(log) => log.part(disk, alloc, path),
+        None => Ok(()),
+    }
 }
 
 impl StateFile {
@@ -164,16 +208,12 @@ impl StateFile {
     ) -> Result<u64, FileFault>
         ensures path { path_of self.new ≡ path_of self.old }
         ensures anew { OnOk result (IsBegunAnew (log_of self.new)) }
-        // PROMISE: A save puts just the row of the state into its own file.
-        ensures saved { OnOk result (IsSaved (path_of self.old) (row_encoding V.seen held.now) (saves_of self.old) (saves_of self.new)) }
-        ensures failed { IfErr result (IsTried (FitsRow V.seen most held.now) (path_of self.old) (row_encoding V.seen held.now) (saves_of self.old) (saves_of self.new)) }
-        // PROMISE: If a log can't be begun anew after a save, it is no longer trusted.
-        ensures untrusted { IfErr result (λ fault.
-            IsStopped (FitsRow V.seen most held.now) (path_of self.old) (row_encoding V.seen held.now) (saves_of self.old) (saves_of self.new) fault
-            ⊎ IsNotTrusted self.new) }
-        // PROMISE: After a save, its logs are removed, the older one first and for good, and a new one is made, if one is kept.
-        ensures begun { OnOk result (IfKept (BeginsAnew (path_of self.old)) (kept_log self.old) (kept_log self.new)) }
-        ensures stopped { OnErr result (IfKept (FailsToBegin (path_of self.old)) (kept_log self.old) (kept_log self.new)) }
+        // PROMISE: A save puts just the row of the state into its own file; then its logs are removed, the older one first and for good, and a new one is made, if one is kept.
+        ensures saved { OnOk result (IsSavedAnew (keeps_log self.new) (path_of self.old) (row_encoding V.seen held.now) (calls_of self.old) (calls_of self.new)) }
+        // PROMISE: If a save stops, its logs are as they were; and if a log can't be begun anew after it, it is no longer trusted.
+        ensures failed { IfErr result (FailsToSave (FitsRow V.seen most held.now) (row_encoding V.seen held.now) self.old self.new) }
+        // PROMISE: So each save is an act of a history, behind what was done before, whether it is done or stops.
+        ensures act { AreOf V.seen V.Key.cmp (path_of self.old) most (Save held.now) (calls_of self.old) (calls_of self.new) }
     {
         // (want of room may be the reason for this save)
         self.spent.close();
@@ -184,7 +224,7 @@ impl StateFile {
         Ok(bytes)
     }
 
-    /// Writes a state into the file, and records the calls.
+    /// Writes a state into the file.
     fn write<V: Version, R: Files<File = File> + AllocGlobal>(
         &mut self,
         rt: &R,
@@ -192,31 +232,29 @@ impl StateFile {
         most: u32,
     ) -> Result<u64, FileFault>
         ensures path { path_of self.new ≡ path_of self.old }
-        ensures log { kept_log self.new ≡ kept_log self.old }
-        ensures saved { OnOk result (IsSaved (path_of self.old) (row_encoding V.seen held.now) (saves_of self.old) (saves_of self.new)) }
-        ensures stopped { IfErr result (IsStopped (FitsRow V.seen most held.now) (path_of self.old) (row_encoding V.seen held.now) (saves_of self.old) (saves_of self.new)) }
+        ensures log { self.new.log ≡ self.old.log }
+        ensures saved { OnOk result (IsSaved (path_of self.old) (row_encoding V.seen held.now) (calls_of self.old) (calls_of self.new)) }
+        ensures stopped { IfErr result (IsStopped (FitsRow V.seen most held.now) (path_of self.old) (row_encoding V.seen held.now) (calls_of self.old) (calls_of self.new)) }
     {
-        let mut disk = SystemDisk::after(rt, mem::replace(&mut self.saves, DiskCalls::new()));
+        let mut disk = SystemDisk::after(rt, mem::replace(&mut self.calls, DiskCalls::new()));
         let saved = save_file(&mut disk, rt.alloc(), self.path.as_str(), held, most);
-        self.saves = disk.into_calls();
+        self.calls = disk.into_calls();
         saved
     }
 
     /// Begins the log anew, if one is kept, and removes those of an earlier time. Everything they had is in the file.
     fn end_logs<R: Files<File = File> + AllocGlobal>(&mut self, rt: &R) -> Result<(), FileFault>
         ensures path { path_of self.new ≡ path_of self.old }
-        ensures saves { saves_of self.new ≡ saves_of self.old }
         ensures anew { OnOk result (IsBegunAnew (log_of self.new)) }
         ensures untrusted { OnErr result (IsNotTrusted self.new) }
-        ensures begun { OnOk result (IfKept (BeginsAnew (path_of self.old)) (kept_log self.old) (kept_log self.new)) }
-        ensures stopped { OnErr result (IfKept (FailsToBegin (path_of self.old)) (kept_log self.old) (kept_log self.new)) }
+        ensures ended { OnOk result (EndsLogs (keeps_log self.new) (path_of self.old) (calls_of self.old) (calls_of self.new)) }
+        ensures stopped { OnErr result (StopsAnew (path_of self.old) (calls_of self.old) (calls_of self.new)) }
     {
+        let mut disk = SystemDisk::after(rt, mem::replace(&mut self.calls, DiskCalls::new()));
         let path = self.path.as_str();
-        match &mut self.log {
-            Some(log) => log.begin_anew(rt, path),
-            None if self.needs_save => end_other_logs(rt, path),
-            None => Ok(()),
-        }
+        let ended = end_logs_beside(&mut disk, rt.alloc(), path, &mut self.log, self.needs_save);
+        self.calls = disk.into_calls();
+        ended
     }
 
     /// Begins to write the file anew, which is to have at most `most` bytes: what is committed from now on goes into a new log,
@@ -233,30 +271,35 @@ impl StateFile {
         most: u32,
     ) -> Result<u64, FileFault>
         ensures path { path_of self.new ≡ path_of self.old }
-        ensures saves { saves_of self.new ≡ saves_of self.old }
         ensures waiting { IfKept (λ old new. new.waiting ≡ old.waiting) (log_of self.old) (log_of self.new) }
-        // PROMISE: Before a file is written anew, its log becomes the old one, and a new one is made and is on the disk, or nothing is called.
-        ensures parted { OnOk result (IfKept (MayPart (path_of self.old)) (kept_log self.old) (kept_log self.new)) }
-        ensures stopped { OnErr result (IfKept (FailsToPart (path_of self.old)) (kept_log self.old) (kept_log self.new)) }
+        // PROMISE: Before a file is written anew, its log becomes the old one, if the system says that none stands, and a new one is made and is on the disk.
+        ensures parted { OnOk result (OfLog (MayPart (path_of self.old)) self.old self.new) }
+        ensures stopped { OnErr result (OfLog (FailsToPart (path_of self.old)) self.old self.new) }
+        ensures act { AreOf V.seen V.Key.cmp (path_of self.old) most Part (calls_of self.old) (calls_of self.new) }
     {
         let Some(bytes) = row_length_within(held, most) else {
             return Err(FileFault::Snapshot(SnapshotError::TooLarge));
         };
-        let old = beside(rt.alloc(), self.path.as_str(), OLD_LOG)?;
-        if is_there(rt, old.as_str())? {
-            return Ok(bytes);
-        }
-        if let Some(log) = &mut self.log {
-            log.rotate(rt, self.path.as_str())?;
-        }
+        let mut disk = SystemDisk::after(rt, mem::replace(&mut self.calls, DiskCalls::new()));
+        let parted = part_log_beside(&mut disk, rt.alloc(), self.path.as_str(), &mut self.log);
+        self.calls = disk.into_calls();
+        parted?;
         Ok(bytes)
     }
 
     /// Removes the new file, as far as it was written.
-    pub fn drop_new<R: Files + AllocGlobal>(&self, rt: &R) {
-        if let Ok(name) = beside(rt.alloc(), self.path.as_str(), NEW) {
-            let _ = fs::remove_file(rt, &name);
-        }
+    pub fn drop_new<R: Files<File = File> + AllocGlobal>(&mut self, rt: &R)
+        ensures path { path_of self.new ≡ path_of self.old }
+        ensures log { log_of self.new ≡ log_of self.old }
+        // PROMISE: If a file is no longer written anew, its new file is removed, and nothing else.
+        ensures dropped { DropsNew (path_of self.old) (calls_of self.old) (calls_of self.new) }
+    {
+        let Ok(name) = beside(rt.alloc(), self.path.as_str(), NEW) else {
+            return;
+        };
+        let mut disk = SystemDisk::after(rt, mem::replace(&mut self.calls, DiskCalls::new()));
+        let _ = disk.remove(&name);
+        self.calls = disk.into_calls();
     }
 
     /// Returns whether what is added to the log will be on the disk, if one is kept.
@@ -274,7 +317,9 @@ impl StateFile {
     /// The reason why the rows don't wait.
     pub fn append(&mut self, alloc: Global, rows: &[u8]) -> Result<(), FileFault>
         // PROMISE: A row that a member takes comes behind the rows that its log had.
-        ensures { OnOk result (IfKept (Appends rows.now) (log_of self.old) (log_of self.new)) }
+        ensures appended { OnOk result (IfKept (Appends rows.now) (log_of self.old) (log_of self.new)) }
+        ensures path { path_of self.new ≡ path_of self.old }
+        ensures calls { calls_of self.new ≡ calls_of self.old }
     {
         match &mut self.log {
             Some(log) => log.append(alloc, rows),
@@ -289,7 +334,9 @@ impl StateFile {
     /// The reason why the rows aren't on the disk.
     pub fn commit(&mut self, alloc: Global) -> Result<(), FileFault>
         // PROMISE: A commit that succeeds has put all rows that waited on the disk, in their order.
-        ensures { OnOk result (IfKept Commits (log_of self.old) (log_of self.new)) }
+        ensures committed { OnOk result (IfKept Commits (log_of self.old) (log_of self.new)) }
+        ensures path { path_of self.new ≡ path_of self.old }
+        ensures calls { calls_of self.new ≡ calls_of self.old }
     {
         match &mut self.log {
             Some(log) => log.commit(alloc),

@@ -7,6 +7,8 @@ ghost use Rattle.am_store.specs.Calls.{Event, call_of, written_in};
 
 use crate::disk::Disk;
 use crate::disk_calls::DiskCalls;
+use crate::file_fault::FileFault;
+use crate::opening::is_there;
 use std::fs::{self, File, OpenFile};
 use std::io::{self, Write};
 use std::rt::Files;
@@ -24,6 +26,8 @@ const SYNCED: u64 = 4;
 const RENAMED: u64 = 5;
 
 const DIRECTORY_SYNCED: u64 = 6;
+
+const MISSED: u64 = 7;
 
 /// The file system of this machine, and the calls so far.
 #[derive(Drop)]
@@ -143,6 +147,13 @@ impl<R: Files> Disk for SystemDisk<'_, R> {
         let synced = sync(self.system, path);
         self.log = noted(&self.log, DIRECTORY_SYNCED, synced.is_ok(), path, "");
         synced
+    }
+
+    fn find(&mut self, path: &str) -> Result<bool, FileFault> {
+        let found = is_there(self.system, path);
+        let is_missed = matches!(found, Ok(false));
+        self.log = noted(&self.log, MISSED, is_missed, path, "");
+        found
     }
 }
 
