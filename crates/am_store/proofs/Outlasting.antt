@@ -149,6 +149,15 @@ module _ {K X : Type 0} (seen : X → Version K) (cmp : K → K → Ordering) (k
             (was.covers v (All-tail (HasAtLeast seen v) state earlier all));
       }
 
+with_more : (batches : List (List ℕ)) (batch : List ℕ) → (more : List (List ℕ)) × (with_batch batches batch ≡ batches ++ more)
+with_more batches [] = ([], sym (append-nil batches))
+with_more batches (byte ∷ rest) = ((byte ∷ rest) ∷ [], refl)
+
+-- while a batch is added, a log has at least the batches before
+pub still_has : (batches : List (List ℕ)) (batch file : List ℕ) → IsBeforeOrAfter batches batch file → Agrees (AtLeast batches) file
+still_has batches batch file (inl is) = ([], is ∙ sym (append-nil batches))
+still_has batches batch file (inr is) = let (more, same) = with_more batches batch in (more, is ∙ same)
+
 -- ---- what a start has of what stands in the file and the logs
 module _ {K X : Type 0} (seen : X → Version K) where
   pub itself : (v : X) (map : List X) → Contains map v → HasAtLeast seen v map
@@ -179,17 +188,6 @@ module _ {K X : Type 0} (seen : X → Version K) where
     of_batches batches all some v in_all in_some held =
         of_more batches [] all some v (subst (λ (bs : List (List ℕ)). AreInBatches seen reads bs all) (sym (append-nil batches)) in_all) in_some held
 
-    with_more : (batches : List (List ℕ)) (batch : List ℕ) → (more : List (List ℕ)) × (with_batch batches batch ≡ batches ++ more)
-    with_more batches [] = ([], sym (append-nil batches))
-    with_more batches (byte ∷ rest) = ((byte ∷ rest) ∷ [], refl)
-
-    pub still_in : (batches : List (List ℕ)) (batch file : List ℕ) (v : X) → InBatches seen reads batches v → IsBeforeOrAfter batches batch file → (all : List X) → AreInBatches seen reads (recovered file) all → Contains all v
-    still_in batches batch file v (some, in_some, held) (inl is) all in_all =
-        of_batches batches all some v (subst (λ (bs : List (List ℕ)). AreInBatches seen reads bs all) is in_all) in_some held
-    still_in batches batch file v (some, in_some, held) (inr is) all in_all =
-        let (more, same) = with_more batches batch in
-        of_more batches more all some v (subst (λ (bs : List (List ℕ)). AreInBatches seen reads bs all) (is ∙ same) in_all) in_some held
-
     module _ (path : List ℕ) where
       module _ (v : X) (left : Remains) (map : List X) (starts : StartsWith seen reads path left map) where
         abbrev set : List X
@@ -218,15 +216,14 @@ module _ {K X : Type 0} (seen : X → Version K) where
       stands_kept v left (inr (inr (versions, all, held))) map starts =
           of_own_log v left map starts (of_batches (recovered (content_at left (own_log path))) starts.in_second versions v starts.all_of_second all held)
 
-      pub acknowledged_kept : (v : X) (batches : List (List ℕ)) (batch : List ℕ) (left : Remains) → InBatches seen reads batches v → IsBeforeOrAfter batches batch (content_at left (own_log path)) → IsKept seen reads path v left
-      acknowledged_kept v batches batch left among is map starts =
-          of_own_log v left map starts (still_in batches batch (content_at left (own_log path)) v among is starts.in_second starts.all_of_second)
-
       -- a log that has at least some batches keeps what is in them
       pub logged_kept : (v : X) (batches : List (List ℕ)) (left : Remains) → InBatches seen reads batches v → Agrees (AtLeast batches) (content_at left (own_log path)) → IsKept seen reads path v left
       logged_kept v batches left (some, in_some, held) (more, same) map starts =
           of_own_log v left map starts
           (of_more batches more starts.in_second some v (subst (λ (bs : List (List ℕ)). AreInBatches seen reads bs starts.in_second) same starts.all_of_second) in_some held)
+
+      pub acknowledged_kept : (v : X) (batches : List (List ℕ)) (batch : List ℕ) (left : Remains) → InBatches seen reads batches v → IsBeforeOrAfter batches batch (content_at left (own_log path)) → IsKept seen reads path v left
+      acknowledged_kept v batches batch left among is = logged_kept v batches left among (still_has batches batch (content_at left (own_log path)) is)
 
       pub log_outlasts : (v : X) (batches : List (List ℕ)) (file : ℕ) (disk : Disk) → InBatches seen reads batches v → disk.known file ≡ Some (AtLeast batches)
           → ((names : Names) → IsAmong names (moments disk) → names (own_log path) ≡ Some file) → Outlasts seen reads path v disk

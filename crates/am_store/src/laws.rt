@@ -1,4 +1,4 @@
-//! Laws about what a crash leaves of a save, and of a file that is written anew in stretches.
+//! Laws about what a crash leaves of a save, of a file that is written anew in stretches, and of a history of these.
 
 ghost use Rattle.std.specs.Prelude.{◌≡◌, ◌⊎◌, ◌<◌, ◌^◌, ℕ, false, List, [], ◌++◌, All, Contains, length, Option, Some, None, codes};
 ghost use Rattle.am_version_order.specs.Versions.{IsLive};
@@ -14,7 +14,7 @@ ghost use Rattle.am_wire.specs.declared.unknown.Unknown.{Unknown};
 ghost use Rattle.am_store.specs.Blocks.{IsBeforeOrAfter};
 ghost use Rattle.am_store.specs.Calls.{Event};
 ghost use Rattle.am_store.specs.Saves.{IsDirectoryOf, IsSaved, IsStopped, saving};
-ghost use Rattle.am_store.specs.Crashes.{AtLeast, Disk, Exactly, IsAmong, Names, Remains, Keeps, MayLeave, MayLeaveDuring, Runs, Stays, bytes_at, moments};
+ghost use Rattle.am_store.specs.Crashes.{Agrees, AtLeast, Disk, Exactly, IsAmong, Names, Remains, Keeps, MayLeave, MayLeaveDuring, Runs, Stays, bytes_at, moments};
 ghost use Rattle.am_store.specs.Outlasting.{HasAtLeast, InBatches, IsKept, IsKnown, IsState, Outlasts, OutlastsDuring, Stands, StartsWith, content_at};
 ghost use Rattle.am_store.specs.Histories.{Act, AreOf, AreOfAll, IsKnownOf, OfStates, Rewrite};
 ghost use Rattle.am_store.specs.Rewrites.{AreOfRewriting, End, IsRewritten, IsWritten, IsUnderWay, StopsRewriting, old_log, own_log};
@@ -119,6 +119,7 @@ pub fn no_crash_loses_a_version<V: Record>()
     ensures acknowledged { (unknown : Unknown) (path : List ℕ) (batches : List (List ℕ)) (batch : List ℕ) (v : V) (left : Remains) →
         InBatches V.seen (V.reads unknown) batches v → IsBeforeOrAfter batches batch (content_at left (own_log path)) →
         IsKept V.seen (V.reads unknown) path v left }
+    ensures appended { (batches : List (List ℕ)) (batch file : List ℕ) → IsBeforeOrAfter batches batch file → Agrees (AtLeast batches) file }
     // PROMISE: What a log acknowledged outlasts a crash, as long as its file has the log's name, whatever is appended to it.
     ensures logged { (unknown : Unknown) (path : List ℕ) (batches : List (List ℕ)) (file : ℕ) (disk : Disk) (v : V) →
         InBatches V.seen (V.reads unknown) batches v → disk.known file ≡ Some (AtLeast batches) →
@@ -148,12 +149,14 @@ pub fn no_crash_loses_a_version<V: Record>()
         Runs calls disk new → OutlastsDuring V.seen (V.reads unknown) path v calls disk → Outlasts V.seen (V.reads unknown) path v new }
 {}
 
-/// States that a rewriting begins with nothing written and nothing called, so that each of its stretches is an act of a history,
-/// behind what was done before.
+/// States that a rewriting begins with nothing written and nothing called, and is an act of a history, however far it has come.
 pub fn a_rewriting_is_an_act<V: Version>()
+    // PROMISE: However far the rewriting of a file has come, it is an act of a history, behind what was done before it began.
     ensures begins { (path : List ℕ) (most : ℕ) (before : List Event) → IsUnderWay V.seen V.Key.cmp path most [] stages.GiveBack before before }
     ensures under_way { (path : List ℕ) (most : ℕ) (maps : List (List V)) (stage : CompactionStage V.Key (SystemFile File)) (before after : List Event) →
         IsUnderWay V.seen V.Key.cmp path most maps stage before after → AreOf V.seen V.Key.cmp path most (Rewrite maps) before after }
+    ensures done { (path : List ℕ) (most : ℕ) (maps : List (List V)) (before after : List Event) →
+        IsRewritten V.seen V.Key.cmp path most maps before after → AreOf V.seen V.Key.cmp path most (Rewrite maps) before after }
     ensures stopped { (path : List ℕ) (most : ℕ) (map : List V) (maps : List (List V)) (before after : List Event) (fault : FileFault) →
         StopsRewriting V.seen V.Key.cmp path most map maps before after fault → AreOf V.seen V.Key.cmp path most (Rewrite maps) before after }
 {}

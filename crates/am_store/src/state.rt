@@ -145,6 +145,7 @@ fn end_logs_beside<R: Files<File = File>>(
     log: &mut Option<StateLog>,
     has_others: bool,
 ) -> Result<(), FileFault>
+    ensures kept { is_some (rows_if_kept log.new) ≡ is_some (rows_if_kept log.old) }
     ensures anew { OnOk result (IsBegunAnew (rows_if_kept log.new)) }
     ensures untrusted { OnErr result (IfSome log.new (λ log. trusted log ≡ false)) }
     ensures ended { OnOk result (EndsLogs (is_some (rows_if_kept log.new)) path.now disk.old.log.events disk.new.log.events) }
@@ -207,6 +208,7 @@ impl StateFile {
         most: u32,
     ) -> Result<u64, FileFault>
         ensures path { path_of self.new ≡ path_of self.old }
+        ensures kept { keeps_log self.new ≡ keeps_log self.old }
         ensures anew { OnOk result (IsBegunAnew (log_of self.new)) }
         // PROMISE: A save puts just the row of the state into its own file; then its logs are removed, the older one first and for good, and a new one is made, if one is kept.
         ensures saved { OnOk result (IsSavedAnew (keeps_log self.new) (path_of self.old) (row_encoding V.seen held.now) (calls_of self.old) (calls_of self.new)) }
@@ -245,6 +247,7 @@ impl StateFile {
     /// Begins the log anew, if one is kept, and removes those of an earlier time. Everything they had is in the file.
     fn end_logs<R: Files<File = File> + AllocGlobal>(&mut self, rt: &R) -> Result<(), FileFault>
         ensures path { path_of self.new ≡ path_of self.old }
+        ensures kept { keeps_log self.new ≡ keeps_log self.old }
         ensures anew { OnOk result (IsBegunAnew (log_of self.new)) }
         ensures untrusted { OnErr result (IsNotTrusted self.new) }
         ensures ended { OnOk result (EndsLogs (keeps_log self.new) (path_of self.old) (calls_of self.old) (calls_of self.new)) }

@@ -16,5 +16,8 @@ returns-clause-begins g c = λ path most before. record {
 pub returns-clause-under_way : goal.returns-clause-under_way
 returns-clause-under_way g c = λ path most maps stage before after come. inr (inr (stage, come))
 
+pub returns-clause-done : goal.returns-clause-done
+returns-clause-done g c = λ path most maps before after anew. inl anew
+
 pub returns-clause-stopped : goal.returns-clause-stopped
 returns-clause-stopped g c = λ path most map maps before after fault stops. inr (inl (map, fault, stops))

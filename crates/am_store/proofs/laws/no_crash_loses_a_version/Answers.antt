@@ -1,7 +1,7 @@
 use Rattle.am_merge.proofs.Keys.{key_order}
 use Rattle.am_snapshot.proofs.ReadAgain.{read_back}
 use Rattle.am_store.proofs.Crashes.{right_after}
-use Rattle.am_store.proofs.Outlasting.{acknowledged_kept, log_outlasts, stands_kept}
+use Rattle.am_store.proofs.Outlasting.{acknowledged_kept, log_outlasts, stands_kept, still_has}
 use Rattle.am_store.proofs.Histories.{nothing_new_of_all, outlasts_all}
 use Rattle.am_store.proofs.RewriteOutlasting.{nothing_new}
 use Rattle.am_store.proofs.laws.no_crash_loses_a_version.Goals as goal
@@ -11,6 +11,9 @@ returns-clause-stands g c = λ unknown path v left. stands_kept g.V.Version.seen
 
 pub returns-clause-acknowledged : goal.returns-clause-acknowledged
 returns-clause-acknowledged g c = λ unknown path batches batch v left. acknowledged_kept g.V.Version.seen (g.V.Message.reads unknown) path v batches batch left
+
+pub returns-clause-appended : goal.returns-clause-appended
+returns-clause-appended g c = still_has
 
 pub returns-clause-logged : goal.returns-clause-logged
 returns-clause-logged g c = λ unknown path batches file disk v. log_outlasts g.V.Version.seen (g.V.Message.reads unknown) path v batches file disk
