@@ -19,7 +19,7 @@ import sys
 import tempfile
 
 from lib.tally import compare, count, finish, give_up
-from lib.versions import row, unescaped
+from lib.versions import in_bytes, row, unescaped
 
 TOP = os.path.dirname(os.path.dirname(os.path.abspath(__file__)))
 
@@ -28,8 +28,8 @@ TOOL = f"{TOP}/crates/am_tool/out/am_tool"
 
 # The subjects of texts: each has its file.
 SUBJECTS = (
-    "api calls carried clusters connections decisions events figures frames gossip hashes instance instance_large json log maps matchers"
-    " messages moments plans re2 replays requests rows rows_large schedules seals sessions silences snapshots views wire"
+    "api calls clusters connections decisions figures frames gossip hashes instance json log maps matchers messages moments re2 replays"
+    " requests rows rows_large schedules seals sessions silences snapshots views wire"
 ).split()
 
 # The files of all cases.
@@ -39,11 +39,11 @@ ALL = ["*.txt", "replay/*.schedule", "diff/*.txt", "fold/*.txt", "show/*.txt"]
 OF_WORDS = {"diff", "fold", "show"}
 
 # Files whose cases take inputs of many MiB.
-LARGE = {"instance_large", "rows_large"}
+LARGE = {"rows_large"}
 
 # The subjects on which rt ci runs am_cases, as both compilers build it: their cases stand in the crate's stdin, one subject
 # after the other, and what is wanted of them in its stdout.
-STREAMS = ("decisions", "carried")
+STREAMS = ("clusters", "maps", "messages")
 
 # What a command line ends with whose output goes to a disk that is full.
 TO_FULL = " > /dev/full"
@@ -98,13 +98,18 @@ def filled(text, fixtures, where):
     return re.sub(r"\$([A-Za-z0-9_]+)", value, text)
 
 
-def file_of(text, where):
+def spelled(make, text, where):
+    """What words of versions make."""
+    try:
+        return make(text)
+    except (TypeError, ValueError, KeyError, IndexError, StopIteration) as error:
+        raise BadFile(f"{where}: no version: {error!r}") from error
+
+
+def file_of(text):
     """The name and the bytes of a file from words such as `sil NAME: VERSIONS`."""
     parts = re.fullmatch(r"(\S+) (\S+):(.*)", text)
-    try:
-        return {parts[2]: row(parts[1], parts[3].strip(" "))}
-    except (TypeError, ValueError, KeyError, IndexError, StopIteration) as error:
-        raise BadFile(f"{where}: no file of versions: {error!r}") from error
+    return {parts[2]: row(parts[1], parts[3].strip(" "))}
 
 
 def read_cases(path):
@@ -121,15 +126,15 @@ def read_cases(path):
             fixtures[name] = filled(text, fixtures, where)
             case = None
         elif line.startswith("< "):
-            files = {**files, **file_of(filled(line[len("< ") :], fixtures, where), where)}
+            files = {**files, **spelled(file_of, filled(line[len("< ") :], fixtures, where), where)}
             case = None
         elif line == ">" or line.startswith("> "):
-            case = Case(number, filled(line[len("> ") :], fixtures, where), files)
+            case = Case(number, spelled(in_bytes, filled(line[len("> ") :], fixtures, where), where), files)
             cases.append(case)
         elif case is None:
             raise BadFile(f"{where}: an answer without a case")
         else:
-            case.wanted.append((number, filled(line, fixtures, where)))
+            case.wanted.append((number, spelled(in_bytes, filled(line, fixtures, where), where)))
     return cases
 
 

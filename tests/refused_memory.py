@@ -163,7 +163,6 @@ IN_FULL = {"api", "instance"}
 TRY = re.compile(rb"\x01 (\d+) (\d+)\n(.*?)\x02 (\d+)\n", re.DOTALL)
 
 FRAME = re.compile(r"to \S+ ")
-UNSENT = re.compile(r"unsent (\d+) 0")
 MERGE = re.compile(r"> map take (.+) at 0; merge (.+), .+ at 0; held")
 TAKEN = re.compile(r"Memory \{ taken: (\d+) \}")
 MOMENT = re.compile(r"^(holds \d+ \d+) at \S+$", re.MULTILINE)
@@ -221,7 +220,7 @@ def how_refused(lines, wanted):
     """What the lines of a case say of a request that was refused; None where they are not right."""
     if lines == wanted:
         return "as wanted"
-    if is_line_made_again(lines, wanted):
+    if is_line_made_again(without_frames(lines), without_frames(wanted)):
         return "made again"
     found, text = "".join(f"{line}\n" for line in lines), "".join(f"{line}\n" for line in wanted)
     begun, memory, again = found.partition("! Memory\n")
@@ -235,12 +234,6 @@ def how_refused(lines, wanted):
         if told and MOMENT.sub(r"\1", again) == MOMENT.sub(r"\1", text):
             return "made again"
         return "made again" if again == text and text.startswith(begun) else None
-    # a step whose frame found no memory stands, and the frame is counted
-    counted = [UNSENT.fullmatch(line) for line in lines if UNSENT.fullmatch(line)]
-    missing = len(wanted) - len(without_frames(wanted)) - (len(lines) - len(without_frames(lines)))
-    others = [line for line in without_frames(lines) if not UNSENT.fullmatch(line)]
-    if len(counted) == 1 and others == without_frames(wanted) and missing == int(counted[0][1]) > 0:
-        return "unsent"
     return None
 
 

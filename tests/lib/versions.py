@@ -43,6 +43,12 @@ def matcher(word):
     return field(2, number(1, SIGNS[sign]) + if_any(2, unescaped(name)) + if_any(3, unescaped(pattern)))
 
 
+def hashes(words, name):
+    """The hashes of a list behind a name, such as `1,2`, or `-` for none; `1..9` are all from one to the other."""
+    parts = [it.partition("..") for it in behind(words, name, "-").split(",") if it != "-"]
+    return b"".join(varint(it) for first, _, last in parts for it in range(int(first), int(last or first) + 1))
+
+
 def silence(text):
     """The bytes of a silence's version, from words such as `a job=x 10..100 updated 10 expires 200 by ops saying hi`."""
     text, _, comment = text.partition(" saying ")
@@ -62,9 +68,7 @@ def entry(text):
     inner = if_any(1, unescaped(key))
     inner += field(2, if_any(1, unescaped(name)) + if_any(2, unescaped(integration)) + number(3, int(index)))
     inner += field(5, moment(behind(words, "updated", "10")))
-    for place, name in ((6, "firing"), (7, "resolved")):
-        hashes = behind(words, name, "-")
-        inner += if_any(place, b"" if hashes == "-" else b"".join(varint(int(it)) for it in hashes.split(",")))
+    inner += if_any(6, hashes(words, "firing")) + if_any(7, hashes(words, "resolved"))
     return field(1, inner) + field(2, moment(behind(words, "expires", "200")))
 
 
@@ -74,10 +78,34 @@ def of_later(version, inner=b"", outer=b""):
     return field(1, whole[1] + inner) + field(2, whole[2]) + outer
 
 
+# What makes the version that words name, by its state.
+MAKE = {"sil": silence, "nfl": entry}
+
+
+def end_of(text, at):
+    """Where the bracket at a place of a text is closed."""
+    depth = 0
+    for place in range(at, len(text)):
+        depth += {"[": 1, "]": -1}.get(text[place], 0)
+        if depth == 0:
+            return place
+    raise ValueError("a bracket is not closed")
+
+
+def in_bytes(text):
+    """A text in which each version in brackets, such as `[sil a job=x]` or `[nfl g r/w/0]`, is its bytes in pairs of digits."""
+    done, at = "", 0
+    for found in re.finditer(r"\[(sil|nfl) ", text):
+        end = end_of(text, found.start())
+        done += text[at : found.start()] + MAKE[found[1]](text[found.end() : end]).hex(" ")
+        at = end + 1
+    return done + text[at:]
+
+
 def row(kind, text):
     """The bytes of a file: of versions of a state, parted by `, `, as a row; or those of hexadecimal digits."""
     if kind == "bytes":
         return bytes.fromhex(text)
-    make = {"sil": silence, "nfl": entry}[kind]
+    make = MAKE[kind]
     whole = lambda it: bytes.fromhex(it[len("bytes ") :]) if it.startswith("bytes ") else make(it)
     return b"".join(delimited(whole(it)) for it in text.split(", ") if it)

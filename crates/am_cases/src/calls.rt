@@ -1,6 +1,6 @@
 //! Requests for decisions that come to a member: what they ask, and how they are answered.
 
-use crate::members::print_held;
+use crate::members::{posted, print_held};
 use am_api_decisions::{
     Deciding, ParsedCall, Question, RecentAlerts, Timing, begin_log, is_for_decisions, log_notice,
     parse_call,
@@ -9,7 +9,7 @@ use am_api_silences::{PendingAnswer, ReplyBuilder, ResponseBytes, refuse};
 use am_http::{Read, Refusal, Request, read_request};
 use am_instance::{FrameSender, Instance};
 use am_part_cases::common::{Case, CaseFault, cut, phrase};
-use am_part_cases::put;
+use am_part_cases::{given, say};
 use am_version_order::Moment;
 
 /// The way that a request is answered.
@@ -31,39 +31,31 @@ fn quiet(case: &Case, reply: ResponseBytes) -> PendingAnswer {
     }
 }
 
-/// Returns the reply to a refused request.
-fn refused(case: &Case, refusal: &Refusal) -> ResponseBytes {
-    refuse(case.alloc, refusal).making.finish(case.alloc)
-}
-
-/// The seconds of a turn of a member that `new` begins.
-const TURN_SECONDS: u64 = 15;
-
-/// Returns the decision: the first alerts are asked, and then the others.
+/// Returns the decision: the first alerts are asked, and then the others, in a turn of 15 s.
 fn decided(
     case: &Case,
     instance: &mut Instance,
     question: Question,
     calling: Calling,
-) -> ResponseBytes {
+) -> PendingAnswer {
     let deciding = Deciding::new(case.alloc, question);
     match deciding.resume(case.alloc, instance, calling.most, calling.now) {
         Ok(deciding) => {
             let timing = Timing {
                 now: calling.then,
-                turn_seconds: TURN_SECONDS,
+                turn_seconds: 15,
             };
-            deciding.decide(case.alloc, instance, timing).reply
+            quiet(case, deciding.decide(case.alloc, instance, timing).reply)
         }
-        Err(refusal) => refused(case, &refusal),
+        Err(refusal) => refuse(case.alloc, &refusal),
     }
 }
 
 /// Returns the live entries of the log: the first ones, and then the others.
-fn told(case: &Case, instance: &Instance, calling: Calling) -> Result<ResponseBytes, Refusal> {
+fn told(case: &Case, instance: &Instance, calling: Calling) -> Result<PendingAnswer, Refusal> {
     let writing = begin_log(case.alloc, instance, calling.now)?;
     let writing = writing.resume(case.alloc, calling.most)?;
-    Ok(writing.finish(case.alloc))
+    Ok(quiet(case, writing.finish(case.alloc)))
 }
 
 /// Returns the answer to a request.
@@ -76,16 +68,12 @@ fn answered(
     match parse_call(case.alloc, request) {
         Err(refusal) => refuse(case.alloc, &refusal),
         Ok(ParsedCall::Decide(question)) => {
-            let waits = question.waits();
-            let reply = decided(case, instance, question, calling);
-            if !waits {
-                case.put("at once: ");
-            }
-            quiet(case, reply)
+            case.put(if question.waits() { "" } else { "at once: " });
+            decided(case, instance, question, calling)
         }
         Ok(ParsedCall::Notified(notice)) => log_notice(case.alloc, instance, notice, calling.now),
         Ok(ParsedCall::Log) => match told(case, instance, calling) {
-            Ok(reply) => quiet(case, reply),
+            Ok(answer) => answer,
             Err(refusal) => refuse(case.alloc, &refusal),
         },
         // (a case has no messages but its own)
@@ -95,20 +83,11 @@ fn answered(
 
 /// Returns the request that a text spells. If it is posted to a target, the text is only its body.
 fn request_in(case: &Case, phrases: &str, text: &str) -> Option<Request> {
-    let bytes = case.unescaped(text);
-    let target = phrase(phrases, "post ");
-    let head = if target.is_empty() {
-        String::new(case.alloc)
-    } else {
-        let size = bytes.len();
-        case.made(format!(in case.alloc;
-            "POST {target} HTTP/1.1\r\ncontent-length: {size}\r\n\r\n"
-        ))?
+    let bytes = match phrase(phrases, "post ") {
+        "" => case.unescaped(text),
+        target => posted(case, target, text),
     };
-    let mut whole = Vec::new(case.alloc);
-    case.append(&mut whole, head.as_bytes());
-    case.append(&mut whole, bytes.as_slice());
-    match read_request(case.alloc, whole.as_slice(), true) {
+    match read_request(case.alloc, bytes.as_slice(), true) {
         Read::Whole(request) => return Some(request),
         Read::Refused(refusal) if refusal.status == 500 => case.fail(CaseFault::Memory),
         _ => case.fail(CaseFault::Words),
@@ -119,27 +98,18 @@ fn request_in(case: &Case, phrases: &str, text: &str) -> Option<Request> {
 /// Answers `call at T, then T, first N, post TARGET: TEXT`.
 pub fn call(case: &Case, instance: &mut Instance, rest: &str) {
     let (phrases, text) = cut(rest, ": ");
-    let Some(request) = request_in(case, phrases, text) else {
-        return;
-    };
+    given!(request = request_in(case, phrases, text));
     if !is_for_decisions(&request) {
         return case.put("for the silences\n");
     }
-    let now = case.moment(phrase(phrases, "at "));
-    let then = phrase(phrases, "then ");
-    let most = phrase(phrases, "first ");
+    let now = phrase(phrases, "at ");
     let calling = Calling {
-        now,
-        then: if then.is_empty() {
-            now
-        } else {
-            case.moment(then)
-        },
-        most: if most.is_empty() {
-            0
-        } else {
-            case.number(most) as usize
-        },
+        now: case.moment(now),
+        then: case.moment(match phrase(phrases, "then ") {
+            "" => now,
+            then => then,
+        }),
+        most: phrase(phrases, "first ").parse::<usize>().unwrap_or(0),
     };
     let PendingAnswer { making, outbox } = answered(case, instance, &request, calling);
     let reply = making.finish(case.alloc);
@@ -149,7 +119,6 @@ pub fn call(case: &Case, instance: &mut Instance, rest: &str) {
     case.say_text(reply.as_slice());
     if !outbox.frames.is_empty() {
         print_held(case, "holds ", instance);
-        put!(case; ", sends ", outbox.frames.len());
-        case.put("\n");
+        say!(case; ", sends ", outbox.frames.len());
     }
 }

@@ -1,62 +1,19 @@
-//! Clusters, new and after each line of a schedule; schedules that are played; and the contents of frames.
+//! Clusters after each line of a schedule, and schedules that are played.
 
-use crate::events::{fed, schedule_of};
-use crate::members::{name_at, print_held, say_config, times};
-use am_cluster::carried::{AnyVersion, SplitVersions, versions_in_frame};
+use crate::members::{name_at, print_held};
 use am_cluster::{Cluster, ClusterError, SettleError};
-use am_instance::ConfigError;
 use am_part_cases::common::{Brittle, Case, CaseFault, Cut, Pieces, TriedCall, cut};
+use am_part_cases::parts::print_frame;
 use am_part_cases::{given, put, say};
-use am_replay::{LineRefusal, OutputLine, ReplayError, append_line, run};
-use am_schedule::Line;
-use am_silence::SilenceError::{BadPattern, Memory, NoMatcher, TooLarge};
-use am_wire::Unknown;
+use am_replay::{ReplayError, run};
+use am_schedule::{FaultKind, Line, parse};
 
-fn made(case: &Case, words: &str) -> Option<Cluster> {
-    let (retention, peer_timeout) = times(case)?;
-    let names = case.list(words, " ");
-    let cluster = Cluster::new(case.alloc, names, retention, peer_timeout);
-    case.got(cluster, ConfigError::Memory)
-}
-
-/// Answers `cluster NAME ..` with each member and the reports of the cluster, or with the reason that there is none.
-pub fn cluster(case: &Case, rest: &str) {
-    given!(cluster = made(case, rest));
-    for place in 0..u64::MAX {
-        let Some(instance) = cluster.instance(place) else {
-            break;
-        };
-        say_config(case, instance.config());
-        print_held(case, "holds ", instance);
-        say!(case; "\n", ?cluster.calm(place));
-    }
-    say!(case; "at place 9 ", ?cluster.calm(9));
-    put!(case; cluster.in_flight().len(), " frames, ");
-    say_timely(case, &cluster);
-}
-
-fn say_timely(case: &Case, cluster: &Cluster) {
-    given!((_, time) = times(case));
-    say!(case; "timely ", cluster.timely(time, time));
-}
-
-/// Answers `settle MOMENT ..: NAME ..` with the answer of such a cluster to a settle at each moment, and whether its run is
-/// then timely.
-pub fn settle(case: &Case, rest: &str) {
-    let (moments, names) = cut(rest, ":");
-    given!(mut cluster = made(case, names));
-    for word in moments.split(' ') {
-        let settled = cluster.settle(case.moment(word), 1);
-        if case.got(settled, SettleError::Memory).is_some() {
-            case.put("settled\n");
-        }
-    }
-    say_timely(case, &cluster);
-}
-
-/// Answers `steps LINE; ..` with the states of the members of a schedule's cluster after each of its lines.
+/// Answers `steps LINE; ..` with the states of the members of a schedule's cluster after each of its lines, and the frames that
+/// the line sent.
 pub fn steps(case: &Case, rest: &str) {
-    given!(schedule = schedule_of(case, rest));
+    given!(lines = case.made(rest.replace(case.alloc, "; ", "\n")));
+    let schedule = parse(case.alloc, lines.as_bytes()).map_err(|error| error.kind);
+    given!(schedule = case.sound(schedule, FaultKind::Memory));
     let mut names = Vec::new(case.alloc);
     for name in schedule.names.as_slice() {
         case.push(&mut names, case.text(name.as_str()));
@@ -70,6 +27,7 @@ pub fn steps(case: &Case, rest: &str) {
 
 /// Makes a line, and prints the states of the members after it; if memory runs out, prints them and tries once more.
 fn play_line(case: &Case, cluster: &mut Cluster, line: &Line, number: u64) {
+    let last = cluster.in_flight().last().map_or(0, |flight| flight.number);
     if finds_no_memory(cluster, line, number) {
         case.put("no memory at ");
         say_members(case, cluster, number);
@@ -78,6 +36,7 @@ fn play_line(case: &Case, cluster: &mut Cluster, line: &Line, number: u64) {
         }
     }
     say_members(case, cluster, number);
+    say_flights(case, cluster, last);
 }
 
 fn finds_no_memory(cluster: &mut Cluster, line: &Line, number: u64) -> bool {
@@ -96,15 +55,23 @@ fn say_members(case: &Case, cluster: &Cluster, number: u64) {
         };
         put!(case; " ", name_at(instance.config(), place));
         print_held(case, " ", instance);
-        let is_calm = cluster.calm(place).calm;
-        case.put(if is_calm { "" } else { " uncalm" });
-        case.put(if cluster.durable(place) {
-            ","
-        } else {
-            " lossy,"
-        });
+        put!(case; if cluster.calm(place).calm { "" } else { " uncalm" });
+        put!(case; if cluster.durable(place) { "," } else { " lossy," });
     }
     say!(case; " ", cluster.in_flight().len(), " frames");
+}
+
+/// Prints the frames in flight after one with a number, each with its addressee.
+fn say_flights(case: &Case, cluster: &Cluster, last: u64) {
+    for flight in cluster.in_flight() {
+        if flight.number > last
+            && let Some(instance) = cluster.instance(flight.addressee)
+        {
+            put!(case; "to ", name_at(instance.config(), flight.addressee), " ");
+            print_frame(case, &flight.frame, "", " none");
+            case.put("\n");
+        }
+    }
 }
 
 #[derive(Clone, Copy)]
@@ -117,7 +84,6 @@ impl TriedCall for Playing {
             Err(ReplayError::Read { at }) => return Some(("Read", at as u64)),
             Err(ReplayError::Write { written }) => return Some(("Write", written)),
             Err(ReplayError::Memory { .. }) => case.fail(CaseFault::Memory),
-            Err(ReplayError::Schedule(error)) => put!(case; ?error.kind, " ", error.line),
             Err(error) => case.debug(error),
         }
         None
@@ -126,44 +92,8 @@ impl TriedCall for Playing {
 
 /// Answers `replay PHRASES: TEXT`.
 pub fn replay(case: &Case, rest: &str) {
-    let (phrases, text) = cut(rest, ":");
-    let text = case.unescaped(text.strip_prefix(' ').unwrap_or(text));
+    let (phrases, text) = cut(rest, ": ");
+    let text = case.unescaped(text);
     let writer = case.make(&Playing, &case.how(phrases, text.as_slice()));
     case.say_text(writer.taken.as_slice());
-}
-
-/// Answers `refused` with the lines of refusals that no schedule reaches.
-pub fn refused(case: &Case) {
-    let mut text = String::new(case.alloc);
-    for error in [NoMatcher, BadPattern, TooLarge, Memory] {
-        let (name, refusal) = (Some("a"), LineRefusal::from(error));
-        case.made(append_line(&mut text, &OutputLine::Refused { name, refusal }));
-    }
-    case.put(text);
-}
-
-/// Answers `carried BYTES` and `carried first COUNT of BYTES` with the versions that a frame carries, or the first `COUNT` of
-/// them, by state.
-pub fn carried(case: &Case, rest: &str) {
-    let (count, digits) = match rest.strip_prefix("first ") {
-        Some(rest) => cut(rest, " of "),
-        None => ("100", rest),
-    };
-    given!(fed = fed(case, digits));
-    for frame in &fed.frames {
-        given!(versions = case.made(versions_in_frame(case.alloc, Unknown::Drop, frame)));
-        say_first(case, versions, case.number(count) as usize);
-    }
-}
-
-fn say_first(case: &Case, versions: Vec<AnyVersion>, count: usize) {
-    let Ok(mut sorted) = SplitVersions::with_room(case.alloc, versions.len()) else {
-        return case.fail(CaseFault::Memory);
-    };
-    sorted.put_first(versions, count);
-    let (silences, log) = sorted.into_parts();
-    case.put("silences\n");
-    case.say_versions(silences.as_slice());
-    case.put("entries\n");
-    case.say_versions(log.as_slice());
 }

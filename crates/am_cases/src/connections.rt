@@ -1,13 +1,13 @@
 //! Requests and connections that come to a member, and the bytes that are sent to a peer.
 
-use crate::events::fed;
-use crate::members::{copied, name_at, print_held};
-use crate::steps::print_error;
+use crate::members::{copied, name_at, posted, print_held};
 use am_api_silences::{ServeFault, Served, serve};
 use am_connection::{Ended, SendError, connection, send};
-use am_gossip::{Frame, FrameError};
+use am_gossip::{Feeder, Frame, FrameError};
 use am_instance::{Instance, StepError};
-use am_part_cases::common::{Brittle, Case, CaseFault, Cut, How, Pieces, TriedCall, cut, phrase};
+use am_part_cases::common::{
+    Brittle, Case, CaseFault, Cut, How, Pieces, Printed, TriedCall, cut, phrase,
+};
 use am_part_cases::{given, put, say};
 use am_peers::ConnectionFault as Cause;
 use am_version_order::Moment;
@@ -83,10 +83,10 @@ impl Coming<'_> {
         }
         case.put(if seen.ended.ticked { ", ticked" } else { "" });
         match &seen.ended.fault {
-            Some(Cause::Step(error)) => {
-                case.put(", ");
-                print_error(case, error);
+            Some(Cause::Step(StepError::MomentBack { last })) => {
+                put!(case; ", MomentBack ", @last);
             }
+            Some(Cause::Step(error)) => put!(case; ", ", ?error),
             Some(Cause::Read { .. } | Cause::Write { .. }) => case.put(", "),
             Some(other) => put!(case; ", ", ?other),
             None => {}
@@ -125,7 +125,7 @@ pub fn connect(case: &Case, instance: &mut Instance, is_whole: bool, verb: &str,
     let text = text.strip_prefix(' ').unwrap_or(text);
     let bytes = match verb {
         "hear" => case.bytes(text),
-        _ if phrases.contains("post") => post(case, text),
+        _ if phrases.contains("post") => posted(case, "/api/v2/silences", text),
         _ => case.unescaped(text),
     };
     let coming = Coming {
@@ -154,13 +154,6 @@ pub fn connect(case: &Case, instance: &mut Instance, is_whole: bool, verb: &str,
     if case.is_fine() {
         *instance = member;
     }
-}
-
-fn post(case: &Case, body: &str) -> Vec<u8> {
-    let size = case.unescaped(body).len();
-    let head = "POST /api/v2/silences HTTP/1.1\r\ncontent-length: ";
-    let text = case.made(format!(in case.alloc; "{head}{size}\r\n\r\n{body}"));
-    case.unescaped(text.unwrap_or(String::new(case.alloc)).as_str())
 }
 
 /// Returns the answer of a copy of the member, and the copy after it.
@@ -230,7 +223,8 @@ impl TriedCall for Sending<'_> {
 pub fn say_sent(case: &Case, rest: &str) {
     let (phrases, digits) = cut(rest, ": ");
     let (name, phrases) = cut(phrases, ", ");
-    given!(fed = fed(case, digits));
+    let fed = Feeder::new(case.alloc).feed(case.bytes(digits).as_slice());
+    given!(fed = case.sound(fed, FrameError::Memory));
     let frames = fed.frames.as_slice();
     let sent = case.make(&Sending { name, frames }, &case.how(phrases, &[]));
     case.say_bytes(sent.taken.as_slice());

@@ -1,18 +1,14 @@
 //! Cases of instances, their requests and connections, of clusters, and of the command line.
 
 use crate::calls::call;
-use crate::clusters::{carried, cluster, refused, replay, settle, steps};
+use crate::clusters::{replay, steps};
 use crate::connections::{connect, say_sent};
-use crate::events::{asks, say_event};
-use crate::members::{begin, hold, say_config, say_state};
-use crate::steps::happen;
-use am_api_silences::{Read, read_request, to_bytes, to_event};
+use crate::members::{begin, hold, say_state};
 use am_diagnostics::{TickVerdict, judge_tick};
-use am_instance::{Instance, Reply};
-use am_part_cases::common::{Case, CaseFault, Printed, cut};
-use am_part_cases::{given, parts, say, say_some};
+use am_instance::Instance;
+use am_part_cases::common::{Case, Printed, cut};
+use am_part_cases::{parts, say, say_some};
 use am_peers::{AddressWord, address_of, later_moment, number_within, peer_of, port_of};
-use am_silence::SilenceError;
 use std::time::Duration;
 
 /// Answers a case about the current member, if there is one, or about none.
@@ -25,20 +21,9 @@ pub fn answer(case: &Case, member: &mut Option<Instance>, is_whole: bool, verb: 
     };
     match verb {
         "hold" => hold(case, instance, rest),
-        "config" => {
-            given!(copy = case.made(instance.config().try_clone()));
-            say_config(case, &copy);
-        }
         "state" => say_state(case, instance),
-        "at" => happen(case, instance, rest),
         "ask" | "connect" | "hear" => connect(case, instance, is_whole, verb, rest),
         "call" => call(case, instance, rest),
-        "asks" => asks(case, instance.config(), rest),
-        "places" => {
-            for name in rest.split(',') {
-                say!(case; ?instance.config().place_named(name));
-            }
-        }
         _ => alone(case, verb, rest),
     }
 }
@@ -47,17 +32,7 @@ fn alone(case: &Case, verb: &str, rest: &str) {
     match verb {
         "whole" => {}
         "send" if !rest.starts_with("in pieces of ") => say_sent(case, rest),
-        "reply" if rest == "too large" => say_reply(case, &Reply::Refused(SilenceError::TooLarge)),
-        "reply" if rest == "no silence" => {
-            say_reply(case, &Reply::Silences(Vec::new(case.alloc)));
-        }
-        "event" => say_asked_by(case, rest),
-        "reply" if rest == "no memory" => case.say_text(am_http::out_of_memory()),
         "replay" => replay(case, rest),
-        "refused" => refused(case),
-        "carried" => carried(case, rest),
-        "cluster" => cluster(case, rest),
-        "settle" => settle(case, rest),
         "steps" => steps(case, rest),
         "port" => say!(case; ?port_of(rest)),
         "peer" => say_some!(case; peer = peer_of(rest); ?peer.name, " at ", peer.address),
@@ -67,27 +42,6 @@ fn alone(case: &Case, verb: &str, rest: &str) {
         "clock" => say_clock(case, rest),
         "tick" => say_tick(case, rest),
         _ => parts::answer(case, verb, rest),
-    }
-}
-
-/// Prints the bytes of a reply.
-fn say_reply(case: &Case, reply: &Reply) {
-    given!(bytes = case.made(to_bytes(case.alloc, Ok(reply))));
-    case.say_text(bytes.as_slice());
-}
-
-/// Answers `event TEXT` with what a whole request asks of a member, with bits 0, or why it is refused.
-fn say_asked_by(case: &Case, text: &str) {
-    let bytes = case.unescaped(text);
-    let request = match read_request(case.alloc, bytes.as_slice(), true) {
-        Read::Whole(request) => request,
-        Read::Refused(refusal) if refusal.status == 500 => return case.fail(CaseFault::Memory),
-        _ => return case.fail(CaseFault::Words),
-    };
-    match to_event(case.alloc, &request, 0) {
-        Ok(event) => say_event(case, &event),
-        Err(refusal) if refusal.status == 500 => case.fail(CaseFault::Memory),
-        Err(refusal) => say!(case; refusal.status, " ", refusal.text),
     }
 }
 

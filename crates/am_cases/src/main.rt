@@ -4,10 +4,8 @@
 mod calls;
 mod clusters;
 mod connections;
-mod events;
 mod instances;
 mod members;
-mod steps;
 
 use am_instance::Instance;
 use am_part_cases::common::{Case, CaseFault, first};

@@ -4,19 +4,15 @@ use am_instance::{Config, ConfigError, Instance};
 use am_merge::Held;
 use am_part_cases::common::{Case, Printed, Spelled, cut, first};
 use am_part_cases::{given, put, say, say_some};
-use am_version_order::Interval;
 use am_wire::Text;
 
-/// Returns how long members keep versions after their end, 100 s, and how long they wait for one another, 15 s.
-pub fn times(case: &Case) -> Option<(Interval, Interval)> {
-    Some((case.seconds("100")?, case.seconds("15")?))
-}
-
-/// Answers `new at MOMENT NAME PEER ..`: begins a member that holds nothing, and prints its configuration or why there is none.
+/// Answers `new at MOMENT NAME PEER ..`: begins a member that holds nothing, keeps versions for 100 s after their end and waits
+/// 15 s for each member before it. Prints its configuration, or why there is none.
 pub fn begin(case: &Case, member: &mut Option<Instance>, text: &str) {
     let (now, names) = first(first(text).1);
     let (own, peers) = first(names);
-    given!((retention, peer_timeout) = times(case));
+    given!(retention = case.seconds("100"));
+    given!(peer_timeout = case.seconds("15"));
     given!(name = Text::spelled(case, own));
     let (now, peers) = (case.moment(now), case.list(peers, " "));
     let config = Config::new(case.alloc, name, peers, retention, peer_timeout);
@@ -83,4 +79,17 @@ pub fn say_state(case: &Case, instance: &Instance) {
 pub fn print_held(case: &Case, before: &str, instance: &Instance) {
     put!(case; before, instance.silences().len(), " ", instance.log().len());
     put!(case; " at ", @instance.last());
+}
+
+/// Returns a request that posts a text with escapes to a target.
+pub fn posted(case: &Case, target: &str, text: &str) -> Vec<u8> {
+    let body = case.unescaped(text);
+    let (size, mut whole) = (body.len(), Vec::new(case.alloc));
+    if let Some(head) = case.made(format!(in case.alloc;
+        "POST {target} HTTP/1.1\r\ncontent-length: {size}\r\n\r\n"
+    )) {
+        case.append(&mut whole, head.as_bytes());
+        case.append(&mut whole, body.as_slice());
+    }
+    whole
 }

@@ -2,13 +2,11 @@
 
 mod bytes;
 mod case;
-mod matching;
 mod tries;
 mod versions;
 mod words;
 
 pub use crate::common::case::{Case, CaseFault};
-pub use crate::common::matching::matcher_parts;
 pub use crate::common::tries::{Brittle, Cut, How, Pieces, TriedCall};
 pub use crate::common::versions::{CaseVersion, Printed, Spelled};
 pub use crate::common::words::{behind, cut, first, moment_of, phrase};

@@ -3,13 +3,11 @@
 mod figures;
 mod frames;
 mod gossip;
-mod hashes;
 mod json;
 mod maps;
 mod matchers;
 mod messages;
 mod patterns;
-mod plans;
 mod requests;
 mod seals;
 mod snapshots;

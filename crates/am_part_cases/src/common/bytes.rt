@@ -22,27 +22,26 @@ impl Case {
     fn repeated(&self, text: &str, are_pairs: bool) -> Vec<u8> {
         let mut bytes = Vec::new(self.alloc);
         for part in text.split(" + ") {
-            self.append_part(&mut bytes, part, are_pairs);
+            let (count, once) = part.split_once(" x ").unwrap_or(("1", part));
+            let once = match are_pairs {
+                true => self.pairs(once),
+                false => self.unescaped(once),
+            };
+            for _ in 0..count.parse::<u64>().unwrap_or(0) {
+                self.append(&mut bytes, once.as_slice());
+            }
         }
         bytes
     }
 
-    fn append_part(&self, bytes: &mut Vec<u8>, part: &str, are_pairs: bool) {
-        let (count, once) = part.split_once(" x ").unwrap_or(("1", part));
-        for _ in 0..count.parse::<u64>().unwrap_or(0) {
-            if are_pairs {
-                self.append_pairs(bytes, once);
-            } else {
-                self.append_unescaped(bytes, once);
+    fn pairs(&self, text: &str) -> Vec<u8> {
+        let mut bytes = Vec::new(self.alloc);
+        if let Some(digits) = self.made(text.replace(self.alloc, " ", "")) {
+            for pair in digits.as_bytes().chunks(2) {
+                self.push(&mut bytes, self.or(byte(pair), 0));
             }
         }
-    }
-
-    fn append_pairs(&self, bytes: &mut Vec<u8>, text: &str) {
-        given!(digits = self.made(text.replace(self.alloc, " ", "")));
-        for pair in digits.as_bytes().chunks(2) {
-            self.push(bytes, self.or(byte(pair), 0));
-        }
+        bytes
     }
 
     /// Appends bytes.
@@ -55,21 +54,17 @@ impl Case {
     /// Reads the bytes that a text spells.
     pub fn unescaped(&self, text: &str) -> Vec<u8> {
         let mut bytes = Vec::new(self.alloc);
-        self.append_unescaped(&mut bytes, text);
-        bytes
-    }
-
-    fn append_unescaped(&self, bytes: &mut Vec<u8>, text: &str) {
         let mut is_plain = true;
         for part in text.split('\\') {
             if is_plain {
-                self.append(bytes, part.as_bytes());
+                self.append(&mut bytes, part.as_bytes());
                 is_plain = false;
             } else {
                 is_plain = part.is_empty();
-                self.append_escape(bytes, part.as_bytes());
+                self.append_escape(&mut bytes, part.as_bytes());
             }
         }
+        bytes
     }
 
     fn append_escape(&self, bytes: &mut Vec<u8>, text: &[u8]) {

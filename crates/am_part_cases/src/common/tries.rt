@@ -94,9 +94,6 @@ pub struct How<'a> {
     pub each: &'a str,
     /// True if a call that failed is made once more, over the same reader and writer.
     pub again: bool,
-    /// The number of the read that fails if there are no tries in a row, counted from 1 (0: none); likewise of the write below.
-    pub failing_read: usize,
-    pub failing_write: usize,
 }
 
 impl<'a> How<'a> {
@@ -130,11 +127,6 @@ pub trait TriedCall {
 /// The name of a read or a write that failed, and the number of bytes that came or went out before it.
 pub type Cut = (&'static str, u64);
 
-/// Returns the number after a name among phrases, or 0 if there is none.
-fn numbered(phrases: &str, name: &str) -> usize {
-    first(phrase(phrases, name)).0.parse::<usize>().unwrap_or(0)
-}
-
 impl Case {
     /// Reads the way that a call is made from the words before `: `, which are phrases with `, ` between them.
     pub fn how<'a>(&self, phrases: &'a str, input: &'a [u8]) -> How<'a> {
@@ -144,8 +136,6 @@ impl Case {
             step: size.parse::<usize>().unwrap_or(usize::MAX),
             each: phrase(phrases, "each "),
             again: phrases.contains("again"),
-            failing_read: numbered(phrases, "read "),
-            failing_write: numbered(phrases, "write "),
         }
     }
 
@@ -235,9 +225,9 @@ impl Case {
 
     /// Makes the tries that are asked for, prints the answer to the call without them, and returns what was written then.
     pub fn make<C: TriedCall>(&self, call: &C, how: &How<'_>) -> Brittle {
-        let mut writer = self.writer(how, how.failing_write);
+        let mut writer = self.writer(how, 0);
         let answer = Case::new(self.alloc);
-        let mut reader = Pieces::new(how.input, how.step, how.failing_read);
+        let mut reader = Pieces::new(how.input, how.step, 0);
         let cut = call.make(&answer, &mut reader, &mut writer);
         answer.print_cut(cut, usize::MAX);
         self.fail_as(&answer);

@@ -1,12 +1,14 @@
-//! Values that words spell, and versions of either state: as words, as bytes, and printed (docs/CASES.md).
+//! Values that words spell, and versions of either state, which are given and printed as their bytes (docs/CASES.md).
 
 use crate::common::case::Case;
-use crate::common::words::{behind, cut, first};
-use am_merge::{Held, Taken};
-use am_nflog::{Bytes, Entry, HashIter, Hashes, LogKey, MeshEntry, Receiver};
+use crate::common::words::cut;
+use am_matcher::Label;
+use am_merge::Held;
+use am_nflog::MeshEntry;
 use am_silence::{MeshSilence, Silence};
 use am_version_order::{Moment, Version};
-use am_wire::{Message, Text, WireError};
+use am_wire::reading::{AnyField, Scan};
+use am_wire::{Message, Text, Value, WireError};
 
 /// A value that words spell.
 pub trait Spelled: Sized + Drop {
@@ -20,29 +22,64 @@ impl Spelled for Text {
     }
 }
 
+impl Spelled for Label {
+    fn spelled(case: &Case, word: &str) -> Option<Label> {
+        let (name, value) = cut(word, "=");
+        let (name, value) = (case.text(name), case.value(value));
+        Some(Label { name, value })
+    }
+}
+
 /// A value that is printed as cases name it.
 pub trait Printed {
     fn print(&self, case: &Case);
 }
 
-/// A version that cases name, and that is printed as they name it; after `bytes` it is named by its bytes.
+/// A version that is given and printed as its bytes.
 pub trait CaseVersion: Version + Message + Spelled + Printed {}
 
 impl<V: Version + Message + Spelled + Printed> CaseVersion for V {}
 
-/// Returns the start and the end among the words. There is no other `..` before theirs.
-fn span(words: &str) -> (&str, &str) {
-    let (front, rest) = words.split_once("..").unwrap_or(("10", "100"));
-    (
-        front.rsplit_once(' ').unwrap_or(("", front)).1,
-        first(rest).0,
-    )
+impl Spelled for MeshSilence {
+    fn spelled(case: &Case, pairs: &str) -> Option<MeshSilence> {
+        case.message(case.bytes(pairs).as_slice())
+    }
+}
+
+impl Printed for MeshSilence {
+    fn print(&self, case: &Case) {
+        case.print_bytes("", self.canonical(), "");
+    }
+}
+
+impl Spelled for MeshEntry {
+    fn spelled(case: &Case, pairs: &str) -> Option<MeshEntry> {
+        case.message(case.bytes(pairs).as_slice())
+    }
+}
+
+impl Printed for MeshEntry {
+    fn print(&self, case: &Case) {
+        case.print_bytes("", self.canonical(), "");
+    }
 }
 
 impl Case {
-    fn decoded<M: Message>(&self, hex: &str) -> Option<M> {
-        let bytes = self.bytes(hex);
-        self.sound(M::decode(self.alloc, bytes.as_slice()), WireError::Memory)
+    /// Reads a message.
+    fn message<M: Message>(&self, bytes: &[u8]) -> Option<M> {
+        self.sound(M::decode(self.alloc, bytes), WireError::Memory)
+    }
+
+    /// Reads the silence of a version, which comes first in its bytes.
+    pub fn silence(&self, pairs: &str) -> Option<Silence> {
+        let bytes = self.bytes(pairs);
+        match Scan::<AnyField>::new(bytes.as_slice()).next() {
+            Some(Ok(field)) => match field.value {
+                Value::Bytes(bytes) => self.message(bytes),
+                _ => self.wanted(None),
+            },
+            _ => self.wanted(None),
+        }
     }
 
     /// Reads the values of a text with a mark between them; an empty text has none.
@@ -66,16 +103,6 @@ impl Case {
         }
     }
 
-    /// Takes the version that words spell at a moment.
-    pub fn take<V: CaseVersion>(
-        &self,
-        held: &mut Held<V>,
-        words: &str,
-        now: Moment,
-    ) -> Option<Taken> {
-        self.made(held.take(V::spelled(self, words)?, now))
-    }
-
     /// Returns the map of versions with `, ` between them.
     pub fn held<V: CaseVersion>(&self, text: &str) -> Held<V> {
         let mut held = Held::new(self.alloc);
@@ -92,105 +119,5 @@ impl Case {
             put!(self; ", ", @version);
         }
         self.put("\n");
-    }
-
-    /// Reads the silence that words spell.
-    pub fn silence(&self, words: &str) -> Silence {
-        let (starts, ends) = span(words);
-        let (front, comment) = cut(words, " saying ");
-        let (front, author) = cut(front, " by ");
-        Silence {
-            id: self.text(first(front).0),
-            matchers: self.matchers(cut(words, " by ").0),
-            starts_at: self.moment(starts),
-            ends_at: self.moment(ends),
-            updated_at: self.moment(behind(words, " updated ", "10")),
-            created_by: self.text(author),
-            comment: self.text(comment),
-        }
-    }
-
-    /// Reads the receiver of a word such as `r/w/0`.
-    pub fn receiver(&self, word: &str) -> Receiver {
-        let (name, rest) = cut(word, "/");
-        let (integration, index) = cut(rest, "/");
-        Receiver {
-            group_name: self.text(name),
-            integration: self.text(integration),
-            idx: self.or(index.parse::<u32>().ok(), 0),
-        }
-    }
-
-    /// Reads the entry that words spell, without a hash of its group. Unless the words say otherwise, its moment is 10 s and it
-    /// has no hashes.
-    pub fn entry(&self, words: &str) -> Option<Entry> {
-        let (group, rest) = first(words);
-        let receiver = self.receiver(first(rest).0);
-        Some(Entry {
-            key: self.made(LogKey::new(self.alloc, group.as_bytes(), &receiver))?,
-            group_hash: Bytes::new(Vec::new(self.alloc)),
-            resolved: false,
-            timestamp: self.moment(behind(words, " updated ", "10")),
-            firing_alerts: Hashes::new(self.numbers(behind(words, " firing ", "-"))),
-            resolved_alerts: Hashes::new(self.numbers(behind(words, " resolved ", "-"))),
-        })
-    }
-
-    /// Prints hashes after a word, or nothing if there are none.
-    pub fn print_hashes(&self, word: &str, hashes: HashIter<'_>) {
-        let mut is_first = true;
-        for hash in hashes {
-            put!(self; if is_first { word } else { "," }, hash);
-            is_first = false;
-        }
-    }
-}
-
-impl Spelled for MeshSilence {
-    fn spelled(case: &Case, words: &str) -> Option<MeshSilence> {
-        if let Some(hex) = words.strip_prefix("bytes ") {
-            return case.decoded(hex);
-        }
-        let expires = case.moment(behind(words, " expires ", "200"));
-        let version = MeshSilence::new(case.alloc, case.silence(words), expires);
-        case.sound(version, WireError::Memory)
-    }
-}
-
-impl Printed for MeshSilence {
-    fn print(&self, case: &Case) {
-        case.put(self.key().as_str());
-        case.print_matchers(self.matchers());
-        put!(case; " ", @self.starts_at(), "..", @self.ends_at());
-        put!(case; " updated ", @self.updated_at(), " expires ", @self.expires_at());
-        let (author, comment) = (self.created_by(), self.comment());
-        put!(case; if author.is_empty() { "" } else { " by " }, author);
-        put!(case; if comment.is_empty() { "" } else { " saying " }, comment);
-    }
-}
-
-impl Spelled for MeshEntry {
-    fn spelled(case: &Case, words: &str) -> Option<MeshEntry> {
-        if let Some(hex) = words.strip_prefix("bytes ") {
-            return case.decoded(hex);
-        }
-        let expires = case.moment(behind(words, " expires ", "200"));
-        let version = MeshEntry::new(case.alloc, case.entry(words)?, expires);
-        case.sound(version, WireError::Memory)
-    }
-}
-
-impl Printed for MeshEntry {
-    fn print(&self, case: &Case) {
-        let key = self.key();
-        case.print_text(key.group_key());
-        put!(case; " ", key.group_name(), "/", key.integration(), "/", key.idx());
-        put!(case; " updated ", @self.timestamp(), " expires ", @self.expires_at());
-        case.print_hashes(" firing ", self.firing_alerts());
-        case.print_hashes(" resolved ", self.resolved_alerts());
-        case.print_bytes(" hash ", self.group_hash(), "");
-        if self.resolved() {
-            case.put(", all resolved");
-        }
     }
 }

@@ -3,6 +3,7 @@
 use crate::common::case::Case;
 use crate::common::versions::Printed;
 use am_version_order::{Interval, Moment};
+use am_wire::Text;
 
 /// Returns the first word, and the text after the blank that follows it.
 pub fn first(text: &str) -> (&str, &str) {
@@ -48,6 +49,12 @@ pub fn moment_of(word: &str) -> Option<Moment> {
 }
 
 impl Case {
+    /// Reads a word with escapes; `""` is the empty text.
+    pub fn value(&self, word: &str) -> Text {
+        let bytes = self.unescaped(if word == "\"\"" { "" } else { word });
+        self.text(str::from_utf8(bytes.as_slice()).unwrap_or("no text"))
+    }
+
     /// Reads a word that is a whole number.
     pub fn number(&self, word: &str) -> u64 {
         self.or(word.parse::<u64>().ok(), 0)

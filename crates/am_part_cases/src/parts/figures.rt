@@ -28,16 +28,6 @@ fn itself(case: &Case, method: &str, target: &str) {
     }
 }
 
-/// Returns the kind that a word names.
-fn kind_of(word: &str) -> Option<MetricType> {
-    match word {
-        "counter" => Some(MetricType::Counter),
-        "gauge" => Some(MetricType::Gauge),
-        "histogram" => Some(MetricType::Histogram),
-        _ => None,
-    }
-}
-
 /// Returns the number that a word spells: a whole one, or one with a point and a number of billionths.
 fn number_of(word: &str) -> Option<Number> {
     let Some((whole, nanos)) = word.split_once('.') else {
@@ -53,44 +43,38 @@ fn number_of(word: &str) -> Option<Number> {
 fn labels_of(case: &Case, values: &str) -> Vec<MetricLabel> {
     let mut labels = Vec::new(case.alloc);
     for (name, value) in LABELS.iter().zip(values.split_terminator('|')) {
-        let bytes = case.unescaped(value);
-        let value = case.text(str::from_utf8(bytes.as_slice()).unwrap_or(""));
+        let value = case.value(value);
         case.push(&mut labels, MetricLabel { name: *name, value });
     }
     labels
 }
 
-/// Returns the figure that these words spell.
-fn sample_of(case: &Case, number: &str, values: &str) -> Sample {
-    Sample {
-        suffix: "",
-        labels: labels_of(case, values),
-        number: case.or(number_of(number), Number::Whole(0)),
-    }
-}
-
 /// Answers `figure KIND NUMBER: VALUE|VALUE..` with the text, in brackets, of a family `up` with one figure, whose labels have
 /// these values.
 fn figure(case: &Case, rest: &str) {
-    let (kind, rest) = first(rest);
+    let (word, rest) = first(rest);
     let (number, values) = cut(rest, ":");
     let mut samples = Vec::new(case.alloc);
-    case.push(&mut samples, sample_of(case, number, values.trim_start()));
+    let sample = Sample {
+        suffix: "",
+        labels: labels_of(case, values.trim_start()),
+        number: case.or(number_of(number), Number::Whole(0)),
+    };
+    case.push(&mut samples, sample);
+    let family = Family {
+        name: "up",
+        help: "A \\ and a \n.",
+        kind: match word {
+            "counter" => MetricType::Counter,
+            "histogram" => MetricType::Histogram,
+            _ => MetricType::Gauge,
+        },
+        samples,
+    };
     let mut families = Vec::new(case.alloc);
-    let kind = case.or(kind_of(kind), MetricType::Gauge);
-    case.push(&mut families, family_of(kind, samples));
+    case.push(&mut families, family);
     given!(text = case.made(write_families(case.alloc, &families)));
     case.put("[");
     case.print_text(text.as_slice());
     case.put("]\n");
-}
-
-/// Returns the family of these figures.
-fn family_of(kind: MetricType, samples: Vec<Sample>) -> Family {
-    Family {
-        name: "up",
-        help: "A \\ and a \n.",
-        kind,
-        samples,
-    }
 }

@@ -27,12 +27,6 @@ pub fn answer(case: &Case, verb: &str, rest: &str) {
         "kind" => say_some!(case; kind = FrameKind::from_code((case.number(rest) % 256) as u8);
             ?kind, " ", kind.code(), ", at most ", kind.limit()),
         "key" => say_some!(case; key = StateKey::from_text(rest); ?key, " ", key.as_str()),
-        "full-state" => {
-            let parts = FullState::new(case.list(rest, " + ")).into_vec();
-            put!(case; parts.len(), ":");
-            print_parts(case, parts.as_slice(), " +", "");
-            case.put("\n");
-        }
         "session" => session(case, rest),
         "receive" => receive(case, rest),
         _ => gossip::answer(case, verb, rest),

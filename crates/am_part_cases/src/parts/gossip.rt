@@ -1,6 +1,6 @@
 //! The requests by gossip to running Alertmanagers, and their answers.
 
-use crate::common::{Case, cut};
+use crate::common::{Case, first};
 use crate::parts::maps;
 use am_gossip::StateKey;
 use am_memberlist::{
@@ -11,87 +11,58 @@ use am_memberlist::{
 /// The maximum number of bytes that an answer is unpacked to.
 const MOST: usize = 1_000;
 
-/// Answers cases of requests and answers.
+/// Answers cases of requests and answers: `unpack MOST BYTES`, `unpack-answer BYTES` and `message BYTES` with what is read of the
+/// bytes, `told KEY BYTES` with the row of a state among states, `telling KEY BYTES` with the states that have only this one,
+/// given by its row, and `ask BYTES` with a request.
 pub fn answer(case: &Case, verb: &str, rest: &str) {
+    let (word, pairs) = first(rest);
     match verb {
-        "unpack" => unpack_words(case, rest),
-        "unpack-answer" => {
-            let bytes = case.bytes(rest);
-            given!(plain = case.got(unpack_answer(case.alloc, bytes, MOST), AnswerError::Memory));
+        "unpack" => {
+            let (bytes, most) = (case.bytes(pairs), case.number(word) as usize);
+            given!(plain = case.got(unpack(case.alloc, bytes.as_slice(), most), LzwError::Memory));
             case.say_bytes(plain.as_slice());
         }
-        "message" => message(case, rest),
+        "unpack-answer" => {
+            let plain = unpack_answer(case.alloc, case.bytes(rest), MOST);
+            given!(plain = case.got(plain, AnswerError::Memory));
+            case.say_bytes(plain.as_slice());
+        }
+        "message" => message(case, case.bytes(rest).as_slice()),
         "ask" => {
-            let bytes = case.bytes(rest);
-            given!(text = case.made(request_encoding(case.alloc, bytes.as_slice())));
+            let text = request_encoding(case.alloc, case.bytes(rest).as_slice());
+            given!(text = case.made(text));
             case.say_bytes(text.as_slice());
         }
-        "told" => told(case, rest),
-        "telling" => telling(case, rest),
+        "told" => {
+            given!(key = case.wanted(StateKey::from_text(word)));
+            told(case, key, case.bytes(pairs).as_slice());
+        }
+        "telling" => {
+            given!(key = case.wanted(StateKey::from_text(word)));
+            let text = states_encoding(case.alloc, key, case.bytes(pairs).as_slice());
+            given!(text = case.made(text));
+            case.say_bytes(text.as_slice());
+        }
         _ => maps::answer(case, verb, rest),
     }
 }
 
-/// Answers `unpack MOST BYTES` with what the bytes unpack to.
-fn unpack_words(case: &Case, rest: &str) {
-    let (most, bytes) = cut(rest, " ");
-    let most = case.number(most) as usize;
-    let bytes = case.bytes(bytes);
-    given!(plain = case.got(unpack(case.alloc, bytes.as_slice(), most), LzwError::Memory));
-    case.say_bytes(plain.as_slice());
-}
-
-/// Answers `message BYTES` with what a message says.
-fn message(case: &Case, rest: &str) {
-    let bytes = case.bytes(rest);
-    given!(
-        said = case.got(
-            read_message(case.alloc, bytes.as_slice()),
-            AnswerError::Memory
-        )
-    );
+fn message(case: &Case, bytes: &[u8]) {
+    let said = read_message(case.alloc, bytes);
+    given!(said = case.got(said, AnswerError::Memory));
     match said {
-        Said::States(states) => say_part(case, "states", states),
-        Said::Error(words) => say_part(case, "error", words),
+        Said::States(states) => case.print_bytes("states ", states, "states none"),
+        Said::Error(words) => case.print_bytes("error ", words, "error none"),
     }
-}
-
-/// Prints a word and bytes on a line.
-fn say_part(case: &Case, word: &str, bytes: &[u8]) {
-    case.put(word);
-    case.print_bytes(" ", bytes, " none");
     case.put("\n");
 }
 
-/// Reads the key of a state, and returns it with the words of the bytes.
-fn state_of<'a>(case: &Case, rest: &'a str) -> Option<(StateKey, &'a str)> {
-    let (key, bytes) = cut(rest, " ");
-    let key = case.wanted(StateKey::from_text(key))?;
-    Some((key, bytes))
-}
-
-/// Answers `told KEY BYTES` with the row of a state among states.
-fn told(case: &Case, rest: &str) {
-    given!(words = state_of(case, rest));
-    let (key, bytes) = words;
-    let bytes = case.bytes(bytes);
-    given!(
-        row = case.got(
-            row_in(case.alloc, bytes.as_slice(), key),
-            AnswerError::Memory
-        )
-    );
+fn told(case: &Case, key: StateKey, bytes: &[u8]) {
+    let row = row_in(case.alloc, bytes, key);
+    given!(row = case.got(row, AnswerError::Memory));
     match row {
-        Some(row) => say_part(case, "row", row),
-        None => case.put("no such state\n"),
+        Some(row) => case.print_bytes("row ", row, "row none"),
+        None => case.put("no such state"),
     }
-}
-
-/// Answers `telling KEY BYTES` with the states that have only this one, given by its row.
-fn telling(case: &Case, rest: &str) {
-    given!(words = state_of(case, rest));
-    let (key, bytes) = words;
-    let bytes = case.bytes(bytes);
-    given!(text = case.made(states_encoding(case.alloc, key, bytes.as_slice())));
-    case.say_bytes(text.as_slice());
+    case.put("\n");
 }

@@ -2,13 +2,13 @@
 
 use crate::common::{Case, CaseFault, Printed, Spelled, first};
 use crate::parts::snapshots;
-use am_silence::{MeshSilence, State};
+use am_silence::{MeshSilence, Silence, State};
 use am_silence_json::laws::reads_again;
 use am_silence_json::moments::{read_moment, write_moment};
 use am_silence_json::{
-    BodyError, ListError, cut_to_shown, read_post, read_silences, write_error, write_posted,
-    write_silence, write_silences,
+    BodyError, ListError, cut_to_shown, read_post, read_silences, write_silence, write_silences,
 };
+use am_wire::WireError;
 use std::alloc::AllocError;
 
 /// Answers cases of JSON: `moment-text read TEXT` and `moment-text written 10.0005`, and those of silences below.
@@ -21,7 +21,7 @@ pub fn answer(case: &Case, verb: &str, rest: &str) {
     }
 }
 
-/// Prints what is written of silences, of an identifier and of a fault, and what is read of a body, which has escapes.
+/// Prints what is written of silences, and what is read of a body, which has escapes.
 fn json(case: &Case, verb: &str, rest: &str) {
     let (alloc, out) = (case.alloc, Vec::new(case.alloc));
     match verb {
@@ -32,8 +32,6 @@ fn json(case: &Case, verb: &str, rest: &str) {
         "lists" => say_body(case, write_silences(out, case.list(rest, ", ").as_slice())),
         "again" => say_read(case, reads_again(alloc, case.list(rest, ", ").as_slice())),
         "reads" => say_read(case, read_silences(alloc, case.unescaped(rest).as_slice())),
-        "posted" => say_body(case, write_posted(out, rest)),
-        "fault" => say_body(case, write_error(out, rest)),
         "post" => post(case, rest),
         "cut" => {
             given!(version = MeshSilence::spelled(case, rest));
@@ -49,7 +47,7 @@ fn say_body(case: &Case, body: Result<Vec<u8>, AllocError>) {
     say!(case; str::from_utf8(body.as_slice()).unwrap_or("no text"));
 }
 
-/// A silence in its state: `active a job=x ..`.
+/// A version in its state: `active VERSION`.
 impl Spelled for (MeshSilence, State) {
     fn spelled(case: &Case, row: &str) -> Option<(MeshSilence, State)> {
         let (word, words) = first(row);
@@ -78,7 +76,7 @@ fn say_read(case: &Case, read: Result<Vec<MeshSilence>, ListError>) {
     }
 }
 
-/// Prints what a body posts, such as `- job=x 10..100 by "ops" saying "hi"`, or why it is refused.
+/// Prints what a body posts, as a version that is updated at 10 s and expires at 200 s, or why it is refused.
 fn post(case: &Case, body: &str) {
     let body = case.unescaped(body);
     let read = read_post(case.alloc, body.as_slice());
@@ -86,12 +84,21 @@ fn post(case: &Case, body: &str) {
         return say!(case; ?BodyError::Wrong(key), ": ", key.text());
     }
     given!(posted = case.got(read, BodyError::Memory));
-    match &posted.id {
-        Some(id) => case.put(id.as_str()),
-        None => case.put("-"),
-    }
-    case.print_matchers(posted.matchers.iter());
-    put!(case; " ", @posted.starts_at, "..", @posted.ends_at);
-    put!(case; " by \"", posted.created_by.as_str(), "\"");
-    say!(case; " saying \"", posted.comment.as_str(), "\"");
+    case.put(if posted.id.is_none() {
+        "no identifier, "
+    } else {
+        ""
+    });
+    let silence = Silence {
+        id: posted.id.unwrap_or(case.text("")),
+        matchers: posted.matchers,
+        starts_at: posted.starts_at,
+        ends_at: posted.ends_at,
+        updated_at: case.moment("10"),
+        created_by: posted.created_by,
+        comment: posted.comment,
+    };
+    let version = MeshSilence::new(case.alloc, silence, case.moment("200"));
+    given!(version = case.sound(version, WireError::Memory));
+    say!(case; @version);
 }

@@ -25,7 +25,6 @@ pub fn answer(case: &Case, verb: &str, rest: &str) {
             case.say_held(&held);
         }
         "keeper" => keeper(case, rest),
-        "keeper-start" => keeper_start(case, rest),
         _ => matchers::answer(case, verb, rest),
     }
 }
@@ -38,17 +37,20 @@ fn step(case: &Case, held: &mut Map, text: &str) {
         "bucket" => say_bucket(case, held, rest),
         "expiry" => say_some!(case; expiry = held.next_expiry(); @expiry),
         "held" => case.say_held(held),
-        "take" => say_made(case, case.take(held, words, case.moment(word))),
-        "pair" => take_pair(case, held, words, case.moment(word)),
+        "take" => {
+            given!(version = MeshSilence::spelled(case, words));
+            given!(taken = case.made(held.take(version, case.moment(word))));
+            say!(case; ?taken);
+        }
+        "pair" => {
+            given!((one, other) = Spelled::spelled(case, words));
+            given!(taken = case.made(held.take_pair(one, other, case.moment(word))));
+            say!(case; ?taken);
+        }
         "merge" => merge(case, held, words, case.moment(word)),
         "sweep" => say!(case; held.sweep(case.moment(word)), " went"),
         _ => case.fail(CaseFault::Words),
     }
-}
-
-fn say_made<T: Debug + Drop>(case: &Case, made: Option<T>) {
-    given!(made = made);
-    say!(case; ?made);
 }
 
 /// Two versions with `, ` between them.
@@ -58,11 +60,6 @@ impl Spelled for (MeshSilence, MeshSilence) {
         let one = MeshSilence::spelled(case, one)?;
         Some((one, MeshSilence::spelled(case, other)?))
     }
-}
-
-fn take_pair(case: &Case, held: &mut Map, words: &str, now: Moment) {
-    given!((one, other) = Spelled::spelled(case, words));
-    say_made(case, case.made(held.take_pair(one, other, now)));
 }
 
 /// Merges versions in. If memory runs out, prints how many of them were taken, and what is held then.
@@ -88,12 +85,13 @@ fn say_bucket(case: &Case, held: &Map, pairs: &str) {
     say!(case; "(", count, ")");
 }
 
-/// Prints why a keeper refused a call.
-fn say_refusal(case: &Case, refusal: KeeperError) {
-    match refusal {
-        KeeperError::MomentBack { last } => say!(case; "MomentBack ", @last),
-        KeeperError::DuplicateKey => say!(case; "DuplicateKey"),
-        KeeperError::Memory => case.fail(CaseFault::Memory),
+/// Prints the answer to a call of a keeper, or why it was refused.
+fn say_kept<T: Debug + Drop>(case: &Case, kept: Result<T, KeeperError>) {
+    match kept {
+        Ok(kept) => say!(case; ?kept),
+        Err(KeeperError::MomentBack { last }) => say!(case; "MomentBack ", @last),
+        Err(KeeperError::DuplicateKey) => case.put("DuplicateKey\n"),
+        Err(KeeperError::Memory) => case.fail(CaseFault::Memory),
     }
 }
 
@@ -109,80 +107,65 @@ impl Spelled for (Step<MeshSilence>, Moment) {
     }
 }
 
-fn keep_pair(case: &Case, keeper: &mut Keeper<MeshSilence>, text: &str) {
-    let (words, word) = cut(text, " at ");
-    given!((one, other) = Spelled::spelled(case, words));
-    match keeper.take_pair(one, other, case.moment(word)) {
-        Ok(taken) => say!(case; ?taken),
-        Err(refusal) => say_refusal(case, refusal),
-    }
-}
-
 /// Runs steps, and prints where they stop.
 fn run(case: &Case, keeper: &mut Keeper<MeshSilence>, text: &str) {
     let steps = case.list(text, ", ");
     match keeper.run(&steps) {
         Ok(()) => case.put("done\n"),
-        Err((_, KeeperError::Memory)) => case.fail(CaseFault::Memory),
         Err((place, refusal)) => {
-            put!(case; "stops at ", place, ": ");
-            say_refusal(case, refusal);
+            if refusal != KeeperError::Memory {
+                put!(case; "stops at ", place, ": ");
+            }
+            say_kept::<()>(case, Err(refusal));
         }
     }
 }
 
-fn view(case: &Case, keeper: &Keeper<MeshSilence>, text: &str) {
-    let (id, word) = cut(text, " at ");
-    let id = case.text(id);
-    say_some!(case; version = keeper.view(&id, case.moment(word)); @version);
-}
-
-fn keep_step(case: &Case, keeper: &mut Keeper<MeshSilence>, words: &str) {
-    given!((step, now) = Spelled::spelled(case, words));
-    match keeper.step(step, now) {
-        Ok(stepped) => say!(case; ?stepped),
-        Err(refusal) => say_refusal(case, refusal),
-    }
-}
-
-fn keep_collect(case: &Case, keeper: &mut Keeper<MeshSilence>, now: Moment) {
-    match keeper.collect(now) {
-        Ok(went) => say!(case; ?went),
-        Err(refusal) => say_refusal(case, refusal),
-    }
-}
-
 fn keeps(case: &Case, keeper: &mut Keeper<MeshSilence>, text: &str) {
-    match first(text) {
-        ("take" | "step", _) => keep_step(case, keeper, text.strip_prefix("step ").unwrap_or(text)),
-        ("collect", rest) => keep_collect(case, keeper, case.moment(first(rest).1)),
-        ("pair", rest) => keep_pair(case, keeper, rest),
-        ("run", rest) => run(case, keeper, rest),
-        ("view", rest) => view(case, keeper, rest),
-        ("held", _) => case.say_held(keeper.held()),
+    let (verb, rest) = first(text);
+    let (words, word) = cut(rest, "at ");
+    let words = words.trim_end();
+    match verb {
+        "take" | "step" => {
+            given!(
+                (step, now) = Spelled::spelled(case, text.strip_prefix("step ").unwrap_or(text))
+            );
+            say_kept(case, keeper.step(step, now));
+        }
+        "collect" => say_kept(case, keeper.collect(case.moment(word))),
+        "pair" => {
+            given!((one, other) = Spelled::spelled(case, words));
+            say_kept(case, keeper.take_pair(one, other, case.moment(word)));
+        }
+        "run" => run(case, keeper, rest),
+        "view" => {
+            let version = keeper.view(&case.text(words), case.moment(word));
+            say_some!(case; version = version; @version);
+        }
+        "held" => case.say_held(keeper.held()),
         _ => case.fail(CaseFault::Words),
     }
 }
 
-/// Answers `keeper MOMENT SILENCE, .. merged with SILENCE, ..; STEP; ..`: a keeper of a map, and its steps.
+/// Answers `keeper MOMENT SILENCE, .. merged with SILENCE, ..; STEP; ..`: a keeper that starts with versions, or with a map that
+/// was merged, and its steps.
 fn keeper(case: &Case, rest: &str) {
     let (map, text) = cut(rest, "; ");
     let (word, words) = first(map);
-    let (words, others) = cut(words, " merged with ");
-    let (mut map, now) = (case.held(words), case.moment(word));
-    if !others.is_empty() {
-        merge(case, &mut map, others, now);
-    }
-    let mut keeper = Keeper::of(map, now);
+    let now = case.moment(word);
+    let keeper = match words.split_once(" merged with ") {
+        Some((words, others)) => {
+            let mut map = case.held(words);
+            merge(case, &mut map, others, now);
+            Some(Keeper::of(map, now))
+        }
+        None => {
+            let keeper = Keeper::start(case.alloc, case.list(words, ", "), now);
+            case.got(keeper, KeeperError::Memory)
+        }
+    };
+    given!(mut keeper = keeper);
     for words in text.split("; ") {
         keeps(case, &mut keeper, words);
     }
-}
-
-/// Answers `keeper-start MOMENT SILENCE, ..` with what a keeper holds that starts with a list of versions.
-fn keeper_start(case: &Case, rest: &str) {
-    let (word, words) = first(rest);
-    let keeper = Keeper::start(case.alloc, case.list(words, ", "), case.moment(word));
-    given!(keeper = case.got(keeper, KeeperError::Memory));
-    case.say_held::<MeshSilence>(keeper.held());
 }

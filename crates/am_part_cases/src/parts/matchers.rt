@@ -1,16 +1,16 @@
 //! Matchers, filters and mutes; decisions whether a group is notified; and the moments at which an instance is due.
 
 use crate::common::{Case, Printed, Spelled, behind, cut, first};
-use crate::parts::hashes;
-use am_dedup::{decide, decide_over, due};
+use crate::parts::patterns;
+use am_dedup::{decide_over, due};
 use am_matcher::{
-    BuildError, Compiled, Dialect, Filter, FilterError, Ids, Labels, Mutes, PatternCache, mutes,
-    verdict,
+    BuildError, Compiled, Dialect, Filter, FilterError, Ids, Labels, Mutes, PatternCache,
 };
 use am_merge::Held;
 use am_nflog::MeshEntry;
-use am_silence::{Matcher, Matchers, MeshSilence};
+use am_silence::{MatcherKind, MatcherRef, Matchers, MeshSilence};
 use am_version_order::Moment;
+use am_wire::WireError;
 
 type Map = Held<MeshSilence>;
 
@@ -18,18 +18,15 @@ type Map = Held<MeshSilence>;
 pub fn answer(case: &Case, verb: &str, rest: &str) {
     match verb {
         "matches" => matches(case, rest),
-        "verdicts" => verdicts(case, rest, false),
-        "kept-verdicts" => verdicts(case, rest, true),
-        "re2-verdicts" => re2_verdicts(case, rest),
+        "verdicts" => verdicts(case, rest, Dialect::Regex),
+        "re2-verdicts" => verdicts(case, rest, Dialect::Re2),
         "filter" => filter(case, rest, Dialect::Regex),
         "re2-filter" => filter(case, rest, Dialect::Re2),
-        "mutes" => all_mutes(case, rest, Dialect::Regex),
-        "re2-mutes" => all_mutes(case, rest, Dialect::Re2),
-        "both-mutes" => both_mutes(case, rest),
+        "mutes" => all_mutes(case, rest),
         "many-mutes" => many_mutes(case, rest),
-        "decide" => say_decisions(case, rest),
+        "decide" => say_decision(case, rest),
         "due" => say_due(case, rest),
-        _ => hashes::answer(case, verb, rest),
+        _ => patterns::answer(case, verb, rest),
     }
 }
 
@@ -41,10 +38,12 @@ fn say_due(case: &Case, rest: &str) {
     say_some!(case; due = due(start, place, timeout); @due);
 }
 
-/// Answers `matches MATCHER VALUE ..` with whether the matcher matches each of the values.
+/// Answers `matches SILENCE: VALUE ..` with whether the matcher of a silence matches each of the values.
 fn matches(case: &Case, rest: &str) {
-    let (word, values) = first(rest);
-    given!(matcher = Matcher::spelled(case, word));
+    let (pairs, values) = cut(rest, ": ");
+    given!(silence = MeshSilence::spelled(case, pairs));
+    given!(matcher = case.wanted(silence.matchers().next()));
+    given!(matcher = case.made(matcher.copied(case.alloc)));
     let compiled = Compiled::build(case.alloc, &matcher);
     given!(mut compiled = case.got(compiled, BuildError::Memory));
     for (place, word) in values.split(' ').enumerate() {
@@ -55,144 +54,66 @@ fn matches(case: &Case, rest: &str) {
     case.put("\n");
 }
 
-/// Answers `verdicts LIST; LIST ..` with the verdict on each list of matchers; with `is_kept`, by one cache, and with how many
-/// bytes it then keeps.
-fn verdicts(case: &Case, lists: &str, is_kept: bool) {
+/// Answers `verdicts SILENCE, ..` with the verdict on the matchers of each silence, by one cache, and with how many bytes it
+/// then keeps.
+fn verdicts(case: &Case, list: &str, dialect: Dialect) {
     let mut patterns = PatternCache::new(case.alloc);
-    for (place, words) in lists.split("; ").enumerate() {
-        let matchers = case.matchers(words);
-        let verdict = match is_kept {
-            true => patterns.verdict(&matchers),
-            false => verdict(case.alloc, &owned(case, &matchers)),
-        };
-        if let Some(verdict) = case.made(verdict) {
-            put!(case; if place == 0 { "" } else { " " }, ?verdict);
-        }
+    for pairs in list.split(", ") {
+        given!(silence = case.silence(pairs));
+        let verdict = patterns.verdict_in(dialect, &silence.matchers);
+        given!(verdict = case.made(verdict));
+        put!(case; ?verdict, ", ");
     }
-    if is_kept {
-        put!(case; ", ", patterns.size(), " bytes kept");
-    }
-    case.put("\n");
+    say!(case; patterns.size(), " bytes kept");
 }
 
-/// Answers `re2-verdicts LIST; LIST ..` with the verdict on each list of matchers, whose patterns are those of RE2.
-fn re2_verdicts(case: &Case, lists: &str) {
-    let mut patterns = PatternCache::new(case.alloc);
-    for (place, words) in lists.split("; ").enumerate() {
-        let verdict = patterns.verdict_in(Dialect::Re2, &case.matchers(words));
-        if let Some(verdict) = case.made(verdict) {
-            put!(case; if place == 0 { "" } else { " " }, ?verdict);
-        }
-    }
-    case.put("\n");
-}
-
-/// Returns the matchers with texts of their own.
-fn owned(case: &Case, matchers: &Matchers) -> Vec<Matcher> {
-    let mut all = Vec::new(case.alloc);
-    for matcher in matchers.iter() {
-        if let Some(matcher) = case.made(matcher.copied(case.alloc)) {
-            case.made(all.push(matcher));
-        }
-    }
-    all
-}
-
-/// Reads the filter that a text spells.
-fn filter_of(case: &Case, text: &str, dialect: Dialect) -> Option<Filter> {
-    let filter = match dialect {
-        Dialect::Regex => Filter::parse(case.alloc, text),
-        Dialect::Re2 => Filter::parse_in(dialect, &PatternCache::new(case.alloc), text),
-    };
-    case.got(filter, FilterError::Memory)
-}
-
-/// Answers `filter [TEXT] of SILENCE` with whether a filter, given with escapes, passes a silence, and whether it passes its
-/// version.
+/// Answers `filter [TEXT] of SILENCE` with whether a filter, given with escapes, passes a silence.
 fn filter(case: &Case, rest: &str, dialect: Dialect) {
-    let (text, words) = rest.rsplit_once("] of ").unwrap_or((rest, ""));
-    let bytes = case.unescaped(text.strip_prefix('[').unwrap_or(text));
-    let text = str::from_utf8(bytes.as_slice()).unwrap_or("no text");
-    given!(mut filter = filter_of(case, text, dialect));
-    let silence = case.silence(words);
-    let is_passed = case.made(filter.passes(&silence)).unwrap_or(false);
-    given!(version = MeshSilence::spelled(case, words));
-    let is_version = case.made(filter.passes_version(&version)).unwrap_or(false);
-    say!(case; is_passed, ", its version ", is_version);
+    let (text, pairs) = rest.rsplit_once("] of ").unwrap_or((rest, ""));
+    let text = case.value(text.strip_prefix('[').unwrap_or(text));
+    let filter = match dialect {
+        Dialect::Regex => Filter::parse(case.alloc, text.as_str()),
+        Dialect::Re2 => Filter::parse_in(dialect, &PatternCache::new(case.alloc), text.as_str()),
+    };
+    given!(mut filter = case.got(filter, FilterError::Memory));
+    given!(version = MeshSilence::spelled(case, pairs));
+    given!(is_passed = case.made(filter.passes_version(&version)));
+    say!(case; is_passed);
 }
 
-/// Answers `mutes SILENCE, ..; at MOMENT LABEL ..; ..` with the silences that mute labels at moments. `forget` drops what is
-/// kept.
-fn all_mutes(case: &Case, rest: &str, dialect: Dialect) {
+/// Answers `mutes SILENCE, ..; at MOMENT LABEL ..; re2 MOMENT LABEL ..; forget` with the silences that mute labels at
+/// moments, by one cache and in either dialect, and once more when it keeps only the patterns of silences. `forget` drops all
+/// that is kept.
+fn all_mutes(case: &Case, rest: &str) {
     let (silences, text) = cut(rest, "; ");
     let held = case.held(silences);
     let mut patterns = PatternCache::new(case.alloc);
     for words in text.split("; ") {
-        step(case, &mut patterns, dialect, &held, words);
+        match first(words) {
+            ("forget", _) => {
+                patterns.drop_unused(&Held::new(case.alloc));
+                say!(case; "forgotten, ", patterns.size(), " bytes kept");
+            }
+            ("re2", words) => say_mutes(case, &mut patterns, Dialect::Re2, &held, words),
+            (_, words) => say_mutes(case, &mut patterns, Dialect::Regex, &held, words),
+        }
     }
 }
 
-/// Returns the silences that mute labels, by patterns that are compiled only for this call.
-fn mutes_once(
-    case: &Case,
-    dialect: Dialect,
-    held: &Map,
-    labels: &Labels,
-    now: Moment,
-) -> Option<Mutes> {
-    case.made(match dialect {
-        Dialect::Regex => mutes(case.alloc, held, labels, now),
-        Dialect::Re2 => PatternCache::new(case.alloc).mutes_in(dialect, held, labels, now),
-    })
-}
-
-fn step(case: &Case, patterns: &mut PatternCache, dialect: Dialect, held: &Map, words: &str) {
-    let (verb, rest) = first(words);
-    if verb == "forget" {
-        patterns.drop_unused(&Held::new(case.alloc));
-        return say!(case; "forgotten, ", patterns.size(), " bytes kept");
-    }
-    let (word, names) = first(rest);
+fn say_mutes(case: &Case, patterns: &mut PatternCache, dialect: Dialect, held: &Map, words: &str) {
+    let (word, names) = first(words);
     let now = case.moment(word);
     let labels = Labels::new(case.list(names, " "));
-    print_mutes(case, mutes_once(case, dialect, held, &labels, now));
-    case.put("; kept ");
-    print_mutes(
-        case,
-        case.made(patterns.mutes_in(dialect, held, &labels, now)),
-    );
+    given!(mutes = case.made(patterns.mutes_in(dialect, held, &labels, now)));
+    print_mutes(case, &mutes);
     patterns.drop_unused(held);
+    given!(mutes = case.made(patterns.mutes_in(dialect, held, &labels, now)));
     case.put("; again ");
-    print_mutes(
-        case,
-        case.made(patterns.mutes_in(dialect, held, &labels, now)),
-    );
+    print_mutes(case, &mutes);
     case.put("\n");
 }
 
-/// Answers `both-mutes SILENCE, ..; at MOMENT LABEL ..; ..` with the silences that mute labels by one cache, in both dialects
-/// in turn.
-fn both_mutes(case: &Case, rest: &str) {
-    let (silences, text) = cut(rest, "; ");
-    let held = case.held(silences);
-    let mut patterns = PatternCache::new(case.alloc);
-    for words in text.split("; ") {
-        let (_, rest) = first(words);
-        let (word, names) = first(rest);
-        let now = case.moment(word);
-        let labels = Labels::new(case.list(names, " "));
-        print_mutes(case, case.made(patterns.mutes(&held, &labels, now)));
-        case.put(", re2 ");
-        let re2 = patterns.mutes_in(Dialect::Re2, &held, &labels, now);
-        print_mutes(case, case.made(re2));
-        case.put(", ");
-        print_mutes(case, case.made(patterns.mutes(&held, &labels, now)));
-        case.put("\n");
-    }
-}
-
-fn print_mutes(case: &Case, mutes: Option<Mutes>) {
-    given!(mutes = mutes);
+fn print_mutes(case: &Case, mutes: &Mutes) {
     print_ids(case, &mutes.ids);
     case.put(" broken ");
     print_ids(case, &mutes.broken);
@@ -207,19 +128,30 @@ fn print_ids(case: &Case, ids: &Ids) {
     case.put(if ids.is_empty() { "-" } else { "" });
 }
 
-/// Answers `many-mutes COUNT`: asks one cache twice which of this many silences mute the job x. The patterns of odd numbers are
-/// broken.
+/// Answers `many-mutes COUNT SILENCE`: asks one cache twice which of this many silences mute the job x. They are like the one
+/// given but for their identifiers and patterns; the patterns of odd numbers are broken.
 fn many_mutes(case: &Case, rest: &str) {
+    let (count, pairs) = first(rest);
     let mut held = Held::new(case.alloc);
-    for number in 0..case.number(rest) {
-        let end = if number % 2 == 0 { "x" } else { "(" };
-        if let Some(words) = case.made(format!(in case.alloc; "{number} job=~{number}|{end}")) {
-            case.take(&mut held, words.as_str(), Moment::LEAST);
-        }
+    for number in 0..case.number(count) {
+        given!(version = numbered(case, pairs, number));
+        case.made(held.take(version, Moment::LEAST));
     }
     let mut patterns = PatternCache::new(case.alloc);
     count_mutes(case, &mut patterns, &held);
     count_mutes(case, &mut patterns, &held);
+}
+
+fn numbered(case: &Case, pairs: &str, number: u64) -> Option<MeshSilence> {
+    let end = if number % 2 == 0 { "x" } else { "(" };
+    let pattern = case.made(format!(in case.alloc; "{number}|{end}"))?;
+    let matcher = MatcherRef::new(MatcherKind::Regexp, "job", pattern.as_str());
+    let mut silence = case.silence(pairs)?;
+    silence.id = case.text(pattern.as_str());
+    silence.matchers = Matchers::none(case.alloc);
+    case.made(silence.matchers.push(case.alloc, &matcher))?;
+    let version = MeshSilence::new(case.alloc, silence, case.moment("200"));
+    case.sound(version, WireError::Memory)
 }
 
 fn count_mutes(case: &Case, patterns: &mut PatternCache, held: &Map) {
@@ -230,20 +162,18 @@ fn count_mutes(case: &Case, patterns: &mut PatternCache, held: &Map) {
 }
 
 /// Answers `decide ENTRY; firing LIST resolved LIST wanted no repeat SECONDS at MOMENT`, over an entry or `no entry`.
-fn say_decisions(case: &Case, rest: &str) {
+fn say_decision(case: &Case, rest: &str) {
     let (held, words) = cut(rest, "; ");
-    let (entry, version) = match held {
-        "no entry" => (None, None),
-        _ => (case.entry(held), MeshEntry::spelled(case, held)),
+    let entry = match held {
+        "no entry" => None,
+        _ => MeshEntry::spelled(case, held),
     };
-    let (entry, version) = (entry.as_ref(), version.as_ref());
     let firing = case.numbers(behind(words, "firing ", "-"));
     let resolved = case.numbers(behind(words, " resolved ", "-"));
-    let (firing, resolved) = (firing.as_slice(), resolved.as_slice());
-    let wanted = behind(words, " wanted ", "yes") != "no";
+    let is_wanted = behind(words, " wanted ", "yes") != "no";
     let now = case.moment(behind(words, " at ", "-"));
     given!(repeat = case.seconds(behind(words, " repeat ", "60")));
-    let decision = decide(entry, firing, resolved, repeat, wanted, now);
-    let over = decide_over(version, firing, resolved, repeat, wanted, now);
-    say!(case; ?decision, ", over its version ", ?over);
+    let (firing, resolved) = (firing.as_slice(), resolved.as_slice());
+    let decision = decide_over(entry.as_ref(), firing, resolved, repeat, is_wanted, now);
+    say!(case; ?decision);
 }

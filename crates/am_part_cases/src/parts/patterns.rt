@@ -16,15 +16,9 @@ pub fn answer(case: &Case, verb: &str, rest: &str) {
     }
 }
 
-/// Reads a word with escapes; `""` is the empty text.
-fn text_of(case: &Case, word: &str) -> Text {
-    let bytes = case.unescaped(if word == "\"\"" { "" } else { word });
-    case.text(str::from_utf8(bytes.as_slice()).unwrap_or("no text"))
-}
-
 /// Translates a pattern of RE2 to one of `regex`. If it is refused, prints that, and with `is_where` also where.
 fn translated(case: &Case, word: &str, is_where: bool) -> Option<Text> {
-    let pattern = text_of(case, word);
+    let pattern = case.value(word);
     match re2_of(case.alloc, pattern.as_str()) {
         Err(Re2Error::Refused(at)) if is_where => say!(case; "refused at ", at),
         Err(Re2Error::Refused(_)) => say!(case; "refused"),
@@ -50,7 +44,7 @@ fn matches(case: &Case, rest: &str) {
     given!(mut compiled = case.got(compiled, BuildError::Memory));
     let mut found = false;
     for (place, word) in texts.split(' ').enumerate() {
-        let text = text_of(case, word);
+        let text = case.value(word);
         if case.made(compiled.matches(text.as_str())).unwrap_or(false) {
             case.put(if found { " " } else { "" });
             put!(case; place.saturating_add(1));
@@ -64,8 +58,5 @@ fn matches(case: &Case, rest: &str) {
 fn hazard(case: &Case, words: &str) {
     given!(silence = MeshSilence::spelled(case, words));
     given!(hazard = case.made(hazard_of(case.alloc, &silence)));
-    match hazard {
-        Some(hazard) => say!(case; ?hazard),
-        None => say!(case; "none"),
-    }
+    say_some!(case; hazard = hazard; ?hazard);
 }

@@ -1,14 +1,13 @@
-//! Requests, calls, the table of statuses and replies; texts, numbers and lists as words; schedules as they are read.
+//! Requests and calls; texts, numbers and lists as words; schedules as they are read.
 
-use crate::common::{Case, CaseFault, cut, first};
+use crate::common::{Case, CaseFault, first};
 use crate::parts::figures;
-use am_http::{Cause, Read, Resource, call_of, filter_texts, out_of_memory, read_request, reply};
+use am_http::{Read, call_of, filter_texts, out_of_memory, read_request};
 use am_nflog::HashIter;
 use am_report::{EscapedWord, ListedWord, Numbers, Texts};
 use am_schedule::{FaultKind, parse};
-use am_silence_json::JsonKey;
 
-/// Answers cases of requests, replies and words.
+/// Answers cases of requests and words.
 pub fn answer(case: &Case, verb: &str, rest: &str) {
     match verb {
         "request" => request(case, rest),
@@ -17,8 +16,6 @@ pub fn answer(case: &Case, verb: &str, rest: &str) {
             Err(cause) => say!(case; ?cause),
         },
         "filters" => filters(case, rest),
-        "refusals" => refusals(case),
-        "reply" => say_reply(case, rest),
         "out_of_memory" => case.say_text(out_of_memory()),
         "schedule" => schedule(case, rest),
         "word" => {
@@ -74,48 +71,6 @@ fn filters(case: &Case, query: &str) {
         put!(case; " [", filter.as_str(), "]");
     }
     case.put("\n");
-}
-
-/// The causes for which a request may be refused before a step is made.
-const CAUSES: [Cause; 18] = [
-    Cause::HeadTooLarge,
-    Cause::BadHead,
-    Cause::TransferEncoding,
-    Cause::BadContentLength,
-    Cause::BodyTooLarge,
-    Cause::EndedEarly,
-    Cause::NoSuchPath,
-    Cause::MethodNotAllowed(Resource::Silences),
-    Cause::MethodNotAllowed(Resource::Silence),
-    Cause::BadFilter,
-    Cause::BadJson,
-    Cause::BadSilence(JsonKey::Id),
-    Cause::BadSilence(JsonKey::Matchers),
-    Cause::BadSilence(JsonKey::StartsAt),
-    Cause::BadSilence(JsonKey::EndsAt),
-    Cause::BadSilence(JsonKey::CreatedBy),
-    Cause::BadSilence(JsonKey::Comment),
-    Cause::Memory,
-];
-
-/// Answers `refusals` with the lines of the table of statuses.
-fn refusals(case: &Case) {
-    for cause in CAUSES {
-        let line = cause.refusal();
-        put!(case; ?cause, ": ", line.status, " ", line.text);
-        say!(case; ", allow ", line.allow.unwrap_or("-"));
-    }
-}
-
-/// Answers `reply STATUS ALLOW: BODY` with a reply; ALLOW is `-` for none.
-fn say_reply(case: &Case, rest: &str) {
-    let (status, rest) = first(rest);
-    let (allow, body) = cut(rest, ":");
-    let status = case.or(status.parse::<u16>().ok(), 200).clamp(100, 999);
-    let allow = if allow == "-" { None } else { Some(allow) };
-    let reply = reply(case.alloc, status, allow, body.trim_start().as_bytes());
-    given!(reply = case.made(reply));
-    case.say_text(reply.as_slice());
 }
 
 /// Answers `texts TEXT|TEXT|..` with the texts as one word; each of them is followed by a `|`.

@@ -1,8 +1,7 @@
 //! Moments and intervals; varints, fields, timestamps and rows, also over readers that give few bytes or fail.
 
 use crate::common::{
-    Brittle, Case, CaseFault, Cut, Pieces, Printed, TriedCall, behind, cut, first, moment_of,
-    phrase,
+    Brittle, Case, CaseFault, Cut, Pieces, Printed, TriedCall, cut, first, moment_of,
 };
 use crate::parts::versions;
 use am_silence::MeshSilence;
@@ -12,7 +11,6 @@ use am_wire::writing::append_text;
 use am_wire::{
     Message, RowFault, RowReader, Rows, Unknown, Value, WireError, read_varint, write_varint,
 };
-use std::io::{self, Read};
 
 /// Answers cases of moments, and of bytes on the wire.
 pub fn answer(case: &Case, verb: &str, rest: &str) {
@@ -24,8 +22,8 @@ pub fn answer(case: &Case, verb: &str, rest: &str) {
         "sum" | "sums" => sum(case, case.moment(one), other),
         "wire" => wire(case, rest),
         "put" => put(case, rest),
-        "timestamps" => messages::<Moment>(case, rest),
-        "silences" => messages::<MeshSilence>(case, rest),
+        "timestamps" => messages(case, false, rest),
+        "silences" => messages(case, true, rest),
         _ => versions::answer(case, verb, rest),
     }
 }
@@ -103,82 +101,56 @@ fn put(case: &Case, rest: &str) {
     case.say_bytes(out.as_slice());
 }
 
-/// Answers `timestamps in pieces of N, read N fails: BYTES`; `timestamps and zeros behind it: BYTES`, which is over the limit
-/// of an input; and likewise `silences`. `each read fails` makes a row of tries, with timestamps only.
-fn messages<M: Message + Printed>(case: &Case, rest: &str) {
+/// Answers `timestamps PHRASES: BYTES` and `silences PHRASES: BYTES` with the messages of a row.
+fn messages(case: &Case, of_silences: bool, rest: &str) {
     let (how, pairs) = cut(rest, ": ");
     let bytes = case.bytes(pairs);
-    if how.contains("each ") {
-        case.make(&RowReading, &case.how(how, bytes.as_slice()));
-        return;
-    }
-    if how.contains("zeros") {
-        let mut reader = bytes.as_slice().chain(io::repeat(0)).take(67_108_865);
-        return say_messages::<M, _>(case, &mut reader);
-    }
-    let step = case.number(phrase(how, "in pieces of ")) as usize;
-    let fails_at = case.number(behind(how, " read ", "0")) as usize;
-    say_messages::<M, _>(case, &mut Pieces::new(&bytes, step, fails_at));
+    case.make(
+        &RowReading { of_silences },
+        &case.how(how, bytes.as_slice()),
+    );
 }
 
-/// A call that reads a row of timestamps to its end or its first fault.
+/// A call that reads a row to its end or its first fault.
 #[derive(Clone, Copy)]
-struct RowReading;
+struct RowReading {
+    of_silences: bool,
+}
 
 impl TriedCall for RowReading {
     fn make(&self, case: &Case, reader: &mut Pieces<'_>, _writer: &mut Brittle) -> Option<Cut> {
-        let mut rows = RowReader::<Moment>::new(case.alloc);
-        for _ in 0..1_000 {
-            match rows.next(reader) {
-                Ok(Some(moment)) => put!(case; @moment, ", "),
-                Ok(None) => {
-                    case.put("the end");
-                    break;
-                }
-                Err(RowFault::Read { at }) => {
-                    if !matches!(rows.next(reader), Err(RowFault::Ended)) {
-                        case.put("not ended, ");
-                    }
-                    return Some(("Read", at as u64));
-                }
-                Err(RowFault::Memory) => {
-                    case.fail(CaseFault::Memory);
-                    break;
-                }
-                Err(fault) => {
-                    case.debug(fault);
-                    break;
-                }
-            }
+        match self.of_silences {
+            true => read_row::<MeshSilence>(case, reader),
+            false => read_row::<Moment>(case, reader),
         }
-        None
     }
 }
 
-/// Prints the messages up to the end or a fault, and what is answered after that.
-fn say_messages<M: Message + Printed, R: Read>(case: &Case, reader: &mut R) {
+/// Prints the messages of a row, and how it ends. After its end or a fault nothing may come.
+fn read_row<M: Message + Printed>(case: &Case, reader: &mut Pieces<'_>) -> Option<Cut> {
     let mut rows = RowReader::<M>::new(case.alloc);
     for _ in 0..1_000 {
-        if !says_next(case, &mut rows, reader) {
-            break;
+        match rows.next(reader) {
+            Ok(Some(message)) => put!(case; @message, ", "),
+            Ok(None) => {
+                let is_over = matches!(rows.next(reader), Ok(None));
+                case.put(if is_over { "the end" } else { "no end" });
+                break;
+            }
+            Err(RowFault::Memory) => {
+                case.fail(CaseFault::Memory);
+                break;
+            }
+            Err(fault) => {
+                let is_over = matches!(rows.next(reader), Err(RowFault::Ended));
+                case.put(if is_over { "" } else { "not ended, " });
+                if let RowFault::Read { at } = fault {
+                    return Some(("Read", at as u64));
+                }
+                case.debug(fault);
+                break;
+            }
         }
     }
-    says_next(case, &mut rows, reader);
-}
-
-fn says_next<M: Message + Printed, R: Read>(
-    case: &Case,
-    rows: &mut RowReader<M>,
-    reader: &mut R,
-) -> bool {
-    match rows.next(reader) {
-        Ok(Some(message)) => {
-            say!(case; @message);
-            return true;
-        }
-        Ok(None) => case.put("the end\n"),
-        Err(RowFault::Memory) => case.fail(CaseFault::Memory),
-        Err(fault) => say!(case; ?fault),
-    }
-    false
+    None
 }
