@@ -21,7 +21,9 @@ use Rattle.am_peers.specs.Queues.{frames_beside, frames_for}
 use Rattle.am_reactor.specs.declared.service.Service.{Ghosts as Service}
 use Rattle.am_daemon.specs.Accounts.{Account, AddsUp, AreLeaving, Departure, Go, Stays, and_then, put_by_at, IsAccount, IsAccountOver, Leave, NothingIsSent, waiting_for}
 use Rattle.am_daemon.specs.Histories.{AreCalls, AreSentBetween, IsAnyCall}
-use Rattle.am_daemon.specs.Offers.{AreKeptBack, IsPutBy, OnlyCounts, OpensLink, PutBy, gone_on, put_behind, AreGiven, AreHandedOn, ForPeers, GivesFrames, IsGiven, IsLost, IsOffered, Passes, PassesAll, is_beside, nothing_put_by, put_by_for, with_put_by}
+use Rattle.am_daemon.specs.declared.member.pending_frames.Dropped.{Dropped}
+use Rattle.am_daemon.specs.declared.member.pending_frames.Dropped.TheVariants.{Again, Full, Memory}
+use Rattle.am_daemon.specs.Offers.{AreDropped, once_dropped, AreKeptBack, IsPutBy, OnlyCounts, OpensLink, PutBy, gone_on, put_behind, AreGiven, AreHandedOn, ForPeers, GivesFrames, IsGiven, IsLost, IsOffered, Passes, PassesAll, is_beside, nothing_put_by, put_by_for, with_put_by}
 use Rattle.am_daemon.specs.Sending.{ActsForPeers, FrameIsSentOn, IsQuiet, MayTick, NoticeIsPassedOn, Outlets, PassesOn, SaidIsPassedOn}
 use Rattle.am_daemon.proofs.Histories.{given_frames, lost_frames}
 use Rattle.am_daemon.proofs.Offers.{handed_waits}
@@ -113,15 +115,34 @@ module _ (peer : ℕ) where
         | inr past ↦ inl (ap (put_by_at peer) is ∙ ap (λ (it : PutBy). it.frames) (past.1 ∙ sym past.0))
       ]
 
+  same_frames : (dropped : Dropped) (it : PutBy) → (once_dropped dropped it).frames ≡ it.frames
+  same_frames Again it = refl
+  same_frames Full it = refl
+  same_frames Memory it = refl
+
+  -- what is put by stays, where frames are dropped
+  none_dropped : (frames : List Frame) (old new : ForPeers) → AreDropped peer frames old new → put_by_at peer new ≡ put_by_at peer old
+  none_dropped frames old new (inl (dropped, why, is)) =
+      elim (at_put old (once_dropped dropped (put_by_for old peer))) [
+        | inl there ↦ ap (put_by_at peer) is ∙ ap (λ (it : PutBy). it.frames) there ∙ same_frames dropped (put_by_for old peer)
+        | inr past ↦ ap (put_by_at peer) is ∙ ap (λ (it : PutBy). it.frames) (past.1 ∙ sym past.0)
+      ]
+  none_dropped frames old new (inr (past, same)) = ap (put_by_at peer) same
+
+  others_dropped : (to : ℕ) (frames : List Frame) (old new : ForPeers) → to ≢ peer → AreDropped to frames old new → put_by_at peer new ≡ put_by_at peer old
+  others_dropped to frames old new apart (inl (dropped, why, is)) =
+      ap (put_by_at peer) is ∙ ap (λ (it : PutBy). it.frames) (at_other to old (once_dropped dropped (put_by_for old to)) apart)
+  others_dropped to frames old new apart (inr (past, same)) = ap (put_by_at peer) same
+
   puts : (opens : Bool) (frames : List Frame) (old new : ForPeers) → IsPutBy peer frames opens old new → Puts frames old new
-  puts true frames old new put = put_own frames old new put.1
-  puts false frames old new (inl same) = inl (ap (put_by_at peer) same)
-  puts false frames old new (inr put) = put_own frames old new put.1
+  puts true frames old new put = put_own frames old new put.1.1
+  puts false frames old new (inl dropped) = inl (none_dropped frames old new dropped)
+  puts false frames old new (inr put) = put_own frames old new put.1.1
 
   puts_other : (opens : Bool) (to : ℕ) (frames : List Frame) (old new : ForPeers) → to ≢ peer → IsPutBy to frames opens old new → put_by_at peer new ≡ put_by_at peer old
-  puts_other true to frames old new apart put = ap (put_by_at peer) put.1 ∙ ap (λ (it : PutBy). it.frames) (at_other to old (put_behind frames (put_by_for old to)) apart)
-  puts_other false to frames old new apart (inl same) = ap (put_by_at peer) same
-  puts_other false to frames old new apart (inr put) = ap (put_by_at peer) put.1 ∙ ap (λ (it : PutBy). it.frames) (at_other to old (put_behind frames (put_by_for old to)) apart)
+  puts_other true to frames old new apart put = ap (put_by_at peer) put.1.1 ∙ ap (λ (it : PutBy). it.frames) (at_other to old (put_behind frames (put_by_for old to)) apart)
+  puts_other false to frames old new apart (inl dropped) = others_dropped to frames old new apart dropped
+  puts_other false to frames old new apart (inr put) = ap (put_by_at peer) put.1.1 ∙ ap (λ (it : PutBy). it.frames) (at_other to old (put_behind frames (put_by_for old to)) apart)
 
   kept_puts : (lock : Option Lock) (frames : List Frame) (old new : ForPeers) → AreKeptBack lock peer frames old new → Puts frames old new
   kept_puts None frames old new counted = inl (ap (put_by_at peer) counted)

@@ -29,7 +29,7 @@ none_there x (k, within, is) = absurd (omega arith)
 
 pub given_frames : (lock : Option Lock) (peer : ℕ) (frames : List Frame) (bytes : List ℕ) (old new : ForPeers) → AreGiven lock peer frames bytes old new → new.queue.frames ≡ old.queue.frames
 given_frames None peer frames bytes old new are = are.1.1
-given_frames (Some lock) peer frames bytes old new are = ap (λ (held : ForPeers). held.queue.frames) are.1.1
+given_frames (Some lock) peer frames bytes old new are = ap (λ (held : ForPeers). held.queue.frames) are.1.1.1
 
 pub lost_frames : (put_by : List Frame) (was is : Sent) → AreLost put_by was is → is.frames ≡ was.frames
 lost_frames put_by was is (inl none) = ap (λ (s : Sent). s.frames) none.1

@@ -12,7 +12,9 @@ use Rattle.std.specs.Option.{option_map}
 use Rattle.am_peers.specs.Queues.{frames_beside}
 use Rattle.am_backend.specs.Outbound.{AreGone, IsTaken, IsEncodingFor, left_out}
 use Rattle.am_peer_auth.specs.declared.sequence.Sequence.{Sequence}
-use Rattle.am_daemon.specs.Offers.{AreHandedOn, AreKeptBack, AreLost, AreNext, ForPeers, GivesPart, IsGiven, IsNextPart, IsPutBy, Passes, PutBy, gone_on, nothing_put_by, place_in, put_behind, put_by_for, put_by_of, with_put_by}
+use Rattle.am_daemon.specs.Room.{lacks_room}
+use Rattle.am_daemon.specs.declared.member.pending_frames.Dropped.{Dropped}
+use Rattle.am_daemon.specs.Offers.{AreDropped, IsDroppedFor, once_dropped, AreHandedOn, AreKeptBack, AreLost, AreNext, ForPeers, GivesPart, IsGiven, IsNextPart, IsPutBy, Passes, PutBy, gone_on, nothing_put_by, place_in, put_behind, put_by_for, put_by_of, with_put_by}
 use Rattle.am_gossip.specs.declared.frame.Frame.{Frame}
 use Rattle.am_peer_auth.specs.declared.seal.Lock.{Lock}
 use Rattle.am_daemon.specs.declared.member.pending_frames.PendingFrames.{PendingFrames}
@@ -32,11 +34,23 @@ module _ (items : List PendingFrames) (peer : ℕ) (before after : PendingFrames
 
 -- frames that are put by
 pub is_put_by : (held : ForPeers) (peer : ℕ) (frames : List Frame) (opens was_open : Bool) (put_by : List PutBy) → (put_by_for held peer).is_open ≡ was_open → opens ≡ not was_open →
-    put_by ≡ slice_set held.put_by peer (put_behind frames (put_by_for held peer)) → IsPutBy peer frames opens held (record held { put_by = put_by })
-is_put_by held peer frames true true put_by open_ opens is = absurd cc
-is_put_by held peer frames true false put_by open_ opens is = (open_, ap (λ (l : List PutBy). record held { put_by = l }) is)
-is_put_by held peer frames false true put_by open_ opens is = inr (open_, ap (λ (l : List PutBy). record held { put_by = l }) is)
-is_put_by held peer frames false false put_by open_ opens is = absurd cc
+    lacks_room (put_by_for held peer).frames frames ≡ false → put_by ≡ slice_set held.put_by peer (put_behind frames (put_by_for held peer)) →
+    IsPutBy peer frames opens held (record held { put_by = put_by })
+is_put_by held peer frames true true put_by open_ opens room is = absurd cc
+is_put_by held peer frames true false put_by open_ opens room is = (open_, (room, ap (λ (l : List PutBy). record held { put_by = l }) is))
+is_put_by held peer frames false true put_by open_ opens room is = inr (open_, (room, ap (λ (l : List PutBy). record held { put_by = l }) is))
+is_put_by held peer frames false false put_by open_ opens room is = absurd cc
+
+-- frames that are dropped for a reason
+pub are_dropped : (held : ForPeers) (peer : ℕ) (frames : List Frame) (dropped : Dropped) (it : PutBy) (put_by : List PutBy) → put_by_for held peer ≡ it → IsDroppedFor dropped frames it →
+    put_by ≡ slice_set held.put_by peer (once_dropped dropped (put_by_for held peer)) → AreDropped peer frames held (record held { put_by = put_by })
+are_dropped held peer frames dropped it put_by there why is =
+    inl (dropped, subst (λ (i : PutBy). IsDroppedFor dropped frames i) (sym there) why, ap (λ (l : List PutBy). record held { put_by = l }) is)
+
+-- what waits stays, where frames are dropped
+pub dropped_waits : (peer : ℕ) (frames : List Frame) (old new : ForPeers) → AreDropped peer frames old new → new.queue.frames ≡ old.queue.frames
+dropped_waits peer frames old new (inl (dropped, why, is)) = ap (λ (held : ForPeers). held.queue.frames) is
+dropped_waits peer frames old new (inr (past, same)) = ap (λ (held : ForPeers). held.queue.frames) same
 
 -- ---- fewer frames wait
 
@@ -67,8 +81,8 @@ gone_fewer old new (inr gone) some = subst (λ (s : Sent). length s.frames < len
 
 kept_waits : (lock : Option Lock) (peer : ℕ) (frames : List Frame) (old new : ForPeers) → AreKeptBack lock peer frames old new → new.queue.frames ≡ old.queue.frames
 kept_waits None peer frames old new counted = ap (λ (held : ForPeers). held.queue.frames) counted
-kept_waits (Some lock) peer frames old new (inl same) = ap (λ (held : ForPeers). held.queue.frames) same
-kept_waits (Some lock) peer frames old new (inr put) = ap (λ (held : ForPeers). held.queue.frames) put.1
+kept_waits (Some lock) peer frames old new (inl dropped) = dropped_waits peer frames old new dropped
+kept_waits (Some lock) peer frames old new (inr put) = ap (λ (held : ForPeers). held.queue.frames) put.1.1
 
 pub handed_waits : (place : ℕ) (frames : List Frame) (old new : ForPeers) → AreHandedOn place frames old new → new.queue.frames ≡ old.queue.frames
 handed_waits place frames old new (inl told) = ap (λ (held : ForPeers). held.queue.frames) told.1

@@ -3,4 +3,5 @@ pub mod Calling
 pub mod Histories
 pub mod Members
 pub mod Offers
+pub mod Room
 pub mod Sending

@@ -1,5 +1,5 @@
 -- The bytes that a member gives for its peers: of the frames that wait for each, and then of parts of all that is held.
-use Rattle.std.specs.Prelude.{◌≡◌, ◌⊎◌, ℕ, ◌+◌, Bool, true, false, if◌then◌else◌, nat_le, List, [], ◌∷◌, ◌++◌, length, take, map, slice_set, slice_index_or, Option, Some, None, is_some, ⊤}
+use Rattle.std.specs.Prelude.{◌≡◌, ◌⊎◌, ℕ, ◌+◌, ◌≤◌, Bool, true, false, if◌then◌else◌, nat_le, List, [], ◌∷◌, ◌++◌, length, take, map, slice_set, slice_index_or, Option, Some, None, is_some, ⊤}
 use Rattle.std.specs.List.{flat_map}
 use Rattle.std.specs.declared.net.SocketAddr.{SocketAddr}
 use Rattle.am_gossip.specs.Frames.{frame_encoding}
@@ -15,27 +15,43 @@ use Rattle.am_peer_auth.specs.declared.sequence.Sequence.{Sequence}
 use Rattle.am_server.specs.Transfers.{behind_part, left_in, part_frame, with_none_left}
 use Rattle.am_server.specs.declared.state_transfer.StateTransfer.{StateTransfer}
 use Rattle.am_backend.specs.Outbound.{AreGone, IsTaken, IsEncodingFor, left_out}
+use Rattle.am_daemon.specs.Room.{lacks_room}
+use Rattle.am_daemon.specs.declared.member.pending_frames.Dropped.{Dropped}
+use Rattle.am_daemon.specs.declared.member.pending_frames.Dropped.TheVariants.{Again, Full, Memory}
 use Rattle.am_daemon.specs.declared.member.pending_frames.PendingFrames.{PendingFrames}
 use Rattle.am_daemon.specs.declared.member.server_state.ServerState.{ServerState}
 
--- the frames that are put by for a peer until its link answers; whether a link is open, or asked for; and the number of frames
--- that went to that link
+-- the frames that are put by for a peer until its link answers; whether a link is open, or asked for; whether too many bytes were
+-- put by since; and the number of frames that went to that link
 pub record PutBy : Type 0 where
   pub frames : List Frame
   pub is_open : Bool
+  pub is_full : Bool
   pub number : ℕ
 
 -- nothing is put by, and no link is open
 abbrev pub nothing_put_by : PutBy
-nothing_put_by = record { frames = []; is_open = false; number = 0 }
+nothing_put_by = record { frames = []; is_open = false; is_full = false; number = 0 }
 
 -- the frames that are put by, and their link, as contracts see them
 abbrev pub put_by_of : PendingFrames → PutBy
-put_by_of pending = record { frames = pending.frames.items; is_open = pending.is_open; number = pending.count }
+put_by_of pending = record { frames = pending.frames.items; is_open = pending.is_open; is_full = pending.is_full; number = pending.count }
 
 -- with these frames behind the others, and a link asked for
 abbrev pub put_behind : List Frame → PutBy → PutBy
 put_behind frames it = record it { frames = it.frames ++ frames; is_open = true }
+
+-- Frames are dropped for this reason, where these are put by: there is no room for them, as for others before over this link, or as for
+-- none; or there is room, and memory ran out.
+abbrev pub IsDroppedFor : Dropped → List Frame → PutBy → Type 0
+IsDroppedFor Again frames it = (lacks_room it.frames frames ≡ true) × (it.is_full ≡ true)
+IsDroppedFor Full frames it = (lacks_room it.frames frames ≡ true) × (it.is_full ≡ false)
+IsDroppedFor Memory frames it = lacks_room it.frames frames ≡ false
+
+-- once frames were dropped for this reason
+abbrev pub once_dropped : Dropped → PutBy → PutBy
+once_dropped Memory it = it
+once_dropped _ it = record it { is_full = true }
 
 -- once all frames, and as many as this in all, went to the link
 abbrev pub gone_on : ℕ → PutBy → PutBy
@@ -74,10 +90,20 @@ is_beside held place = is_some (slice_index_or held.asked place None)
 abbrev pub OnlyCounts : ForPeers → ForPeers → Type 0
 OnlyCounts old new = (new ≡ record old { queue = new.queue }) × (new.queue.frames ≡ old.queue.frames)
 
+-- There is room for frames for a peer, and they are put by behind the others.
+abbrev pub ArePutBehind : ℕ → List Frame → ForPeers → ForPeers → Type 0
+ArePutBehind peer frames old new = (lacks_room (put_by_for old peer).frames frames ≡ false) × (new ≡ with_put_by peer (put_behind frames (put_by_for old peer)) old)
+
+-- Frames for a peer are dropped: for one of the reasons, or since no member has its place.
+abbrev pub AreDropped : ℕ → List Frame → ForPeers → ForPeers → Type 0
+AreDropped peer frames old new =
+    ((dropped : Dropped) × IsDroppedFor dropped frames (put_by_for old peer) × (new ≡ with_put_by peer (once_dropped dropped (put_by_for old peer)) old))
+    ⊎ ((length old.put_by ≤ peer) × (new ≡ old))
+
 -- Frames are put by for a peer behind the others, and a link is asked for if none is open. Or they are dropped.
 abbrev pub IsPutBy : ℕ → List Frame → Bool → ForPeers → ForPeers → Type 0
-IsPutBy peer frames true old new = ((put_by_for old peer).is_open ≡ false) × (new ≡ with_put_by peer (put_behind frames (put_by_for old peer)) old)
-IsPutBy peer frames false old new = (new ≡ old) ⊎ (((put_by_for old peer).is_open ≡ true) × (new ≡ with_put_by peer (put_behind frames (put_by_for old peer)) old))
+IsPutBy peer frames true old new = ((put_by_for old peer).is_open ≡ false) × ArePutBehind peer frames old new
+IsPutBy peer frames false old new = AreDropped peer frames old new ⊎ (((put_by_for old peer).is_open ≡ true) × ArePutBehind peer frames old new)
 
 -- No bytes are given for a peer's frames, by this lock: they are put by for a link that is open, or are dropped; or, if nothing is
 -- sealed, there is no memory for their encoding, and they are counted.
