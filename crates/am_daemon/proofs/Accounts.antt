@@ -23,7 +23,7 @@ use Rattle.am_daemon.specs.Accounts.{Account, AddsUp, AreLeaving, Departure, Go,
 use Rattle.am_daemon.specs.Histories.{AreCalls, AreSentBetween, IsAnyCall}
 use Rattle.am_daemon.specs.declared.member.pending_frames.Dropped.{Dropped}
 use Rattle.am_daemon.specs.declared.member.pending_frames.Dropped.TheVariants.{Again, Full, Memory}
-use Rattle.am_daemon.specs.Offers.{AreDropped, once_dropped, AreKeptBack, IsPutBy, OnlyCounts, OpensLink, PutBy, gone_on, put_behind, AreGiven, AreHandedOn, ForPeers, GivesFrames, IsGiven, IsLost, IsOffered, Passes, PassesAll, is_beside, nothing_put_by, put_by_for, with_put_by}
+use Rattle.am_daemon.specs.Offers.{AreDropped, once_dropped, AreKeptBack, IsPutBy, OnlyCounts, OnlyPlans, OpensLink, PutBy, gone_on, put_behind, AreGiven, AreHandedOn, ForPeers, GivesFrames, IsGiven, IsLost, IsOffered, Passes, PassesAll, is_beside, nothing_put_by, put_by_for, with_no_link, with_put_by}
 use Rattle.am_daemon.specs.Sending.{ActsForPeers, FrameIsSentOn, IsQuiet, MayTick, NoticeIsPassedOn, Outlets, PassesOn, SaidIsPassedOn}
 use Rattle.am_daemon.proofs.Histories.{given_frames, lost_frames}
 use Rattle.am_daemon.proofs.Offers.{handed_waits}
@@ -265,11 +265,12 @@ module _ (peer : ℕ) where
     ap (waiting_for peer) opens.opened,
     elim (eqb_tells to peer) [
       | inl own ↦
-          let is : new ≡ with_put_by peer (record (put_by_for old peer) { is_open = true }) old =
-          subst (λ p. new ≡ with_put_by p (record (put_by_for old p) { is_open = true }) old) own.1 opens.opened in
+          let held : ForPeers = with_put_by peer (record (put_by_for old peer) { is_open = true }) old in
+          let is : new.put_by ≡ held.put_by =
+          subst (λ (p : ℕ). new.put_by ≡ (with_put_by p (record (put_by_for old p) { is_open = true }) old).put_by) own.1 (ap (λ (h : ForPeers). h.put_by) opens.opened) in
           elim (at_put old (record (put_by_for old peer) { is_open = true })) [
-            | inl there ↦ ap (put_by_at peer) is ∙ ap (λ (it : PutBy). it.frames) there
-            | inr past ↦ ap (put_by_at peer) is ∙ ap (λ (it : PutBy). it.frames) (past.1 ∙ sym past.0)
+            | inl there ↦ none_put held new is ∙ ap (λ (it : PutBy). it.frames) there
+            | inr past ↦ none_put held new is ∙ ap (λ (it : PutBy). it.frames) (past.1 ∙ sym past.0)
           ]
       | inr other ↦ ap (put_by_at peer) opens.opened ∙ ap (λ (it : PutBy). it.frames) (at_other to old (record (put_by_for old to) { is_open = true }) other.1)
     ],
@@ -318,7 +319,7 @@ module _ (peer : ℕ) where
         )
         | inr other ↦ ([], inl (refl, (waits, other_stays to nothing_put_by old new other.1 (ap (λ (held : ForPeers). held.put_by) is))))
       ]
-  gives config to answer (Some bytes) old new (frames, next, text, counts) =
+  gives config to answer (Some bytes) old new (frames, next, text, counts, goes_on) =
       elim (eqb_tells to peer) [
         | inl own ↦ (
           put_by_at peer old,
@@ -327,7 +328,7 @@ module _ (peer : ℕ) where
             emptied (gone_on (length frames) (put_by_for old to)) old new refl
                 (ap (λ (held : ForPeers). held.put_by) counts.0 ∙ ap (λ (p : ℕ). (with_put_by p (gone_on (length frames) (put_by_for old to)) old).put_by) own.1),
             waits_as old new counts.1,
-            inl (config, answer, Some bytes, subst (λ p. IsGiven config p answer (Some bytes) old new) own.1 (frames, next, text, counts)),
+            inl (config, answer, Some bytes, subst (λ p. IsGiven config p answer (Some bytes) old new) own.1 (frames, next, text, counts, goes_on)),
           ),
         )
         | inr other ↦ (
@@ -342,7 +343,7 @@ module _ (peer : ℕ) where
         )
       ]
 
-  lost_by : (b : Bool) (to : ℕ) (old new : ForPeers) → is_beside old to ≡ b → new ≡ (if b then old else with_put_by to nothing_put_by old) → SomeGo old new
+  lost_by : (b : Bool) (to : ℕ) (old new : ForPeers) → is_beside old to ≡ b → new ≡ (if b then old else with_no_link to old) → SomeGo old new
   lost_by true to old new beside is = ([], inl (refl, (ap (waiting_for peer) is, ap (put_by_at peer) is)))
   lost_by false to old new beside is =
       let lost : IsLost to old new = rw beside is in
@@ -452,17 +453,17 @@ module _ (peer : ℕ) where
       none_come disk old new was is (inr (ticked, tick, inr (came, now, error, step))) ([], (waits_as was is (last ∙ ap (λ (s : Sent). s.frames) same ∙ first), kept))
 
   woken_by : (came : Option (ℕ × Frame)) (disk : Option ℕ) (old ticked new : InstanceState) (was is before after : ForPeers) → MayTick old ticked
-      → OnlyCounts was before → OnlyCounts after is → FrameIsSentOn came disk ticked before new after → HasAccount disk old was new is
+      → OnlyPlans was before → OnlyCounts after is → FrameIsSentOn came disk ticked before new after → HasAccount disk old was new is
   woken_by None disk old ticked new was is before after tick first last same = none_come disk old new was is (inr (ticked, tick, inl same.0)) (
     [],
     (
-      waits_as was is (last.1 ∙ ap (λ (held : ForPeers). held.queue.frames) same.1 ∙ first.1),
-      ap (put_by_at peer) last.0 ∙ ap (put_by_at peer) same.1 ∙ ap (put_by_at peer) first.0,
+      waits_as was is (last.1 ∙ ap (λ (held : ForPeers). held.queue.frames) same.1 ∙ first.0.1),
+      ap (put_by_at peer) last.0 ∙ ap (put_by_at peer) same.1 ∙ ap (put_by_at peer) first.0.0,
     ),
   )
   woken_by (Some came) disk old ticked new was is before after tick first last sent =
-      frame_account disk old ticked new came sent.0 sent.1 was is before after tick sent.2 first.1 last.1
-      (ap (put_by_at peer) last.0 ∙ ap (put_by_at peer) sent.4 ∙ ap (put_by_at peer) first.0) sent.3
+      frame_account disk old ticked new came sent.0 sent.1 was is before after tick sent.2 first.0.1 last.1
+      (ap (put_by_at peer) last.0 ∙ ap (put_by_at peer) sent.4 ∙ ap (put_by_at peer) first.0.0) sent.3
 
   pub acts_account : (disk : Option ℕ) (old new : InstanceState) (was is : ForPeers) → ActsForPeers disk old was new is → HasAccount disk old was new is
   acts_account disk old new was is (inl stays) = none_come disk old new was is (unchanged old new stays.0) ([], (waits_as was is stays.1.1, ap (put_by_at peer) stays.1.0))

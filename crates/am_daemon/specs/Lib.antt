@@ -5,3 +5,4 @@ pub mod Members
 pub mod Offers
 pub mod Room
 pub mod Sending
+pub mod Transferring

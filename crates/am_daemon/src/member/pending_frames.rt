@@ -114,6 +114,7 @@ impl PendingFrames {
     ///
     /// [`Dropped`] says why the frames are dropped.
     pub fn add(&mut self, frames: Vec<Frame>) -> Result<bool, Dropped>
+        // PROMISE: Frames that are to be sealed are dropped only if others are put by for the peer and more than 134,217,728 bytes would be with them, or if memory ran out; and which of these it was is told, and whether it was told before over that link.
         ensures { MatchResult result
             (λ opens. (lacks_room self.old.frames.items frames.items ≡ false) × (opens ≡ not self.old.is_open) × (put_by_of self.new ≡ put_behind frames.items (put_by_of self.old)))
             (λ dropped. IsDroppedFor dropped frames.items (put_by_of self.old) × (put_by_of self.new ≡ once_dropped dropped (put_by_of self.old))) }
