@@ -1,4 +1,4 @@
-use Rattle.std.proofs.Common.{◌∙◌, ap, subst, ℕ}
+use Rattle.std.proofs.Common.{◌≡◌, ◌∙◌, ap, subst, ℕ}
 use Rattle.am_http.specs.Sessions.{Spoken, name_of, spoken}
 use Rattle.am_member.specs.Exchanging.{IsSessionAnswer}
 use Rattle.am_daemon.proofs.Answering.{steps_taken}
