@@ -4,4 +4,5 @@ pub mod Waiting
 pub mod Calls
 pub mod MemberService
 pub mod Talking
+pub mod Room
 pub mod Transfers
