@@ -6,7 +6,6 @@ use am_collect::{Keeper, KeeperError, Step};
 use am_merge::{FromVersionsError, Held};
 use am_silence::MeshSilence;
 use am_version_order::{Moment, Version};
-use std::fmt::Debug;
 
 type Map = Held<MeshSilence>;
 
@@ -86,12 +85,17 @@ fn say_bucket(case: &Case, held: &Map, pairs: &str) {
 }
 
 /// Prints the answer to a call of a keeper, or why it was refused.
-fn say_kept<T: Debug + Drop>(case: &Case, kept: Result<T, KeeperError>) {
-    match kept {
-        Ok(kept) => say!(case; ?kept),
-        Err(KeeperError::MomentBack { last }) => say!(case; "MomentBack ", @last),
-        Err(KeeperError::DuplicateKey) => case.put("DuplicateKey\n"),
-        Err(KeeperError::Memory) => case.fail(CaseFault::Memory),
+macro_rules! say_kept {
+    ($case:expr; $kept:expr) => {
+        match $kept { Ok(kept) => say!($case; ?kept), Err(refusal) => say_refusal($case, refusal) }
+    };
+}
+
+fn say_refusal(case: &Case, refusal: KeeperError) {
+    match refusal {
+        KeeperError::MomentBack { last } => say!(case; "MomentBack ", @last),
+        KeeperError::DuplicateKey => say!(case; "DuplicateKey"),
+        KeeperError::Memory => case.fail(CaseFault::Memory),
     }
 }
 
@@ -112,11 +116,10 @@ fn run(case: &Case, keeper: &mut Keeper<MeshSilence>, text: &str) {
     let steps = case.list(text, ", ");
     match keeper.run(&steps) {
         Ok(()) => case.put("done\n"),
+        Err((_, KeeperError::Memory)) => case.fail(CaseFault::Memory),
         Err((place, refusal)) => {
-            if refusal != KeeperError::Memory {
-                put!(case; "stops at ", place, ": ");
-            }
-            say_kept::<()>(case, Err(refusal));
+            put!(case; "stops at ", place, ": ");
+            say_refusal(case, refusal);
         }
     }
 }
@@ -130,12 +133,12 @@ fn keeps(case: &Case, keeper: &mut Keeper<MeshSilence>, text: &str) {
             given!(
                 (step, now) = Spelled::spelled(case, text.strip_prefix("step ").unwrap_or(text))
             );
-            say_kept(case, keeper.step(step, now));
+            say_kept!(case; keeper.step(step, now));
         }
-        "collect" => say_kept(case, keeper.collect(case.moment(word))),
+        "collect" => say_kept!(case; keeper.collect(case.moment(word))),
         "pair" => {
             given!((one, other) = Spelled::spelled(case, words));
-            say_kept(case, keeper.take_pair(one, other, case.moment(word)));
+            say_kept!(case; keeper.take_pair(one, other, case.moment(word)));
         }
         "run" => run(case, keeper, rest),
         "view" => {

@@ -66,9 +66,9 @@ fn notice(case: &Case, body: &str) {
 
 /// Prints hashes after a word, or nothing if there are none.
 fn print_hashes(case: &Case, word: &str, hashes: HashIter<'_>) {
-    let mut before = word;
+    let mut is_first = true;
     for hash in hashes {
-        put!(case; before, hash);
-        before = ",";
+        put!(case; if is_first { word } else { "," }, hash);
+        is_first = false;
     }
 }
