@@ -88,9 +88,7 @@ A silence that is posted to a member meets these clauses, in this order. `am_dae
 
 Steps 1 to 4, over all calls of a loop: `am_daemon::each_frame_goes_once`. Of each peer, what waited and then came to wait is, each frame once and in order, what left and what waits still; and what was put by before and since is what went and what is put by still. Each of these is told with the call in which it happened. Which bytes that call gives, and that what isn't sent is counted, is said by the call's own clauses above, not by the law.
 
-`am_daemon::Server::more`, part: if nothing is put by, that part is the one from where the peer's transfer is, and the transfer goes on behind it. `am_daemon::a_transfer_begins_where_it_is_planned`: over all calls, a transfer that is under way was planned by one of them: by one that plans exchanges, or by one that hears a Push of the peer. No clause says that one is planned whenever a Push comes, or when exchanges are due: one reads it in am_daemon.
-
-`am_daemon::PendingFrames::add`: where members have a secret, frames that are taken out for a peer are put by or dropped, and dropped only if too many bytes would be put by with them, or memory ran out. `am_daemon::Server::outgoing`, offered and rested, say so of all frames that the call takes out and gives no bytes for, and so does `am_daemon::each_frame_goes_once`; beside these reasons, they leave only that no member has the peer's place. That the frames dropped so are counted as lost, no clause says. The loop's clauses have what is given for a peer, and what waits on, but not when nothing is given: rested is one of the server's call.
+`am_daemon::Server::more`, part: if nothing is put by, that part is the one from where the peer's transfer is, and the transfer goes on behind it. No clause says when a transfer begins, or that frames are dropped only if too many bytes are put by or memory ran out: one reads it in am_daemon. The loop's clauses have what is given for a peer, and what waits on, but not when nothing is given: rested is one of the server's call.
 """
 
 TAIL = """## Only tested

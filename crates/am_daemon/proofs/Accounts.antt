@@ -21,9 +21,7 @@ use Rattle.am_peers.specs.Queues.{frames_beside, frames_for}
 use Rattle.am_reactor.specs.declared.service.Service.{Ghosts as Service}
 use Rattle.am_daemon.specs.Accounts.{Account, AddsUp, AreLeaving, Departure, Go, Stays, and_then, put_by_at, IsAccount, IsAccountOver, Leave, NothingIsSent, waiting_for}
 use Rattle.am_daemon.specs.Histories.{AreCalls, AreSentBetween, IsAnyCall}
-use Rattle.am_daemon.specs.declared.member.pending_frames.Dropped.{Dropped}
-use Rattle.am_daemon.specs.declared.member.pending_frames.Dropped.TheVariants.{Again, Full, Memory}
-use Rattle.am_daemon.specs.Offers.{AreDropped, once_dropped, AreKeptBack, IsPutBy, OnlyCounts, OnlyPlans, OpensLink, PutBy, gone_on, put_behind, AreGiven, AreHandedOn, ForPeers, GivesFrames, IsGiven, IsLost, IsOffered, Passes, PassesAll, is_beside, nothing_put_by, put_by_for, with_no_link, with_put_by}
+use Rattle.am_daemon.specs.Offers.{AreKeptBack, IsPutBy, OnlyCounts, OpensLink, PutBy, gone_on, put_behind, AreGiven, AreHandedOn, ForPeers, GivesFrames, IsGiven, IsLost, IsOffered, Passes, PassesAll, is_beside, nothing_put_by, put_by_for, with_put_by}
 use Rattle.am_daemon.specs.Sending.{ActsForPeers, FrameIsSentOn, IsQuiet, MayTick, NoticeIsPassedOn, Outlets, PassesOn, SaidIsPassedOn}
 use Rattle.am_daemon.proofs.Histories.{given_frames, lost_frames}
 use Rattle.am_daemon.proofs.Offers.{handed_waits}
@@ -115,34 +113,15 @@ module _ (peer : ℕ) where
         | inr past ↦ inl (ap (put_by_at peer) is ∙ ap (λ (it : PutBy). it.frames) (past.1 ∙ sym past.0))
       ]
 
-  same_frames : (dropped : Dropped) (it : PutBy) → (once_dropped dropped it).frames ≡ it.frames
-  same_frames Again it = refl
-  same_frames Full it = refl
-  same_frames Memory it = refl
-
-  -- what is put by stays, where frames are dropped
-  none_dropped : (frames : List Frame) (old new : ForPeers) → AreDropped peer frames old new → put_by_at peer new ≡ put_by_at peer old
-  none_dropped frames old new (inl (dropped, why, is)) =
-      elim (at_put old (once_dropped dropped (put_by_for old peer))) [
-        | inl there ↦ ap (put_by_at peer) is ∙ ap (λ (it : PutBy). it.frames) there ∙ same_frames dropped (put_by_for old peer)
-        | inr past ↦ ap (put_by_at peer) is ∙ ap (λ (it : PutBy). it.frames) (past.1 ∙ sym past.0)
-      ]
-  none_dropped frames old new (inr (past, same)) = ap (put_by_at peer) same
-
-  others_dropped : (to : ℕ) (frames : List Frame) (old new : ForPeers) → to ≢ peer → AreDropped to frames old new → put_by_at peer new ≡ put_by_at peer old
-  others_dropped to frames old new apart (inl (dropped, why, is)) =
-      ap (put_by_at peer) is ∙ ap (λ (it : PutBy). it.frames) (at_other to old (once_dropped dropped (put_by_for old to)) apart)
-  others_dropped to frames old new apart (inr (past, same)) = ap (put_by_at peer) same
-
   puts : (opens : Bool) (frames : List Frame) (old new : ForPeers) → IsPutBy peer frames opens old new → Puts frames old new
-  puts true frames old new put = put_own frames old new put.1.1
-  puts false frames old new (inl dropped) = inl (none_dropped frames old new dropped)
-  puts false frames old new (inr put) = put_own frames old new put.1.1
+  puts true frames old new put = put_own frames old new put.1
+  puts false frames old new (inl same) = inl (ap (put_by_at peer) same)
+  puts false frames old new (inr put) = put_own frames old new put.1
 
   puts_other : (opens : Bool) (to : ℕ) (frames : List Frame) (old new : ForPeers) → to ≢ peer → IsPutBy to frames opens old new → put_by_at peer new ≡ put_by_at peer old
-  puts_other true to frames old new apart put = ap (put_by_at peer) put.1.1 ∙ ap (λ (it : PutBy). it.frames) (at_other to old (put_behind frames (put_by_for old to)) apart)
-  puts_other false to frames old new apart (inl dropped) = others_dropped to frames old new apart dropped
-  puts_other false to frames old new apart (inr put) = ap (put_by_at peer) put.1.1 ∙ ap (λ (it : PutBy). it.frames) (at_other to old (put_behind frames (put_by_for old to)) apart)
+  puts_other true to frames old new apart put = ap (put_by_at peer) put.1 ∙ ap (λ (it : PutBy). it.frames) (at_other to old (put_behind frames (put_by_for old to)) apart)
+  puts_other false to frames old new apart (inl same) = ap (put_by_at peer) same
+  puts_other false to frames old new apart (inr put) = ap (put_by_at peer) put.1 ∙ ap (λ (it : PutBy). it.frames) (at_other to old (put_behind frames (put_by_for old to)) apart)
 
   kept_puts : (lock : Option Lock) (frames : List Frame) (old new : ForPeers) → AreKeptBack lock peer frames old new → Puts frames old new
   kept_puts None frames old new counted = inl (ap (put_by_at peer) counted)
@@ -265,12 +244,11 @@ module _ (peer : ℕ) where
     ap (waiting_for peer) opens.opened,
     elim (eqb_tells to peer) [
       | inl own ↦
-          let held : ForPeers = with_put_by peer (record (put_by_for old peer) { is_open = true }) old in
-          let is : new.put_by ≡ held.put_by =
-          subst (λ (p : ℕ). new.put_by ≡ (with_put_by p (record (put_by_for old p) { is_open = true }) old).put_by) own.1 (ap (λ (h : ForPeers). h.put_by) opens.opened) in
+          let is : new ≡ with_put_by peer (record (put_by_for old peer) { is_open = true }) old =
+          subst (λ p. new ≡ with_put_by p (record (put_by_for old p) { is_open = true }) old) own.1 opens.opened in
           elim (at_put old (record (put_by_for old peer) { is_open = true })) [
-            | inl there ↦ none_put held new is ∙ ap (λ (it : PutBy). it.frames) there
-            | inr past ↦ none_put held new is ∙ ap (λ (it : PutBy). it.frames) (past.1 ∙ sym past.0)
+            | inl there ↦ ap (put_by_at peer) is ∙ ap (λ (it : PutBy). it.frames) there
+            | inr past ↦ ap (put_by_at peer) is ∙ ap (λ (it : PutBy). it.frames) (past.1 ∙ sym past.0)
           ]
       | inr other ↦ ap (put_by_at peer) opens.opened ∙ ap (λ (it : PutBy). it.frames) (at_other to old (record (put_by_for old to) { is_open = true }) other.1)
     ],
@@ -319,7 +297,7 @@ module _ (peer : ℕ) where
         )
         | inr other ↦ ([], inl (refl, (waits, other_stays to nothing_put_by old new other.1 (ap (λ (held : ForPeers). held.put_by) is))))
       ]
-  gives config to answer (Some bytes) old new (frames, next, text, counts, goes_on) =
+  gives config to answer (Some bytes) old new (frames, next, text, counts) =
       elim (eqb_tells to peer) [
         | inl own ↦ (
           put_by_at peer old,
@@ -328,7 +306,7 @@ module _ (peer : ℕ) where
             emptied (gone_on (length frames) (put_by_for old to)) old new refl
                 (ap (λ (held : ForPeers). held.put_by) counts.0 ∙ ap (λ (p : ℕ). (with_put_by p (gone_on (length frames) (put_by_for old to)) old).put_by) own.1),
             waits_as old new counts.1,
-            inl (config, answer, Some bytes, subst (λ p. IsGiven config p answer (Some bytes) old new) own.1 (frames, next, text, counts, goes_on)),
+            inl (config, answer, Some bytes, subst (λ p. IsGiven config p answer (Some bytes) old new) own.1 (frames, next, text, counts)),
           ),
         )
         | inr other ↦ (
@@ -343,7 +321,7 @@ module _ (peer : ℕ) where
         )
       ]
 
-  lost_by : (b : Bool) (to : ℕ) (old new : ForPeers) → is_beside old to ≡ b → new ≡ (if b then old else with_no_link to old) → SomeGo old new
+  lost_by : (b : Bool) (to : ℕ) (old new : ForPeers) → is_beside old to ≡ b → new ≡ (if b then old else with_put_by to nothing_put_by old) → SomeGo old new
   lost_by true to old new beside is = ([], inl (refl, (ap (waiting_for peer) is, ap (put_by_at peer) is)))
   lost_by false to old new beside is =
       let lost : IsLost to old new = rw beside is in
@@ -453,17 +431,17 @@ module _ (peer : ℕ) where
       none_come disk old new was is (inr (ticked, tick, inr (came, now, error, step))) ([], (waits_as was is (last ∙ ap (λ (s : Sent). s.frames) same ∙ first), kept))
 
   woken_by : (came : Option (ℕ × Frame)) (disk : Option ℕ) (old ticked new : InstanceState) (was is before after : ForPeers) → MayTick old ticked
-      → OnlyPlans was before → OnlyCounts after is → FrameIsSentOn came disk ticked before new after → HasAccount disk old was new is
+      → OnlyCounts was before → OnlyCounts after is → FrameIsSentOn came disk ticked before new after → HasAccount disk old was new is
   woken_by None disk old ticked new was is before after tick first last same = none_come disk old new was is (inr (ticked, tick, inl same.0)) (
     [],
     (
-      waits_as was is (last.1 ∙ ap (λ (held : ForPeers). held.queue.frames) same.1 ∙ first.0.1),
-      ap (put_by_at peer) last.0 ∙ ap (put_by_at peer) same.1 ∙ ap (put_by_at peer) first.0.0,
+      waits_as was is (last.1 ∙ ap (λ (held : ForPeers). held.queue.frames) same.1 ∙ first.1),
+      ap (put_by_at peer) last.0 ∙ ap (put_by_at peer) same.1 ∙ ap (put_by_at peer) first.0,
     ),
   )
   woken_by (Some came) disk old ticked new was is before after tick first last sent =
-      frame_account disk old ticked new came sent.0 sent.1 was is before after tick sent.2 first.0.1 last.1
-      (ap (put_by_at peer) last.0 ∙ ap (put_by_at peer) sent.4 ∙ ap (put_by_at peer) first.0.0) sent.3
+      frame_account disk old ticked new came sent.0 sent.1 was is before after tick sent.2 first.1 last.1
+      (ap (put_by_at peer) last.0 ∙ ap (put_by_at peer) sent.4 ∙ ap (put_by_at peer) first.0) sent.3
 
   pub acts_account : (disk : Option ℕ) (old new : InstanceState) (was is : ForPeers) → ActsForPeers disk old was new is → HasAccount disk old was new is
   acts_account disk old new was is (inl stays) = none_come disk old new was is (unchanged old new stays.0) ([], (waits_as was is stays.1.1, ap (put_by_at peer) stays.1.0))

@@ -1,5 +1,5 @@
 -- A member's own work, and the frames that wait for peers then.
-use Rattle.std.proofs.Common.{◌≡◌, ◌∙◌, ◌⊎◌, ℕ, List, Option, None, Some, Result, ap, inl, inr, refl, subst, sym}
+use Rattle.std.proofs.Common.{◌≡◌, ◌∙◌, ℕ, Option, None, Some, Result, ap, inl, inr, refl, subst, sym}
 use Rattle.std.specs.Prelude.{if◌then◌else◌}
 use Rattle.am_backend.specs.Outbound.{IsSentOn}
 use Rattle.am_gossip.specs.declared.frame.Frame.{Frame}
@@ -13,8 +13,7 @@ use Rattle.am_member.specs.Lives.{IsOwnEvent}
 use Rattle.am_peer_auth.specs.declared.seal.Lock.{Lock}
 use Rattle.am_server.proofs.Steps.{made_on, nothing_made, one_made}
 use Rattle.am_server.specs.Answered.{ByItself}
-use Rattle.am_server.specs.declared.state_transfer.StateTransfer.{StateTransfer}
-use Rattle.am_daemon.specs.Offers.{ForPeers, OnlyCounts, OnlyPlans, PlansExchanges}
+use Rattle.am_daemon.specs.Offers.{ForPeers, OnlyCounts}
 use Rattle.am_daemon.specs.Sending.{FrameIsSentOn, IsWoken, MayTick}
 
 -- ---- only frames that aren't sent are counted
@@ -24,14 +23,6 @@ counts_same old new same = subst (λ (held : ForPeers). OnlyCounts old held) (sy
 
 pub counts_on : (old mid new : ForPeers) → OnlyCounts old mid → OnlyCounts mid new → OnlyCounts old new
 counts_on old mid new first second = (second.0 ∙ ap (λ (held : ForPeers). record held { queue = new.queue }) first.0, second.1 ∙ first.1)
-
--- only frames that aren't sent are counted, and perhaps exchanges are planned
-pub plans_on : (old mid pulled new : ForPeers) (transfers : List StateTransfer) → OnlyCounts old mid → pulled ≡ record mid { transfers = transfers } →
-    (transfers ≡ mid.transfers) ⊎ PlansExchanges mid.addresses mid.transfers transfers → new ≡ pulled → OnlyPlans old new
-plans_on old mid pulled new transfers counts pull planned same =
-    let is : new ≡ record (record old { transfers = transfers }) { queue = mid.queue } = same ∙ pull ∙ ap (λ (held : ForPeers). record held { transfers = transfers }) counts.0 in
-    subst (λ (held : ForPeers). OnlyPlans old held) (sym is)
-    ((refl, counts.1), subst (λ (held : ForPeers). (transfers ≡ held.transfers) ⊎ PlansExchanges held.addresses held.transfers transfers) counts.0 planned)
 
 -- ---- the step of a frame
 
@@ -63,7 +54,7 @@ woken_made disk old new was is woken = made_on IsOwnEvent old woken.ticked new (
     (sent_made woken.came disk woken.ticked new woken.before woken.after woken.sent)
 
 -- what is due, and then what came
-pub woken_by : (came : Option (ℕ × Frame)) (disk disk' : Option ℕ) (old mid new : InstanceState) (was before after is : ForPeers) → disk' ≡ disk → MayTick old mid → OnlyPlans was before →
+pub woken_by : (came : Option (ℕ × Frame)) (disk disk' : Option ℕ) (old mid new : InstanceState) (was before after is : ForPeers) → disk' ≡ disk → MayTick old mid → OnlyCounts was before →
     FrameIsSentOn came disk' mid before new after → OnlyCounts after is → IsWoken disk old was new is
 woken_by came disk disk' old mid new was before after is same tick waits sent stays = record {
   ticked = mid;

@@ -18,7 +18,7 @@ use Rattle.am_reactor.specs.Deeds.{Deed}
 use Rattle.am_reactor.specs.declared.fault.LinkFault.{LinkFault}
 use Rattle.am_reactor.specs.declared.service.Service.{Ghosts as Service}
 use Rattle.am_daemon.specs.Histories.{AreCalls, IsAnyCall, IsSentBetween, IsSentIn}
-use Rattle.am_daemon.specs.Offers.{AreGiven, AreLost, ForPeers, GivesFrames, IsAtRest, IsGiven, IsLost, IsOffered, Passes, PassesAll, is_beside, put_by_for, with_no_link}
+use Rattle.am_daemon.specs.Offers.{AreGiven, AreLost, ForPeers, GivesFrames, IsAtRest, IsGiven, IsLost, IsOffered, Passes, PassesAll, is_beside, nothing_put_by, put_by_for, with_put_by}
 use Rattle.am_daemon.specs.Sending.{ActsForPeers, FrameIsSentOn, IsQuiet, IsWoken, MayTick, NoticeIsPassedOn, Outlets, PassesOn, SaidIsPassedOn}
 use Rattle.am_daemon.proofs.Offers.{handed_waits}
 
@@ -29,7 +29,7 @@ none_there x (k, within, is) = absurd (omega arith)
 
 pub given_frames : (lock : Option Lock) (peer : ℕ) (frames : List Frame) (bytes : List ℕ) (old new : ForPeers) → AreGiven lock peer frames bytes old new → new.queue.frames ≡ old.queue.frames
 given_frames None peer frames bytes old new are = are.1.1
-given_frames (Some lock) peer frames bytes old new are = ap (λ (held : ForPeers). held.queue.frames) are.1.1.1
+given_frames (Some lock) peer frames bytes old new are = ap (λ (held : ForPeers). held.queue.frames) are.1.1
 
 pub lost_frames : (put_by : List Frame) (was is : Sent) → AreLost put_by was is → is.frames ≡ was.frames
 lost_frames put_by was is (inl none) = ap (λ (s : Sent). s.frames) none.1
@@ -80,9 +80,9 @@ module _ (queued : ℕ × Frame) where
   gives : (config : Settings) (peer : ℕ) (answer : List ℕ) (bytes : Option (List ℕ)) (old new : ForPeers) → IsGiven config peer answer bytes old new → NoMore old.queue new.queue
   gives config peer answer None old new (queue, lost, is) there = still old.queue queue (lost_frames (put_by_for old peer).frames old.queue queue lost)
       (subst (λ (held : ForPeers). Contains held.queue.frames queued) is there)
-  gives config peer answer (Some bytes) old new (frames, next, text, counts, goes_on) there = still old.queue new.queue counts.1 there
+  gives config peer answer (Some bytes) old new (frames, next, text, counts) there = still old.queue new.queue counts.1 there
 
-  loses_by : (b : Bool) (peer : ℕ) (old new : ForPeers) → new ≡ (if b then old else with_no_link peer old) → NoMore old.queue new.queue
+  loses_by : (b : Bool) (peer : ℕ) (old new : ForPeers) → new ≡ (if b then old else with_put_by peer nothing_put_by old) → NoMore old.queue new.queue
   loses_by true peer old new is there = subst (λ (held : ForPeers). Contains held.queue.frames queued) is there
   loses_by false peer old new is there = subst (λ (held : ForPeers). Contains held.queue.frames queued) is there
 
@@ -112,7 +112,7 @@ module _ (queued : ℕ × Frame) where
   frame_on (Some came) disk old ticked new was is tick sent there = frame_sent disk old ticked new came sent.0 sent.1 was.queue is.queue tick sent.2 sent.3 there
 
   wakes : (disk : Option ℕ) (old new : InstanceState) (was is : ForPeers) → IsWoken disk old was new is → ComesOf old was.queue new is.queue
-  wakes disk old new was is woken there = ⊎_elim (λ before. inl (still was.queue woken.before.queue woken.waits.0.1 before)) (λ sent. inr sent)
+  wakes disk old new was is woken there = ⊎_elim (λ before. inl (still was.queue woken.before.queue woken.waits.1 before)) (λ sent. inr sent)
       (frame_on woken.came disk old woken.ticked new woken.before woken.after woken.tick woken.sent (still woken.after.queue is.queue woken.stays.1 there))
 
   pub acts_on : (disk : Option ℕ) (old new : InstanceState) (was is : ForPeers) → ActsForPeers disk old was new is → ComesOf old was.queue new is.queue

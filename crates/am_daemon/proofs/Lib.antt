@@ -3,9 +3,7 @@ pub mod Acting
 pub mod Answering
 pub mod Calling
 pub mod Comings
-pub mod Exchanges
 pub mod Histories
 pub mod Offers
 pub mod Resuming
 pub mod Sending
-pub mod Transferring

@@ -1,6 +1,6 @@
 -- The bytes that a member gives for its peers.
 use Rattle.std.proofs.Common.{◌≡◌, ◌∙◌, ◌<◌, ◌≤◌, ◌==◌, ℕ, Bool, true, false, not, List, [], ◌∷◌, ◌++◌, length, max, suc, zero, get_or, set, map, Option, None, Some, ap, arith, cond, inl, inr, refl, rules, subst, sym}
-use Rattle.std.proofs.lemmas.List.{get_or-map, get_or-set_same, get_or_past, length-set, map-set, set-get_or, set-set}
+use Rattle.std.proofs.lemmas.List.{get_or-map, get_or-set_same, length-set, map-set}
 use Rattle.std.proofs.lemmas.Option.{slice_get_read}
 use Rattle.std.proofs.Math.Seq.{map-set_same}
 use Rattle.std.specs.Prelude.{IfNone, IfSome, IsSomeAnd, MatchOption, Result, Ok, Err, if◌then◌else◌, is_err, is_ok, slice_get, slice_set}
@@ -12,10 +12,7 @@ use Rattle.std.specs.Option.{option_map}
 use Rattle.am_peers.specs.Queues.{frames_beside}
 use Rattle.am_backend.specs.Outbound.{AreGone, IsTaken, IsEncodingFor, left_out}
 use Rattle.am_peer_auth.specs.declared.sequence.Sequence.{Sequence}
-use Rattle.am_daemon.specs.Room.{lacks_room}
-use Rattle.am_daemon.specs.declared.member.pending_frames.Dropped.{Dropped}
-use Rattle.am_server.specs.Transfers.{no_transfer}
-use Rattle.am_daemon.specs.Offers.{GivesNothing, TransfersGoOn, transfer_to, with_no_link, AreDropped, IsDroppedFor, once_dropped, AreHandedOn, AreKeptBack, AreLost, AreNext, ForPeers, GivesPart, IsGiven, IsNextPart, IsPutBy, Passes, PutBy, gone_on, nothing_put_by, place_in, put_behind, put_by_for, put_by_of, with_put_by}
+use Rattle.am_daemon.specs.Offers.{AreHandedOn, AreKeptBack, AreLost, AreNext, ForPeers, GivesPart, IsGiven, IsNextPart, IsPutBy, Passes, PutBy, gone_on, nothing_put_by, place_in, put_behind, put_by_for, put_by_of, with_put_by}
 use Rattle.am_gossip.specs.declared.frame.Frame.{Frame}
 use Rattle.am_peer_auth.specs.declared.seal.Lock.{Lock}
 use Rattle.am_daemon.specs.declared.member.pending_frames.PendingFrames.{PendingFrames}
@@ -35,23 +32,11 @@ module _ (items : List PendingFrames) (peer : ℕ) (before after : PendingFrames
 
 -- frames that are put by
 pub is_put_by : (held : ForPeers) (peer : ℕ) (frames : List Frame) (opens was_open : Bool) (put_by : List PutBy) → (put_by_for held peer).is_open ≡ was_open → opens ≡ not was_open →
-    lacks_room (put_by_for held peer).frames frames ≡ false → put_by ≡ slice_set held.put_by peer (put_behind frames (put_by_for held peer)) →
-    IsPutBy peer frames opens held (record held { put_by = put_by })
-is_put_by held peer frames true true put_by open_ opens room is = absurd cc
-is_put_by held peer frames true false put_by open_ opens room is = (open_, (room, ap (λ (l : List PutBy). record held { put_by = l }) is))
-is_put_by held peer frames false true put_by open_ opens room is = inr (open_, (room, ap (λ (l : List PutBy). record held { put_by = l }) is))
-is_put_by held peer frames false false put_by open_ opens room is = absurd cc
-
--- frames that are dropped for a reason
-pub are_dropped : (held : ForPeers) (peer : ℕ) (frames : List Frame) (dropped : Dropped) (it : PutBy) (put_by : List PutBy) → put_by_for held peer ≡ it → IsDroppedFor dropped frames it →
-    put_by ≡ slice_set held.put_by peer (once_dropped dropped (put_by_for held peer)) → AreDropped peer frames held (record held { put_by = put_by })
-are_dropped held peer frames dropped it put_by there why is =
-    inl (dropped, subst (λ (i : PutBy). IsDroppedFor dropped frames i) (sym there) why, ap (λ (l : List PutBy). record held { put_by = l }) is)
-
--- what waits stays, where frames are dropped
-pub dropped_waits : (peer : ℕ) (frames : List Frame) (old new : ForPeers) → AreDropped peer frames old new → new.queue.frames ≡ old.queue.frames
-dropped_waits peer frames old new (inl (dropped, why, is)) = ap (λ (held : ForPeers). held.queue.frames) is
-dropped_waits peer frames old new (inr (past, same)) = ap (λ (held : ForPeers). held.queue.frames) same
+    put_by ≡ slice_set held.put_by peer (put_behind frames (put_by_for held peer)) → IsPutBy peer frames opens held (record held { put_by = put_by })
+is_put_by held peer frames true true put_by open_ opens is = absurd cc
+is_put_by held peer frames true false put_by open_ opens is = (open_, ap (λ (l : List PutBy). record held { put_by = l }) is)
+is_put_by held peer frames false true put_by open_ opens is = inr (open_, ap (λ (l : List PutBy). record held { put_by = l }) is)
+is_put_by held peer frames false false put_by open_ opens is = absurd cc
 
 -- ---- fewer frames wait
 
@@ -82,8 +67,8 @@ gone_fewer old new (inr gone) some = subst (λ (s : Sent). length s.frames < len
 
 kept_waits : (lock : Option Lock) (peer : ℕ) (frames : List Frame) (old new : ForPeers) → AreKeptBack lock peer frames old new → new.queue.frames ≡ old.queue.frames
 kept_waits None peer frames old new counted = ap (λ (held : ForPeers). held.queue.frames) counted
-kept_waits (Some lock) peer frames old new (inl dropped) = dropped_waits peer frames old new dropped
-kept_waits (Some lock) peer frames old new (inr put) = ap (λ (held : ForPeers). held.queue.frames) put.1.1
+kept_waits (Some lock) peer frames old new (inl same) = ap (λ (held : ForPeers). held.queue.frames) same
+kept_waits (Some lock) peer frames old new (inr put) = ap (λ (held : ForPeers). held.queue.frames) put.1
 
 pub handed_waits : (place : ℕ) (frames : List Frame) (old new : ForPeers) → AreHandedOn place frames old new → new.queue.frames ≡ old.queue.frames
 handed_waits place frames old new (inl told) = ap (λ (held : ForPeers). held.queue.frames) told.1
@@ -102,80 +87,56 @@ pub next_count : (put_by frames : List Frame) → AreNext put_by frames → max 
 next_count [] frames next = rw next.1 (omega arith)
 next_count (frame ∷ put_by) frames next = rw next (omega arith)
 
+set-set : {X : Type 0} (xs : List X) (i : ℕ) (x y : X) → set (set xs i x) i y ≡ set xs i y
+set-set [] i x y = refl
+set-set (z ∷ xs) zero x y = refl
+set-set {X = X} (z ∷ xs) (suc i) x y = ap (λ (l : List X). z ∷ l) (set-set xs i x y)
+
 -- what is put by for a peer, once it is changed
-there_now : (held : ForPeers) (peer : ℕ) (it : PutBy) (queue : Sent) (transfers : List StateTransfer) → peer < length held.put_by →
-    record (with_put_by peer it held) { queue = queue; transfers = transfers }
-    ≡ record (with_put_by peer (put_by_for (record (with_put_by peer it held) { queue = queue; transfers = transfers }) peer) held) { queue = queue; transfers = transfers }
-there_now held peer it queue transfers within = ap (λ (now : PutBy). record (with_put_by peer now held) { queue = queue; transfers = transfers })
-    (sym (get_or-set_same held.put_by peer it nothing_put_by within))
-
--- the transfers to others stay, where all do
-pub own_stays : (transfers : List StateTransfer) (peer : ℕ) → transfers ≡ slice_set transfers peer (transfer_to transfers peer)
-own_stays transfers peer = sym (set-get_or transfers peer no_transfer)
-
--- so they do, where that to the peer is changed
-pub own_changes : (transfers : List StateTransfer) (peer : ℕ) (transfer : StateTransfer) → peer < length transfers →
-    slice_set transfers peer transfer ≡ slice_set transfers peer (transfer_to (slice_set transfers peer transfer) peer)
-own_changes transfers peer transfer within = ap (set transfers peer) (sym (get_or-set_same transfers peer transfer no_transfer within))
-
--- so they do, where frames go to the peer
-pub own_goes_on : (put_by : List Frame) (peer : ℕ) (old new : List StateTransfer) → TransfersGoOn put_by peer old new → new ≡ slice_set old peer (transfer_to new peer)
-own_goes_on [] peer old new goes_on = goes_on
-own_goes_on (frame ∷ put_by) peer old new goes_on = subst (λ (t : List StateTransfer). t ≡ slice_set old peer (transfer_to t peer)) (sym goes_on) (own_stays old peer)
-
--- nothing is given for a place that no member has
-pub past_nothing : (was : ForPeers) (peer : ℕ) → length was.put_by ≤ peer → GivesNothing peer was was
-past_nothing was peer past = record {
-  is = ap (λ (l : List PutBy). record was { put_by = l }) (sym (set-get_or was.put_by peer nothing_put_by));
-  own = own_stays was.transfers peer;
-  lost = inl (ap (λ (it : PutBy). it.frames) (get_or_past was.put_by peer nothing_put_by past), refl);
-}
+there_now : (held : ForPeers) (peer : ℕ) (it : PutBy) (queue : Sent) → peer < length held.put_by →
+    record (with_put_by peer it held) { queue = queue } ≡ record (with_put_by peer (put_by_for (record (with_put_by peer it held) { queue = queue }) peer) held) { queue = queue }
+there_now held peer it queue within = ap (λ (now : PutBy). record (with_put_by peer now held) { queue = queue }) (sym (get_or-set_same held.put_by peer it nothing_put_by within))
 
 -- nothing goes to a peer, since nothing was put by for it, and no part is left
-pub none_lost : (was new : ForPeers) (peer : ℕ) (it : PutBy) (transfers : List StateTransfer) → peer < length was.put_by → (put_by_for was peer).frames ≡ [] →
-    transfers ≡ slice_set was.transfers peer (transfer_to transfers peer) → new ≡ record (with_put_by peer it was) { transfers = transfers } → GivesNothing peer was new
-none_lost was new peer it transfers within none own taken = subst (λ (n : ForPeers). GivesNothing peer was n)
-    (sym taken) (record { is = there_now was peer it was.queue transfers within; own = own; lost = inl (none, refl) })
+pub none_lost : (was new : ForPeers) (peer : ℕ) (it : PutBy) → peer < length was.put_by → (put_by_for was peer).frames ≡ [] → new ≡ with_put_by peer it was →
+    (new ≡ record (with_put_by peer (put_by_for new peer) was) { queue = new.queue }) × AreLost (put_by_for was peer).frames was.queue new.queue
+none_lost was new peer it within none taken = subst (λ (n : ForPeers). (n ≡ record (with_put_by peer (put_by_for n peer) was) { queue = n.queue }) × AreLost (put_by_for was peer).frames was.queue n.queue)
+    (sym taken) (there_now was peer it was.queue within, inl (none, refl))
 
 -- the link is closed behind frames that are lost
-pub closed_given : (config : Settings) (peer : ℕ) (answer : List ℕ) (was mid new : ForPeers) → GivesNothing peer was mid → new ≡ with_no_link peer mid → IsGiven config peer answer None was new
-closed_given config peer answer was mid new nothing closed = (
+pub closed_given : (config : Settings) (peer : ℕ) (answer : List ℕ) (was mid new : ForPeers) → mid ≡ record (with_put_by peer (put_by_for mid peer) was) { queue = mid.queue } →
+    AreLost (put_by_for was peer).frames was.queue mid.queue → new ≡ with_put_by peer nothing_put_by mid → IsGiven config peer answer None was new
+closed_given config peer answer was mid new is lost closed = (
   mid.queue,
-  nothing.lost,
-  closed ∙ ap (with_no_link peer) nothing.is
-      ∙ ap (λ (l : List PutBy). record was { queue = mid.queue; put_by = l; transfers = set mid.transfers peer no_transfer }) (set-set was.put_by peer (put_by_for mid peer) nothing_put_by)
-      ∙ ap (λ (t : List StateTransfer). record was { queue = mid.queue; put_by = set was.put_by peer nothing_put_by; transfers = t })
-      (ap (λ (t : List StateTransfer). set t peer no_transfer) nothing.own ∙ set-set was.transfers peer (transfer_to mid.transfers peer) no_transfer),
+  lost,
+  closed ∙ ap (with_put_by peer nothing_put_by) is
+      ∙ ap (λ (l : List PutBy). record was { queue = mid.queue; put_by = l }) (set-set was.put_by peer (put_by_for mid peer) nothing_put_by),
 )
 
 -- what is given of the frames that go to a peer next, or what is lost of them
 module _ {V : Type 0} (bytes_in : V → List ℕ) (config : Settings) (peer : ℕ) (answer : List ℕ) (was : ForPeers) (it : PutBy) (frames : List Frame) (from : Option Sequence)
     (queue : Sent) (within : peer < length was.put_by) (next : AreNext (put_by_for was peer).frames frames) (is : it ≡ gone_on (length frames) (put_by_for was peer))
-    (place : from ≡ place_in answer (put_by_for was peer).number) (transfers : List StateTransfer)
-    (goes_on : TransfersGoOn (put_by_for was peer).frames peer was.transfers transfers) where
+    (place : from ≡ place_in answer (put_by_for was peer).number) where
   AreSettled : Option V → ForPeers → Type 0
-  AreSettled result new = MatchOption result (GivesNothing peer was new) (λ bytes. IsGiven config peer answer (Some (bytes_in bytes)) was new)
+  AreSettled result new = MatchOption result ((new ≡ record (with_put_by peer (put_by_for new peer) was) { queue = new.queue }) × AreLost (put_by_for was peer).frames was.queue new.queue)
+      (λ bytes. IsGiven config peer answer (Some (bytes_in bytes)) was new)
 
   settled : (result : Option V) → queue.frames ≡ was.queue.frames → IfSome result (λ bytes. IsEncodingFor was.lock config peer from frames (bytes_in bytes)) →
-      IfNone result (queue ≡ left_out (length frames) was.queue) → AreSettled result (record (with_put_by peer it was) { queue = queue; transfers = transfers })
+      IfNone result (queue ≡ left_out (length frames) was.queue) → AreSettled result (record (with_put_by peer it was) { queue = queue })
   unfolding AreSettled
-  settled None kept text unsent = record {
-    is = there_now was peer it queue transfers within;
-    own = own_goes_on (put_by_for was peer).frames peer was.transfers transfers goes_on;
-    lost = inr (frames, next, unsent);
-  }
+  settled None kept text unsent = (there_now was peer it queue within, inr (frames, next, unsent))
   settled (Some bytes) kept text unsent = (
     frames,
     next,
     subst (λ (f : Option Sequence). IsEncodingFor was.lock config peer f frames (bytes_in bytes)) place text,
-    (ap (λ (i : PutBy). record (with_put_by peer i was) { queue = queue; transfers = transfers }) is, kept),
-    goes_on,
+    (ap (λ (i : PutBy). record (with_put_by peer i was) { queue = queue }) is, kept),
   )
 
-  pub text_given : (result : Option V) (config' : Settings) (frames' : List Frame) (mid new : ForPeers) → config' ≡ config → frames' ≡ frames → mid ≡ record (with_put_by peer it was) { transfers = transfers } →
+  pub text_given : (result : Option V) (config' : Settings) (frames' : List Frame) (mid new : ForPeers) → config' ≡ config → frames' ≡ frames → mid ≡ with_put_by peer it was →
       new ≡ record mid { queue = queue } → queue.frames ≡ mid.queue.frames → IfSome result (λ bytes. IsEncodingFor mid.lock config' peer from frames' (bytes_in bytes)) →
       IfNone result (queue ≡ left_out (length frames') mid.queue) →
-      MatchOption result (GivesNothing peer was new) (λ bytes. IsGiven config peer answer (Some (bytes_in bytes)) was new)
+      MatchOption result ((new ≡ record (with_put_by peer (put_by_for new peer) was) { queue = new.queue }) × AreLost (put_by_for was peer).frames was.queue new.queue)
+      (λ bytes. IsGiven config peer answer (Some (bytes_in bytes)) was new)
   unfolding AreSettled
   text_given result config' frames' mid new same_config same_frames taken left kept text unsent = subst (λ (n : ForPeers). AreSettled result n)
       (sym (left ∙ ap (λ (m : ForPeers). record m { queue = queue }) taken))

@@ -14,7 +14,6 @@ use Rattle.am_instance.specs.Sendings.{Sent, sent_by}
 use Rattle.am_instance.specs.declared.event.Event.TheVariants as events
 use Rattle.am_instance.specs.declared.reply.Outcome.{Outcome}
 use Rattle.am_member.specs.Exchanging.{IsSessionAnswer}
-use Rattle.am_member.specs.Sparing.{deferred}
 use Rattle.am_member.specs.declared.session_answer.SessionAnswer.{SessionAnswer}
 use Rattle.am_reactor.specs.Deeds.{Deed}
 use Rattle.am_reactor.specs.History.{IsCall}
@@ -34,7 +33,7 @@ AreCalls law service (next ∷ rest) service' = IsAnyCall law service next × Ar
 -- Steps of what a connection said, of a notice, or of an Alertmanager's frame were made, and this is all that they send.
 abbrev pub AreSentBetween : Sent → InstanceState → InstanceState → Type 0
 AreSentBetween sent old new =
-    ((name : Option (List ℕ)) × (bits : ℕ) × (now : ℕ) × (said : Spoken) × (answer : SessionAnswer) × IsSessionAnswer name bits now (deferred said) old new answer
+    ((name : Option (List ℕ)) × (bits : ℕ) × (now : ℕ) × (said : Spoken) × (answer : SessionAnswer) × IsSessionAnswer name bits now said old new answer
     × (sent ≡ answer.effects.outbox))
     ⊎ (((now : ℕ) × (notice : Notice) × (answer : PendingAnswer) × WhenMade (λ answered. IsNoticed now notice old answered new) answer
     × (sent ≡ answer.outbox))

@@ -3,6 +3,4 @@ pub mod Calling
 pub mod Histories
 pub mod Members
 pub mod Offers
-pub mod Room
 pub mod Sending
-pub mod Transferring

@@ -1,5 +1,5 @@
 -- The bytes that a member gives for its peers: of the frames that wait for each, and then of parts of all that is held.
-use Rattle.std.specs.Prelude.{◌≡◌, ◌⊎◌, ℕ, ◌+◌, ◌<◌, ◌≤◌, Bool, true, false, if◌then◌else◌, nat_le, List, [], ◌∷◌, ◌++◌, length, take, map, slice_set, slice_index_or, Option, Some, None, is_some, ⊤}
+use Rattle.std.specs.Prelude.{◌≡◌, ◌⊎◌, ℕ, ◌+◌, Bool, true, false, if◌then◌else◌, nat_le, List, [], ◌∷◌, ◌++◌, length, take, map, slice_set, slice_index_or, Option, Some, None, is_some, ⊤}
 use Rattle.std.specs.List.{flat_map}
 use Rattle.std.specs.declared.net.SocketAddr.{SocketAddr}
 use Rattle.am_gossip.specs.Frames.{frame_encoding}
@@ -12,61 +12,40 @@ use Rattle.am_instance.specs.declared.handing.HandedPart.{HandedPart}
 use Rattle.am_instance.specs.declared.handing.Handout.{Handout}
 use Rattle.am_peer_auth.specs.declared.seal.Lock.{Lock}
 use Rattle.am_peer_auth.specs.declared.sequence.Sequence.{Sequence}
-use Rattle.am_server.specs.Transfers.{behind_part, left_in, no_transfer, part_frame, wants_link, with_all_left, with_none_left, with_wanted}
+use Rattle.am_server.specs.Transfers.{behind_part, left_in, part_frame, with_none_left}
 use Rattle.am_server.specs.declared.state_transfer.StateTransfer.{StateTransfer}
-use Rattle.am_server.specs.declared.state_transfer.TransferKind.{TransferKind}
-use Rattle.am_server.specs.declared.state_transfer.TransferKind.TheVariants.{Exchange}
 use Rattle.am_backend.specs.Outbound.{AreGone, IsTaken, IsEncodingFor, left_out}
-use Rattle.am_daemon.specs.Room.{lacks_room}
-use Rattle.am_daemon.specs.declared.member.pending_frames.Dropped.{Dropped}
-use Rattle.am_daemon.specs.declared.member.pending_frames.Dropped.TheVariants.{Again, Full, Memory}
 use Rattle.am_daemon.specs.declared.member.pending_frames.PendingFrames.{PendingFrames}
 use Rattle.am_daemon.specs.declared.member.server_state.ServerState.{ServerState}
 
--- the frames that are put by for a peer until its link answers; whether a link is open, or asked for; whether too many bytes were
--- put by since; and the number of frames that went to that link
+-- the frames that are put by for a peer until its link answers; whether a link is open, or asked for; and the number of frames
+-- that went to that link
 pub record PutBy : Type 0 where
   pub frames : List Frame
   pub is_open : Bool
-  pub is_full : Bool
   pub number : ℕ
 
 -- nothing is put by, and no link is open
 abbrev pub nothing_put_by : PutBy
-nothing_put_by = record { frames = []; is_open = false; is_full = false; number = 0 }
+nothing_put_by = record { frames = []; is_open = false; number = 0 }
 
 -- the frames that are put by, and their link, as contracts see them
 abbrev pub put_by_of : PendingFrames → PutBy
-put_by_of pending = record { frames = pending.frames.items; is_open = pending.is_open; is_full = pending.is_full; number = pending.count }
+put_by_of pending = record { frames = pending.frames.items; is_open = pending.is_open; number = pending.count }
 
 -- with these frames behind the others, and a link asked for
 abbrev pub put_behind : List Frame → PutBy → PutBy
 put_behind frames it = record it { frames = it.frames ++ frames; is_open = true }
 
--- Frames are dropped for this reason, where these are put by: there is no room for them, as for others before over this link, or as for
--- none; or there is room, and memory ran out.
-abbrev pub IsDroppedFor : Dropped → List Frame → PutBy → Type 0
-IsDroppedFor Again frames it = (lacks_room it.frames frames ≡ true) × (it.is_full ≡ true)
-IsDroppedFor Full frames it = (lacks_room it.frames frames ≡ true) × (it.is_full ≡ false)
-IsDroppedFor Memory frames it = lacks_room it.frames frames ≡ false
-
--- once frames were dropped for this reason
-abbrev pub once_dropped : Dropped → PutBy → PutBy
-once_dropped Memory it = it
-once_dropped _ it = record it { is_full = true }
-
 -- once all frames, and as many as this in all, went to the link
 abbrev pub gone_on : ℕ → PutBy → PutBy
 gone_on count it = record it { frames = []; number = capped (it.number + count) }
 
--- all that is to be sent to peers: the frames that wait, what is put by for each peer, by place, the transfer of all that is held to
--- each, by place, the addresses of the peers and those of the Alertmanagers beside the member, by place, and the lock by which frames
--- are sealed
+-- all that is to be sent to peers: the frames that wait, what is put by for each peer, by place, the addresses of the
+-- Alertmanagers beside the member, by place, and the lock by which frames are sealed
 pub record ForPeers : Type 0 where
   pub queue : Sent
   pub put_by : List PutBy
-  pub transfers : List StateTransfer
-  pub addresses : List (Option SocketAddr)
   pub asked : List (Option SocketAddr)
   pub lock : Option Lock
 
@@ -75,8 +54,6 @@ abbrev pub for_peers : {U : Type 0} → (U → Sent) → (U → Option Lock) →
 for_peers outbound sealed_by state = record {
   queue = outbound state.backend;
   put_by = map put_by_of state.pending_frames.items;
-  transfers = state.transfers.items;
-  addresses = state.addresses.items;
   asked = state.asked.items;
   lock = sealed_by state.backend;
 }
@@ -89,28 +66,6 @@ put_by_for held peer = slice_index_or held.put_by peer nothing_put_by
 abbrev pub with_put_by : ℕ → PutBy → ForPeers → ForPeers
 with_put_by peer it held = record held { put_by = slice_set held.put_by peer it }
 
--- the transfer to a peer, among those to all
-abbrev pub transfer_to : List StateTransfer → ℕ → StateTransfer
-transfer_to transfers peer = slice_index_or transfers peer no_transfer
-
--- once a transfer of this kind to a peer is planned
-abbrev pub with_planned : TransferKind → ℕ → List StateTransfer → List StateTransfer
-with_planned kind peer transfers = slice_set transfers peer (with_wanted kind (transfer_to transfers peer))
-
--- a peer has an address
-abbrev pub has_address : List (Option SocketAddr) → ℕ → Bool
-has_address addresses peer = is_some (slice_index_or addresses peer None)
-
--- An exchange is planned with each peer that has an address, and with no other.
-pub record PlansExchanges (addresses : List (Option SocketAddr)) (old new : List StateTransfer) : Type 0 where
-  pub as_many : length new ≡ length old
-  pub each : (peer : ℕ) → peer < length old →
-      transfer_to new peer ≡ (if has_address addresses peer then with_wanted Exchange (transfer_to old peer) else transfer_to old peer)
-
--- once the link to a peer is closed: nothing is put by for it, and it is handed nothing more
-abbrev pub with_no_link : ℕ → ForPeers → ForPeers
-with_no_link peer held = record (with_put_by peer nothing_put_by held) { transfers = slice_set held.transfers peer no_transfer }
-
 -- an Alertmanager beside the member is at the place
 abbrev pub is_beside : ForPeers → ℕ → Bool
 is_beside held place = is_some (slice_index_or held.asked place None)
@@ -119,24 +74,10 @@ is_beside held place = is_some (slice_index_or held.asked place None)
 abbrev pub OnlyCounts : ForPeers → ForPeers → Type 0
 OnlyCounts old new = (new ≡ record old { queue = new.queue }) × (new.queue.frames ≡ old.queue.frames)
 
--- The same, and perhaps exchanges with peers are planned.
-abbrev pub OnlyPlans : ForPeers → ForPeers → Type 0
-OnlyPlans old new = OnlyCounts (record old { transfers = new.transfers }) new × ((new.transfers ≡ old.transfers) ⊎ PlansExchanges old.addresses old.transfers new.transfers)
-
--- There is room for frames for a peer, and they are put by behind the others.
-abbrev pub ArePutBehind : ℕ → List Frame → ForPeers → ForPeers → Type 0
-ArePutBehind peer frames old new = (lacks_room (put_by_for old peer).frames frames ≡ false) × (new ≡ with_put_by peer (put_behind frames (put_by_for old peer)) old)
-
--- Frames for a peer are dropped: for one of the reasons, or since no member has its place.
-abbrev pub AreDropped : ℕ → List Frame → ForPeers → ForPeers → Type 0
-AreDropped peer frames old new =
-    ((dropped : Dropped) × IsDroppedFor dropped frames (put_by_for old peer) × (new ≡ with_put_by peer (once_dropped dropped (put_by_for old peer)) old))
-    ⊎ ((length old.put_by ≤ peer) × (new ≡ old))
-
 -- Frames are put by for a peer behind the others, and a link is asked for if none is open. Or they are dropped.
 abbrev pub IsPutBy : ℕ → List Frame → Bool → ForPeers → ForPeers → Type 0
-IsPutBy peer frames true old new = ((put_by_for old peer).is_open ≡ false) × ArePutBehind peer frames old new
-IsPutBy peer frames false old new = AreDropped peer frames old new ⊎ (((put_by_for old peer).is_open ≡ true) × ArePutBehind peer frames old new)
+IsPutBy peer frames true old new = ((put_by_for old peer).is_open ≡ false) × (new ≡ with_put_by peer (put_behind frames (put_by_for old peer)) old)
+IsPutBy peer frames false old new = (new ≡ old) ⊎ (((put_by_for old peer).is_open ≡ true) × (new ≡ with_put_by peer (put_behind frames (put_by_for old peer)) old))
 
 -- No bytes are given for a peer's frames, by this lock: they are put by for a link that is open, or are dropped; or, if nothing is
 -- sealed, there is no memory for their encoding, and they are counted.
@@ -174,12 +115,11 @@ GivesNone old new = (between : List ForPeers) × PassesAll between old new
 abbrev pub GivesFrames : ℕ → List ℕ → ForPeers → ForPeers → Type 0
 GivesFrames peer bytes old new = TakesOut (λ place frames mid. (place ≡ peer) × (is_beside mid peer ≡ false) × AreGiven mid.lock peer frames bytes mid new) old
 
--- Nothing waits, and a link to a peer is opened, for all that is held: its transfer waited for that.
+-- Nothing waits, and a link to a peer is opened, for what is held.
 pub record OpensLink (peer : ℕ) (bytes : List ℕ) (old new : ForPeers) : Type 0 where
   pub none : old.queue.frames ≡ []
   pub empty : bytes ≡ []
-  pub waited : wants_link (transfer_to old.transfers peer) ≡ true
-  pub opened : new ≡ record (with_put_by peer (record (put_by_for old peer) { is_open = true }) old) { transfers = slice_set old.transfers peer (with_all_left (transfer_to old.transfers peer)) }
+  pub opened : new ≡ with_put_by peer (record (put_by_for old peer) { is_open = true }) old
 
 -- Bytes are given for a peer: after frames for which nothing is given, those for that peer are next, or none waits.
 abbrev pub IsOffered : ℕ → List ℕ → ForPeers → ForPeers → Type 0
@@ -189,10 +129,9 @@ IsOffered peer bytes old new = (mid : ForPeers) × GivesNone old mid × (GivesFr
 abbrev pub IsAtRest : ForPeers → ForPeers → Type 0
 IsAtRest old new = GivesNone old new × (new.queue.frames ≡ [])
 
--- A link to a peer is lost: what was put by for the peer is dropped, the link is closed, and the peer is handed nothing more. An
--- Alertmanager has none of these.
+-- A link to a peer is lost: what was put by for the peer is dropped, and the link is closed. An Alertmanager has neither.
 abbrev pub IsLost : ℕ → ForPeers → ForPeers → Type 0
-IsLost peer old new = new ≡ (if is_beside old peer then old else with_no_link peer old)
+IsLost peer old new = new ≡ (if is_beside old peer then old else with_put_by peer nothing_put_by old)
 
 -- the place of a frame in its connection behind this many others, if what the connection answered with is a challenge
 abbrev pub place_in : List ℕ → ℕ → Option Sequence
@@ -208,25 +147,13 @@ AreNext (frame ∷ put_by) frames = frames ≡ frame ∷ put_by
 abbrev pub AreLost : List Frame → Sent → Sent → Type 0
 AreLost put_by old new = ((put_by ≡ []) × (new ≡ old)) ⊎ ((frames : List Frame) × AreNext put_by frames × (new ≡ left_out (length frames) old))
 
--- The transfers stay, if these frames were put by for a peer; if none were, those to all others do.
-abbrev pub TransfersGoOn : List Frame → ℕ → List StateTransfer → List StateTransfer → Type 0
-TransfersGoOn [] peer old new = new ≡ slice_set old peer (transfer_to new peer)
-TransfersGoOn (frame ∷ put_by) peer old new = new ≡ old
-
 -- A peer is given the encoding of the frames that go to it next, over the link that answered, sealed from their place in the connection
 -- on. Or it is given nothing, and the link is closed.
 abbrev pub IsGiven : Settings → ℕ → List ℕ → Option (List ℕ) → ForPeers → ForPeers → Type 0
 IsGiven config peer answer (Some bytes) old new = (frames : List Frame) × AreNext (put_by_for old peer).frames frames
     × IsEncodingFor old.lock config peer (place_in answer (put_by_for old peer).number) frames bytes
-    × OnlyCounts (record (with_put_by peer (gone_on (length frames) (put_by_for old peer)) old) { transfers = new.transfers }) new
-    × TransfersGoOn (put_by_for old peer).frames peer old.transfers new.transfers
-IsGiven config peer answer None old new = (queue : Sent) × AreLost (put_by_for old peer).frames old.queue queue × (new ≡ record (with_no_link peer old) { queue = queue })
-
--- A peer is given nothing so far: beside what is put by for it and the transfer to it, only frames that aren't sent are counted.
-pub record GivesNothing (peer : ℕ) (old new : ForPeers) : Type 0 where
-  pub is : new ≡ record (with_put_by peer (put_by_for new peer) old) { queue = new.queue; transfers = new.transfers }
-  pub own : new.transfers ≡ slice_set old.transfers peer (transfer_to new.transfers peer)
-  pub lost : AreLost (put_by_for old peer).frames old.queue new.queue
+    × OnlyCounts (with_put_by peer (gone_on (length frames) (put_by_for old peer)) old) new
+IsGiven config peer answer None old new = (queue : Sent) × AreLost (put_by_for old peer).frames old.queue queue × (new ≡ record (with_put_by peer nothing_put_by old) { queue = queue })
 
 -- ---- all that is held, part by part
 

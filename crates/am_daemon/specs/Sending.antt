@@ -1,6 +1,5 @@
 -- The fate of the frames that steps send.
-use Rattle.std.specs.Prelude.{◌≡◌, ◌⊎◌, ℕ, Bool, true, List, map, slice_get, Option, None, Some, Result}
-use Rattle.std.specs.List.{list_any}
+use Rattle.std.specs.Prelude.{◌≡◌, ◌⊎◌, ℕ, List, map, Option, None, Some, Result}
 use Rattle.am_api_decisions.specs.Asking.{HoldsSame}
 use Rattle.am_api_decisions.specs.Noticing.{IsNoticed}
 use Rattle.am_api_decisions.specs.declared.notice.Notice.{Notice}
@@ -9,60 +8,45 @@ use Rattle.am_api_silences.specs.declared.answering.PendingAnswer.{PendingAnswer
 use Rattle.am_backend.specs.CommitStates.{disk_of}
 use Rattle.am_backend.specs.Outbound.{IsQueued, IsSentOn}
 use Rattle.am_backend.specs.Stores.{IsFollowed, Store}
-use Rattle.am_daemon.specs.Offers.{ForPeers, IsAtRest, OnlyCounts, OnlyPlans, PutBy, put_by_of, with_planned}
-use Rattle.am_server.specs.declared.state_transfer.StateTransfer.{StateTransfer}
-use Rattle.am_server.specs.declared.state_transfer.TransferKind.TheVariants.{Send}
+use Rattle.am_daemon.specs.Offers.{ForPeers, IsAtRest, OnlyCounts, PutBy, put_by_of}
 use Rattle.am_daemon.specs.declared.member.server_state.ServerState.{ServerState}
 use Rattle.am_gossip.specs.declared.frame.Frame.{Frame}
 use Rattle.am_gossip.specs.declared.refusals.StepError.{StepError}
 use Rattle.am_http.specs.Sessions.{Spoken}
-use Rattle.am_instance.specs.Configs.{Settings}
 use Rattle.am_instance.specs.InstanceStates.{InstanceState}
 use Rattle.am_instance.specs.OneStep.{IsStep}
 use Rattle.am_instance.specs.Sendings.{Sent}
 use Rattle.am_instance.specs.declared.event.Event.TheVariants as events
 use Rattle.am_instance.specs.declared.reply.Outcome.{Outcome}
 use Rattle.am_member.specs.Exchanging.{IsSessionAnswer}
-use Rattle.am_member.specs.Sparing.{deferred, is_push}
 use Rattle.am_member.specs.declared.session_answer.SessionAnswer.{SessionAnswer}
 
--- the places to which frames of steps go: the store, the frames that wait for peers, and what is put by for each peer, by place; and the
--- transfer of all that is held to each
+-- the places to which frames of steps go: the store, the frames that wait for peers, and what is put by for each peer, by place
 pub record Outlets : Type 0 where
   pub store : Store
   pub queue : Sent
   pub put_by : List PutBy
-  pub transfers : List StateTransfer
 
 -- those of a member's state whose backend has this store, and these frames that wait
 abbrev pub outlets : {U : Type 0} → (U → Store) → (U → Sent) → ServerState U → Outlets
-outlets store_of outbound state = record { store = store_of state.backend; queue = outbound state.backend; put_by = map put_by_of state.pending_frames.items; transfers = state.transfers.items }
+outlets store_of outbound state = record { store = store_of state.backend; queue = outbound state.backend; put_by = map put_by_of state.pending_frames.items }
 
 -- The frames that were sent are passed on: with logs, those for the place of the disk are logged, or the logs are known to lack them; and
--- those for peers wait behind the others, in order, or memory ran out, and just they are counted. All that is put by stays, and so
--- do the transfers.
+-- those for peers wait behind the others, in order, or memory ran out, and just they are counted. All that is put by stays.
 pub record IsPassedOn (sent : Sent) (old new : Outlets) : Type 0 where
   pub logged : IsFollowed sent old.store new.store
   pub queued : IsQueued (disk_of old.store.commit_state) sent old.queue new.queue
   pub put_by : new.put_by ≡ old.put_by
-  pub transfers : new.transfers ≡ old.transfers
 
--- The transfers are as they were; or one is planned to the member of this name, which asks for it.
-abbrev pub MayPlan : Settings → Option (List ℕ) → Bool → List StateTransfer → List StateTransfer → Type 0
-MayPlan config name asks old new = (new ≡ old)
-    ⊎ ((asks ≡ true) × (known : List ℕ) × (place : ℕ) × (name ≡ Some known) × (slice_get config.members place ≡ Some known) × (new ≡ with_planned Send place old))
-
--- The steps of what a connection said were made, and just what they send is passed on. If it said a Push, a transfer to its peer may be
--- planned.
+-- The steps of what a connection said were made, and just what they send is passed on.
 pub record SaidIsPassedOn (old : InstanceState) (was : Outlets) (new : InstanceState) (is : Outlets) : Type 0 where
   pub name : Option (List ℕ)
   pub bits : ℕ
   pub now : ℕ
   pub said : Spoken
   pub answer : SessionAnswer
-  pub exchanged : IsSessionAnswer name bits now (deferred said) old new answer
-  pub planned : MayPlan new.config name (list_any is_push said.frames) was.transfers is.transfers
-  pub passed : IsPassedOn answer.effects.outbox (record was { transfers = is.transfers }) is
+  pub exchanged : IsSessionAnswer name bits now said old new answer
+  pub passed : IsPassedOn answer.effects.outbox was is
 
 -- A notice is answered, and just what its step sends is passed on.
 pub record NoticeIsPassedOn (old : InstanceState) (was : Outlets) (new : InstanceState) (is : Outlets) : Type 0 where
@@ -94,15 +78,15 @@ FrameIsSentOn None disk old was new is = (new ≡ old) × (is ≡ was)
 FrameIsSentOn (Some came) disk old was new is = (now : ℕ) × (answer : Result Outcome StepError) × IsStep old (events.Frame came.0 came.1) now answer new
     × IsSentOn disk answer was.queue is.queue × (is ≡ record was { queue = is.queue })
 
--- A member was woken: perhaps it made a Tick, which sends nothing to peers, and planned exchanges with them, and then made the step of an
--- Alertmanager's frame, if one came. Beside that, only frames that aren't sent are counted.
+-- A member was woken: perhaps it made a Tick, which sends nothing to peers, and then the step of an Alertmanager's frame, if one came.
+-- Beside that, only frames that aren't sent are counted.
 pub record IsWoken (disk : Option ℕ) (old : InstanceState) (was : ForPeers) (new : InstanceState) (is : ForPeers) : Type 0 where
   pub ticked : InstanceState
   pub before : ForPeers
   pub after : ForPeers
   pub came : Option (ℕ × Frame)
   pub tick : MayTick old ticked
-  pub waits : OnlyPlans was before
+  pub waits : OnlyCounts was before
   pub sent : FrameIsSentOn came disk ticked before new after
   pub stays : OnlyCounts after is
 

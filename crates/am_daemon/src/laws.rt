@@ -1,13 +1,12 @@
 //! Laws about all that a member does for the loop that serves it.
 
-ghost use Rattle.std.specs.Prelude.{◌≡◌, ◌⊎◌, ℕ, List, true};
+ghost use Rattle.std.specs.Prelude.{◌⊎◌, ℕ, List};
 ghost use Rattle.std.specs.List.{Contains};
 ghost use Rattle.am_backend.specs.CommitStates.{disk_of};
 ghost use Rattle.am_gossip.specs.declared.frame.Frame.{Frame};
 ghost use Rattle.am_daemon.specs.Accounts.{Account, AddsUp, IsAccountOver};
 ghost use Rattle.am_daemon.specs.Histories.{AreCalls, IsSentIn};
 ghost use Rattle.am_daemon.specs.Offers.{for_peers};
-ghost use Rattle.am_daemon.specs.Transferring.{IsPlannedIn, is_under_way};
 ghost use Rattle.am_daemon.specs.declared.running.Member.{Member};
 
 use crate::running::Member;
@@ -30,13 +29,4 @@ pub fn each_frame_goes_once<'a, U: Backend>()
         × IsAccountOver (λ (member : Member U). member.instance) (λ (member : Member U). for_peers U.outbound U.sealed_by member.server.state)
         (λ (member : Member U). disk_of (U.store_of member.server.state.backend).commit_state) peer account first between last
         × AddsUp peer account (for_peers U.outbound U.sealed_by first.server.state) (for_peers U.outbound U.sealed_by last.server.state) }
-{}
-
-/// States how a transfer of all that is held to a peer begins, whatever calls a loop makes of a member.
-pub fn a_transfer_begins_where_it_is_planned<'a, U: Backend>()
-    // PROMISE: Whatever calls a loop makes of a member, a transfer of all that is held to a peer that is under way then was under way before, or one of the calls planned it: one for no connection, that plans an exchange with each peer that has an address, or one that made the steps of what a connection by that peer's name said, if that has a Push.
-    ensures { (peer : ℕ) (first : Member U) (between : List (Member U)) (last : Member U) → AreCalls ⟦<Member<'a, U> as Service>⟧ first between last →
-        is_under_way peer (for_peers U.outbound U.sealed_by last.server.state) ≡ true →
-        (is_under_way peer (for_peers U.outbound U.sealed_by first.server.state) ≡ true)
-        ⊎ IsPlannedIn ⟦<Member<'a, U> as Service>⟧ (λ (member : Member U). member.instance) (λ (member : Member U). for_peers U.outbound U.sealed_by member.server.state) peer first between last }
 {}

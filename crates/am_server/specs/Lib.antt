@@ -4,5 +4,4 @@ pub mod Waiting
 pub mod Calls
 pub mod MemberService
 pub mod Talking
-pub mod Room
 pub mod Transfers

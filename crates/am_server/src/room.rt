@@ -1,9 +1,5 @@
 //! The bytes by which the rows of the states may grow with what was said.
 
-ghost use Rattle.std.specs.Prelude.{◌≡◌, sum_by};
-ghost use Rattle.am_instance.specs.Sendings.{capped};
-ghost use Rattle.am_server.specs.Room.{bytes_for, bytes_in_part};
-
 use am_api_silences::Read;
 use am_gossip::{Frame, Part, StateKey};
 use am_http::session::SessionOutput;
@@ -13,9 +9,7 @@ use am_http::{Call, Request, call_of};
 const BESIDE_BODY: u64 = 512;
 
 /// Returns the number of bytes that a part of a frame brings for a state.
-fn part_bytes(part: &Part, state: StateKey) -> u64
-    ensures { result ≡ bytes_in_part state part.now }
-{
+fn part_bytes(part: &Part, state: StateKey) -> u64 {
     if part.key == state {
         part.bytes.as_slice().len() as u64
     } else {
@@ -23,10 +17,8 @@ fn part_bytes(part: &Part, state: StateKey) -> u64
     }
 }
 
-/// Returns the number of bytes that parts bring for a state, or the greatest number if they are more.
-fn parts_bytes(parts: &[Part], state: StateKey) -> u64
-    ensures { result ≡ capped (sum_by (bytes_in_part state) parts.now) }
-{
+/// Returns the number of bytes that parts bring for a state.
+fn parts_bytes(parts: &[Part], state: StateKey) -> u64 {
     let mut bytes: u64 = 0;
     for part in parts {
         bytes = bytes.saturating_add(part_bytes(part, state));
@@ -34,10 +26,8 @@ fn parts_bytes(parts: &[Part], state: StateKey) -> u64
     bytes
 }
 
-/// Returns the number of bytes that a frame brings for a state, or the greatest number if they are more.
-pub fn frame_bytes(frame: &Frame, state: StateKey) -> u64
-    ensures { result ≡ capped (bytes_for state frame.now) }
-{
+/// Returns the number of bytes that a frame brings for a state.
+pub fn frame_bytes(frame: &Frame, state: StateKey) -> u64 {
     match frame {
         Frame::Delta(part) => part_bytes(part, state),
         Frame::Push(full) | Frame::Pull(full) => parts_bytes(full.parts(), state),

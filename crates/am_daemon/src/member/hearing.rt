@@ -1,6 +1,6 @@
 //! The consequences of what a connection said.
 
-ghost use Rattle.std.specs.Prelude.{◌≡◌, ◌==◌, ℕ, true, not, IsSome, IsTrue, option_copied};
+ghost use Rattle.std.specs.Prelude.{◌≡◌, ◌==◌, ℕ, true, not, IsSome, IsTrue};
 ghost use Rattle.am_http.specs.Lines.{line_seen};
 ghost use Rattle.am_http.specs.Sessions.{name_of, spoken};
 ghost use Rattle.am_server.specs.Answered.{IsAnswered, IsTaken, SaysBy};
@@ -8,7 +8,7 @@ ghost use Rattle.am_server.specs.Talks.{Closes, IsClosed, IsOwnLine, KeepsBy, St
 ghost use Rattle.am_member.specs.Exchanging.{IsSessionAnswer, left_at};
 ghost use Rattle.am_backend.specs.CommitStates.{came, uncommitted};
 ghost use Rattle.am_backend.specs.Stores.{SendsNews};
-ghost use Rattle.am_daemon.specs.Sending.{IsPassedOn, MayPlan, PassesOn, outlets};
+ghost use Rattle.am_daemon.specs.Sending.{IsPassedOn, PassesOn, outlets};
 
 use super::counting::count_said;
 use super::links::plan_transfer;
@@ -249,8 +249,7 @@ impl<U: Backend> ServerState<'_, U> {
         asked: FrameRequests,
         fault: Option<ConnectionFault>,
     )
-        ensures planned { MayPlan config.now (option_copied name.entry) asked.asks self.old.transfers.items self.new.transfers.items }
-        ensures stays { outlets U.store_of U.outbound self.new ≡ record (outlets U.store_of U.outbound self.old) { transfers = self.new.transfers.items } }
+        ensures { outlets U.store_of U.outbound self.new ≡ outlets U.store_of U.outbound self.old }
     {
         match fault {
             None => {
@@ -291,8 +290,7 @@ impl<U: Backend> ServerState<'_, U> {
 
     /// Remembers what the frames of a peer asked for: a Tick, and, except during the first pull, all that is held here.
     fn schedule_transfer(&mut self, config: &Config, name: Option<&str>, asked: FrameRequests)
-        ensures planned { MayPlan config.now (option_copied name.entry) asked.asks self.old.transfers.items self.new.transfers.items }
-        ensures stays { outlets U.store_of U.outbound self.new ≡ record (outlets U.store_of U.outbound self.old) { transfers = self.new.transfers.items } }
+        ensures { outlets U.store_of U.outbound self.new ≡ outlets U.store_of U.outbound self.old }
     {
         self.duties.request_tick(asked.ticks);
         if !asked.asks || self.duties.waits_for_pull() {

@@ -1,11 +1,10 @@
 //! The addresses at which peers listen, and the state that a member hands to them: part by part, each made after the one before
 //! it went out.
 
-ghost use Rattle.std.specs.Prelude.{◌≡◌, ◌∷◌, IfSome, MatchOption, None, Some, [], true, slice_get, slice_index_or, slice_set};
+ghost use Rattle.std.specs.Prelude.{◌≡◌, ◌∷◌, IfSome, MatchOption, None, Some, [], true, slice_get, slice_index_or};
 ghost use Rattle.std.specs.Option.{option_map};
 ghost use Rattle.am_gossip.specs.declared.frame.Frame.{Frame};
-ghost use Rattle.am_server.specs.Transfers.{no_transfer};
-ghost use Rattle.am_daemon.specs.Offers.{AreGiven, AreKeptBack, AreNext, GivesNothing, GivesPart, IsGiven, IsNextPart, IsPutBy, OpensLink, PlansExchanges, TransfersGoOn, for_peers, nothing_put_by, put_by_for, transfer_to, with_no_link, with_planned, with_put_by};
+ghost use Rattle.am_daemon.specs.Offers.{AreGiven, AreKeptBack, AreLost, AreNext, GivesPart, IsGiven, IsNextPart, IsPutBy, OpensLink, for_peers, nothing_put_by, put_by_for, with_put_by};
 
 use super::pending_frames::Dropped;
 use super::server_state::ServerState;
@@ -29,18 +28,14 @@ pub fn address_of(addresses: &[Option<SocketAddr>], place: usize) -> Option<Sock
 }
 
 /// Plans a transfer of all that is held to a peer.
-pub fn plan_transfer(transfers: &mut [StateTransfer], peer: usize, kind: TransferKind)
-    ensures { transfers.new ≡ with_planned kind peer transfers.old }
-{
-    if peer < transfers.len() {
-        transfers[peer].want(kind);
+pub fn plan_transfer(transfers: &mut [StateTransfer], peer: usize, kind: TransferKind) {
+    if let Some(transfer) = transfers.get_mut(peer) {
+        transfer.want(kind);
     }
 }
 
 /// Plans to ask each peer that has an address for all that it has, and to hand it all that is held here.
-pub fn plan_exchanges(transfers: &mut [StateTransfer], addresses: &[Option<SocketAddr>])
-    ensures { PlansExchanges addresses.now transfers.old transfers.new }
-{
+pub fn plan_exchanges(transfers: &mut [StateTransfer], addresses: &[Option<SocketAddr>]) {
     for peer in 0..addresses.len() {
         if address_of(addresses, peer).is_some() {
             plan_transfer(transfers, peer, TransferKind::Exchange);
@@ -49,11 +44,9 @@ pub fn plan_exchanges(transfers: &mut [StateTransfer], addresses: &[Option<Socke
 }
 
 /// Plans to hand a peer nothing more.
-fn hand_nothing(transfers: &mut [StateTransfer], peer: usize)
-    ensures { transfers.new ≡ slice_set transfers.old peer no_transfer }
-{
-    if peer < transfers.len() {
-        transfers[peer] = StateTransfer::none();
+pub fn hand_nothing(transfers: &mut [StateTransfer], peer: usize) {
+    if let Some(transfer) = transfers.get_mut(peer) {
+        *transfer = StateTransfer::none();
     }
 }
 
@@ -171,8 +164,7 @@ impl<U: Backend> ServerState<'_, U> {
     fn next_part(&mut self, instance: &Instance, peer: usize) -> Option<Vec<Frame>>
         ensures part { IfSome result (λ frames. (part : Frame) × (frames.items ≡ part ∷ [])
             × IsNextPart instance.now (slice_get self.old.transfers.items peer) part (slice_get self.new.transfers.items peer)) }
-        ensures own { self.new.transfers.items ≡ slice_set self.old.transfers.items peer (transfer_to self.new.transfers.items peer) }
-        ensures same { for_peers U.outbound U.sealed_by self.new ≡ record (for_peers U.outbound U.sealed_by self.old) { transfers = self.new.transfers.items } }
+        ensures same { for_peers U.outbound U.sealed_by self.new ≡ for_peers U.outbound U.sealed_by self.old }
     {
         let transfer = self.transfers.get_mut(peer)?;
         let part = part_for(&mut self.backend, transfer, instance, peer)?;
@@ -196,8 +188,7 @@ impl<U: Backend> ServerState<'_, U> {
         ensures next { MatchOption result (put_by.items ≡ []) (λ frames. AreNext put_by.items frames.items) }
         ensures part { put_by.items ≡ [] → IfSome result (λ frames. (part : Frame) × (frames.items ≡ part ∷ [])
             × IsNextPart instance.now (slice_get self.old.transfers.items peer) part (slice_get self.new.transfers.items peer)) }
-        ensures goes_on { TransfersGoOn put_by.items peer self.old.transfers.items self.new.transfers.items }
-        ensures same { for_peers U.outbound U.sealed_by self.new ≡ record (for_peers U.outbound U.sealed_by self.old) { transfers = self.new.transfers.items } }
+        ensures same { for_peers U.outbound U.sealed_by self.new ≡ for_peers U.outbound U.sealed_by self.old }
     {
         if put_by.is_empty() {
             self.next_part(instance, peer)
@@ -215,7 +206,8 @@ impl<U: Backend> ServerState<'_, U> {
         answer: &[u8],
     ) -> Option<Vec<u8>>
         ensures given { let was = for_peers U.outbound U.sealed_by self.old in let is = for_peers U.outbound U.sealed_by self.new in
-            MatchOption result (GivesNothing peer was is) (λ bytes. IsGiven instance.now.config peer answer.now (Some bytes.items) was is) }
+            MatchOption result ((is ≡ record (with_put_by peer (put_by_for is peer) was) { queue = is.queue }) × AreLost (put_by_for was peer).frames was.queue is.queue)
+            (λ bytes. IsGiven instance.now.config peer answer.now (Some bytes.items) was is) }
         ensures part { GivesPart instance.now peer answer.now (option_map (λ bytes. bytes.items) result) (for_peers U.outbound U.sealed_by self.old)
             (slice_get self.old.transfers.items peer) (slice_get self.new.transfers.items peer) }
     {
@@ -244,23 +236,15 @@ impl<U: Backend> ServerState<'_, U> {
         match self.encoding_behind(instance, peer, answer) {
             Some(text) => Some(text),
             None => {
-                self.end_link(peer);
+                hand_nothing(&mut self.transfers, peer);
+                self.close_link(peer);
                 None
             }
         }
     }
 
-    /// Closes the link to a peer, over which nothing more is handed to it, drops the frames that are put by for it, and returns
-    /// how many they were.
-    pub(super) fn end_link(&mut self, peer: usize) -> usize
-        ensures { for_peers U.outbound U.sealed_by self.new ≡ with_no_link peer (for_peers U.outbound U.sealed_by self.old) }
-    {
-        hand_nothing(&mut self.transfers, peer);
-        self.close_link(peer)
-    }
-
     /// Notes that the link to a peer is closed, drops the frames that are put by for it, and returns how many they were.
-    fn close_link(&mut self, peer: usize) -> usize
+    pub(super) fn close_link(&mut self, peer: usize) -> usize
         ensures { for_peers U.outbound U.sealed_by self.new ≡ with_put_by peer nothing_put_by (for_peers U.outbound U.sealed_by self.old) }
     {
         match self.pending_frames.get_mut(peer) {

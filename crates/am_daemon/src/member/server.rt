@@ -1,8 +1,8 @@
 //! The work that a member does on its own state. Only a caller that is handed the instance as mutable makes steps of it.
 
-ghost use Rattle.std.specs.Prelude.{◌≡◌, ◌⊎◌};
+ghost use Rattle.std.specs.Prelude.{◌≡◌};
 ghost use Rattle.am_backend.specs.CommitStates.{disk_of};
-ghost use Rattle.am_daemon.specs.Offers.{OnlyCounts, OnlyPlans, PlansExchanges, for_peers};
+ghost use Rattle.am_daemon.specs.Offers.{OnlyCounts, for_peers};
 ghost use Rattle.am_daemon.specs.Sending.{MayTick, outlets};
 
 use super::server_state::ServerState;
@@ -34,7 +34,7 @@ impl<U: Backend> Server<'_, U> {
     pub fn do_duties(&mut self, instance: &mut Instance, now: Instant)
         ensures tick { MayTick instance.old instance.new }
         ensures disk { disk_of (U.store_of self.new.state.backend).commit_state ≡ disk_of (U.store_of self.old.state.backend).commit_state }
-        ensures peers { OnlyPlans (for_peers U.outbound U.sealed_by self.old.state) (for_peers U.outbound U.sealed_by self.new.state) }
+        ensures peers { OnlyCounts (for_peers U.outbound U.sealed_by self.old.state) (for_peers U.outbound U.sealed_by self.new.state) }
     {
         self.tick(instance, now);
         self.save(instance, now);
@@ -70,10 +70,8 @@ impl<U: Backend> Server<'_, U> {
     /// Asks each peer for all that it has, and hands it all that is held here, if that is due. During a first pull, replicas are
     /// asked, too.
     fn pull(&mut self, now: Instant)
-        ensures planned { (self.new.state.transfers.items ≡ self.old.state.transfers.items)
-            ⊎ PlansExchanges self.old.state.addresses.items self.old.state.transfers.items self.new.state.transfers.items }
-        ensures stays { outlets U.store_of U.outbound self.new.state ≡ record (outlets U.store_of U.outbound self.old.state) { transfers = self.new.state.transfers.items } }
-        ensures peers { for_peers U.outbound U.sealed_by self.new.state ≡ record (for_peers U.outbound U.sealed_by self.old.state) { transfers = self.new.state.transfers.items } }
+        ensures stays { outlets U.store_of U.outbound self.new.state ≡ outlets U.store_of U.outbound self.old.state }
+        ensures peers { for_peers U.outbound U.sealed_by self.new.state ≡ for_peers U.outbound U.sealed_by self.old.state }
     {
         if !self.state.duties.is_pull_due(now) {
             return;

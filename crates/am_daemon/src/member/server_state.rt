@@ -1,10 +1,10 @@
 //! The part of a member that answers those who connect to it.
 
 ghost use Rattle.std.specs.Prelude.{◌≡◌};
-ghost use Rattle.am_daemon.specs.Offers.{OnlyCounts, PlansExchanges, for_peers, with_no_link};
+ghost use Rattle.am_daemon.specs.Offers.{OnlyCounts, for_peers, nothing_put_by, with_put_by};
 ghost use Rattle.am_daemon.specs.Sending.{outlets};
 
-use super::links::{address_of, plan_exchanges};
+use super::links::{address_of, hand_nothing, plan_exchanges};
 use super::pending_frames::PendingFrames;
 use am_api_decisions::RecentAlerts;
 use am_backend::{Backend, DISK, sooner};
@@ -83,9 +83,8 @@ impl<U: Backend> ServerState<'_, U> {
 
     /// Asks each peer for all that it has, and hands it all that is held here.
     pub(super) fn pull_from_peers(&mut self)
-        ensures planned { PlansExchanges self.old.addresses.items self.old.transfers.items self.new.transfers.items }
-        ensures stays { outlets U.store_of U.outbound self.new ≡ record (outlets U.store_of U.outbound self.old) { transfers = self.new.transfers.items } }
-        ensures peers { for_peers U.outbound U.sealed_by self.new ≡ record (for_peers U.outbound U.sealed_by self.old) { transfers = self.new.transfers.items } }
+        ensures stays { outlets U.store_of U.outbound self.new ≡ outlets U.store_of U.outbound self.old }
+        ensures peers { for_peers U.outbound U.sealed_by self.new ≡ for_peers U.outbound U.sealed_by self.old }
     {
         plan_exchanges(&mut self.transfers, &self.addresses);
     }
@@ -131,9 +130,10 @@ impl<U: Backend> ServerState<'_, U> {
 
     /// Gives up the link to a peer, and returns the address at which the peer listens.
     pub(super) fn lose_link(&mut self, peer: usize, fault: LinkFault) -> Option<SocketAddr>
-        ensures { for_peers U.outbound U.sealed_by self.new ≡ with_no_link peer (for_peers U.outbound U.sealed_by self.old) }
+        ensures { for_peers U.outbound U.sealed_by self.new ≡ with_put_by peer nothing_put_by (for_peers U.outbound U.sealed_by self.old) }
     {
-        let dropped = self.end_link(peer);
+        hand_nothing(&mut self.transfers, peer);
+        let dropped = self.close_link(peer);
         self.backend.drop_frames(peer, dropped, fault);
         address_of(&self.addresses, peer)
     }

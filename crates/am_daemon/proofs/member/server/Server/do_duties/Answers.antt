@@ -2,7 +2,7 @@ use Rattle.std.proofs.Common.{◌∙◌, ap}
 use Rattle.am_backend.specs.CommitStates.{disk_of}
 use Rattle.am_daemon.specs.Offers.{ForPeers, for_peers}
 use Rattle.am_daemon.specs.Sending.{Outlets}
-use Rattle.am_daemon.proofs.Acting.{counts_on, plans_on}
+use Rattle.am_daemon.proofs.Acting.{counts_on, counts_same}
 use Rattle.am_daemon.proofs.member.server.Server.do_duties.Goals as goal
 
 pub returns-clause-disk : goal.returns-clause-disk
@@ -13,7 +13,5 @@ returns-clause-peers g c =
     let was : ForPeers = for_peers g.U.Backend.outbound g.U.Backend.sealed_by c.args.self.now.state in
     let ticked : ForPeers = for_peers g.U.Backend.outbound g.U.Backend.sealed_by c.tick.new.self.state in
     let saved : ForPeers = for_peers g.U.Backend.outbound g.U.Backend.sealed_by c.save.new.self.state in
-    let pulled : ForPeers = for_peers g.U.Backend.outbound g.U.Backend.sealed_by c.pull.new.self.state in
     let is : ForPeers = for_peers g.U.Backend.outbound g.U.Backend.sealed_by c.look_around.new.self in
-    plans_on was saved pulled is c.pull.new.self.state.transfers.items (counts_on was ticked saved c.tick.ensures.peers c.save.ensures.peers) c.pull.ensures.peers c.pull.ensures.planned
-    c.look_around.ensures.peers
+    counts_on was ticked is c.tick.ensures.peers (counts_on ticked saved is c.save.ensures.peers (counts_same saved is (c.look_around.ensures.peers ∙ c.pull.ensures.peers)))

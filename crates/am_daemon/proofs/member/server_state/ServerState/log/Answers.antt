@@ -15,4 +15,4 @@ returns-clause-called g c = λ request asked. notice_replied request c.args.noti
 
 pub returns-clause-sent : goal.returns-clause-sent
 returns-clause-sent g c = notice_on c.next_moment-now.result c.args.notice _ _ _ _ c.log_notice-making.result c.log_notice-making.ensures
-    (record { logged = c.follow.ensures.followed; queued = c.follow.ensures.queued; put_by = refl; transfers = refl })
+    (record { logged = c.follow.ensures.followed; queued = c.follow.ensures.queued; put_by = refl })
