@@ -201,9 +201,15 @@ def is_between(found, before, after):
     return held and found[2] in (before[2], after[2]) and found[3] in (before[3], after[3])
 
 
+def is_at_most(found, wanted):
+    """Whether members hold no more than is wanted of each, and no more frames are on their way."""
+    return found[1] <= wanted[1] and all(it[0] <= most[0] and it[1] <= most[1] for it, most in zip(found[0], wanted[0]))
+
+
 def is_line_made_again(lines, wanted):
     """Whether a line of a schedule found no memory and was made once more: what stood in between is what stood before it, or a
-    part of what it leaves without a frame of it; and the rest is as wanted, but for frames that never flew."""
+    part of what it leaves without a frame of it; and the rest is as wanted, but for frames that never flew, and what these
+    would have brought."""
     told = [at for at, line in enumerate(lines) if line.startswith(REFUSED_LINE)]
     if len(told) != 1 or len(lines) != len(wanted) + 1 or not all(STANDING.fullmatch(line) for line in lines):
         return False
@@ -212,7 +218,10 @@ def is_line_made_again(lines, wanted):
     stood, newborn = found.pop(at), ([(0, 0, "least", "") for _ in goal[0][0]], 0)
     before = found[at - 1] if at > 0 else newborn
     is_part = all(is_between(*member) for member in zip(stood[0], before[0], goal[at][0]))
-    is_rest = all(row[0] == want[0] and row[1] <= want[1] for row, want in zip(found[at:], goal[at:]))
+    rest = list(zip(found[at:], goal[at:]))
+    never_flew = rest[0][0][1] < rest[0][1][1]
+    is_rest = rest[0][0][0] == rest[0][1][0] and all(row[0] == want[0] or never_flew for row, want in rest)
+    is_rest = is_rest and all(is_at_most(*both) for both in rest)
     return lines[:at] == wanted[:at] and is_part and stood[1] == before[1] and is_rest
 
 

@@ -16,7 +16,6 @@ mod opened;
 mod pull;
 mod push;
 mod replica;
-mod rows;
 mod show;
 mod source;
 

@@ -8,13 +8,12 @@ use crate::fault::SourceFault;
 use crate::host::CommandRuntime;
 use crate::losses::{HasLosses, watch_for};
 use crate::replica::ToldRow;
-use crate::rows::take_within;
 use crate::source::Source;
 use am_diagnostics::Fault;
 use am_merge::Held;
 use am_options::{STANDARD_INPUT, SourceWord, StateName};
 use am_report::{LossReader, Losses};
-use am_snapshot::{SnapshotError, load_within};
+use am_snapshot::{SnapshotError, load_within, take_row_within};
 use am_store::{FileFault, LogFault, Logs, WholeFile};
 use am_version_order::Version;
 use am_wire::{Message, Unknown};
@@ -221,7 +220,7 @@ fn take_or_load<V: Version + Message, R: Read>(
             Ok(held) => Ok(held),
             Err(error) => Err(error),
         },
-        Keys::Repeated => match take_within(alloc, reading.unknown, row, reading.most) {
+        Keys::Repeated => match take_row_within(alloc, reading.unknown, row, reading.most) {
             Ok(held) => Ok(held),
             Err(fault) => Err(SnapshotError::from(fault)),
         },
