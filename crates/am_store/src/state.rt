@@ -1,6 +1,6 @@
 //! The files of a state, which belong to one process for as long as it lives.
 
-ghost use Rattle.std.specs.Prelude.{◌≡◌, [], false, is_some, IfErr, IfOk, IfSome, OnErr, OnOk};
+ghost use Rattle.std.specs.Prelude.{◌≡◌, [], false, is_some, length, IfErr, IfOk, IfSome, OnErr, OnOk};
 ghost use Rattle.am_snapshot.specs.Encodings.{row_encoding};
 ghost use Rattle.am_snapshot.specs.Saving.{FitsRow};
 ghost use Rattle.am_store.specs.Appending.{Appends, Commits, IfKept, IsBegunAnew, IsNotTrusted, log_of, rows_if_kept, trusted};
@@ -214,6 +214,7 @@ impl StateFile {
         ensures saved { OnOk result (IsSavedAnew (keeps_log self.new) (path_of self.old) (row_encoding V.seen held.now) (calls_of self.old) (calls_of self.new)) }
         // PROMISE: If a save stops, its logs are as they were; and if a log can't be begun anew after it, it is no longer trusted.
         ensures failed { IfErr result (FailsToSave (FitsRow V.seen most held.now) (row_encoding V.seen held.now) self.old self.new) }
+        ensures count { IfOk result (λ bytes. bytes ≡ length (row_encoding V.seen held.now)) }
         // PROMISE: So each save is an act of a history, behind what was done before, whether it is done or stops.
         ensures act { AreOf V.seen V.Key.cmp (path_of self.old) most (Save held.now) (calls_of self.old) (calls_of self.new) }
     {
@@ -235,6 +236,7 @@ impl StateFile {
     ) -> Result<u64, FileFault>
         ensures path { path_of self.new ≡ path_of self.old }
         ensures log { self.new.log ≡ self.old.log }
+        ensures count { IfOk result (λ bytes. bytes ≡ length (row_encoding V.seen held.now)) }
         ensures saved { OnOk result (IsSaved (path_of self.old) (row_encoding V.seen held.now) (calls_of self.old) (calls_of self.new)) }
         ensures stopped { IfErr result (IsStopped (FitsRow V.seen most held.now) (path_of self.old) (row_encoding V.seen held.now) (calls_of self.old) (calls_of self.new)) }
     {
@@ -279,6 +281,8 @@ impl StateFile {
         ensures parted { OnOk result (OfLog (MayPart (path_of self.old)) self.old self.new) }
         ensures stopped { OnErr result (OfLog (FailsToPart (path_of self.old)) self.old self.new) }
         ensures act { AreOf V.seen V.Key.cmp (path_of self.old) most Part (calls_of self.old) (calls_of self.new) }
+        ensures count { IfOk result (λ bytes. bytes ≡ length (row_encoding V.seen held.now)) }
+        ensures fits { OnOk result (FitsRow V.seen most held.now) }
     {
         let Some(bytes) = row_length_within(held, most) else {
             return Err(FileFault::Snapshot(SnapshotError::TooLarge));
